@@ -1,0 +1,7 @@
+pub mod Rows
+pub mod State
+pub mod Replies
+pub mod Changes
+pub mod Account
+pub mod Queries
+pub mod Children

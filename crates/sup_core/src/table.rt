@@ -1,0 +1,358 @@
+//! The rows of a supervisor, found by their numbers.
+//!
+//! Numbers only grow, so the order in which children were put in is that of their numbers. A child that is listed no
+//! more leaves its place empty, since the map gives no room back for a removed entry. Where all places are used, the
+//! listed children are taken out and put in again: that gives back the empty places, and needs no memory.
+ghost use Rattle.std.specs.Prelude.{true, false, ◌≡◌, ◌≤◌, ◌<◌, ◌+◌, ◌*◌, ◌^◌, ℕ, List, [], ◌∷◌, ◌++◌, IfOk, None, Some, map, length, nat_eq, is_some, slice_index_or};
+ghost use Rattle.std.specs.List.{list_any, cons_option, IsDistinct};
+ghost use Rattle.std.specs.Option.{option_copied, option_map, option_map_or};
+ghost use Rattle.std.specs.Map.{set_value};
+ghost use Rattle.sup_types.specs.Status.{is_running};
+ghost use Rattle.std.specs.Vec.{vec_len, vec_capacity};
+ghost use Rattle.indexmap.specs.IndexMap.{get, index_map_len, spare, IsUnique};
+ghost use Rattle.sup_core.specs.Rows.{has_number, runs_as, waits_as, row_at, argument_at, without, waiting_at};
+ghost use Rattle.sup_core.specs.Changes.{running};
+ghost use Rattle.sup_core.specs.Children.{Listed, listed, place_of, place_row, running_count, one_if, found, waits};
+
+use crate::child::Child;
+use indexmap::IndexMap;
+use std::alloc::{AllocError, Allocator};
+use std::hash::{BuildHasherDefault, FoldHasher};
+use std::marker::Model;
+use sup_types::{Row, Status, Text};
+
+type Places<A> = IndexMap<u64, Option<Child>, BuildHasherDefault<FoldHasher>, A>;
+
+/// The listed children, of whom there may be so many.
+#[derive(Drop)]
+pub(crate) struct Table<A: Allocator> {
+    places: Places<A>,
+    /// Empty but while the listed children are put in again.
+    scratch: Vec<Row, A>,
+    max: u64,
+    made: u64,
+    live: u64,
+    running: u64,
+}
+
+impl<A: Allocator> Model for Table<A> {
+    ghost use Rattle.std.specs.Prelude.{◌≡◌, ◌≤◌, ◌<◌, ◌+◌, ◌*◌, ℕ, [], None, length, nat_eq};
+    ghost use Rattle.std.specs.Vec.{vec_capacity};
+    ghost use Rattle.indexmap.specs.IndexMap.{get, index_map_len, spare, IsUnique};
+    ghost use Rattle.sup_core.specs.Children.{Listed, listed, running_count};
+
+    ghost Value = { Listed };
+
+    ghost view = { λ t. record { rows = listed t.places.entries; made = t.made; max = t.max } };
+
+    ghost invariant = { λ t. IsUnique nat_eq t.places
+        × ((number : ℕ) → t.made < number → get nat_eq t.places number ≡ None)
+        × (t.live ≡ length (listed t.places.entries)) × (t.live ≤ t.max)
+        × (t.running ≡ running_count (listed t.places.entries))
+        × (2 * t.max ≤ index_map_len t.places + spare t.places)
+        × (t.scratch.items ≡ []) × (t.max ≤ vec_capacity t.scratch) × (t.max ≤ 65536) };
+}
+
+impl<A: Allocator + Copy> Table<A> {
+    /// An empty table. It makes room for all rows.
+    pub(crate) fn new(alloc: A, max: u64) -> Result<Self, AllocError>
+        requires { max ≤ 65536 }
+        ensures { IfOk result (λ t. (t.rows ≡ []) × (t.made ≡ 0) × (t.max ≡ max)) }
+    {
+        let places = IndexMap::with_capacity(alloc, 2 * max as usize)?;
+        let scratch = Vec::with_capacity(alloc, max as usize)?;
+        Ok(Table {
+            places,
+            scratch,
+            max,
+            made: 0,
+            live: 0,
+            running: 0,
+        })
+    }
+
+    /// How many children were made.
+    pub(crate) fn made(&self) -> u64
+        ensures { result ≡ self.now.made }
+    {
+        self.made
+    }
+
+    /// How many rows there are.
+    pub(crate) fn len(&self) -> u64
+        ensures value { result ≡ length self.now.rows }
+        ensures within { length self.now.rows ≤ self.now.max }
+    {
+        self.live
+    }
+
+    /// How many of the rows run.
+    pub(crate) fn running_count(&self) -> u64
+        ensures { result ≡ running_count self.now.rows }
+    {
+        self.running
+    }
+
+    /// The row with this number.
+    pub(crate) fn row_at(&self, number: u64) -> Option<Row>
+        ensures { result ≡ row_at number self.now.rows }
+    {
+        match child_at(&self.places, number) {
+            Some(child) => Some(child.row(number)),
+            None => None,
+        }
+    }
+
+    pub(crate) fn has_number(&self, number: u64) -> bool
+        ensures { result ≡ list_any (has_number number) self.now.rows }
+    {
+        child_at(&self.places, number).is_some()
+    }
+
+    pub(crate) fn runs_as(&self, number: u64) -> bool
+        ensures value { result ≡ list_any (runs_as number) self.now.rows }
+        ensures listed { result ≡ true → list_any (has_number number) self.now.rows ≡ true }
+    {
+        self.any_runs(number)
+    }
+
+    fn any_runs(&self, number: u64) -> bool
+        ensures { result ≡ list_any (runs_as number) self.now.rows }
+    {
+        match child_at(&self.places, number) {
+            Some(child) => child.is_running(),
+            None => false,
+        }
+    }
+
+    pub(crate) fn waits_as(&self, number: u64) -> bool
+        ensures value { result ≡ list_any (waits_as number) self.now.rows }
+        ensures listed { result ≡ true → list_any (has_number number) self.now.rows ≡ true }
+    {
+        self.any_waits(number)
+    }
+
+    fn any_waits(&self, number: u64) -> bool
+        ensures { result ≡ list_any (waits_as number) self.now.rows }
+    {
+        match child_at(&self.places, number) {
+            Some(child) => !child.is_running(),
+            None => false,
+        }
+    }
+
+    /// The rows, by ascending numbers.
+    pub(crate) fn copied(&self, alloc: A) -> Result<Vec<Row, A>, AllocError>
+        ensures { IfOk result (λ copy. copy.items ≡ self.now.rows) }
+    {
+        let mut copy = Vec::with_capacity(alloc, self.live as usize)?;
+        copy_listed(&self.places, &mut copy);
+        Ok(copy)
+    }
+
+    /// Lists a child that runs, under the next number.
+    pub(crate) fn list(&mut self, arg: Text) -> u64
+        requires room { self.old.made + 1 < 2 ^ 64 }
+        requires fits { length self.old.rows < self.old.max }
+        ensures number { result ≡ self.old.made + 1 }
+        ensures next { self.new ≡ record self.old { rows = self.old.rows ++ running (self.old.made + 1) arg ∷ []; made = self.old.made + 1 } }
+    {
+        make_room(&mut self.places, &mut self.scratch, self.max as usize);
+        self.made += 1;
+        self.live += 1;
+        self.running += 1;
+        put_next(&mut self.places, self.made, arg);
+        self.made
+    }
+
+    /// Takes the row with this number out.
+    pub(crate) fn remove(&mut self, number: u64)
+        ensures next { self.new ≡ record self.old { rows = without number self.old.rows } }
+        ensures room { list_any (has_number number) self.old.rows ≡ true → length self.new.rows < self.old.max }
+    {
+        let Some(child) = take_child(&mut self.places, number) else {
+            return;
+        };
+        self.live -= 1;
+        self.running -= one_if(child.is_running());
+    }
+
+    /// The row with this number waits for another try.
+    pub(crate) fn wait(&mut self, number: u64)
+        ensures { self.new ≡ record self.old { rows = map (waiting_at number) self.old.rows } }
+    {
+        self.running -= one_if(let_wait(&mut self.places, number));
+    }
+
+    /// Takes all rows out.
+    pub(crate) fn clear(&mut self)
+        ensures { self.new ≡ record self.old { rows = [] } }
+    {
+        self.places.clear();
+        self.live = 0;
+        self.running = 0;
+    }
+}
+
+fn one_if(counts: bool) -> u64
+    ensures { result ≡ one_if counts }
+{
+    if counts { 1 } else { 0 }
+}
+
+/// Lists a child that runs, in the last place.
+fn put_next<A: Allocator>(places: &mut Places<A>, number: u64, arg: Text)
+    requires absent { get nat_eq places.old number ≡ None }
+    requires spare { 0 < spare places.old }
+    ensures rows { listed places.new.entries ≡ listed places.old.entries ++ running number arg ∷ [] }
+    ensures absent { (other : ℕ) → number < other → get nat_eq places.old other ≡ None → get nat_eq places.new other ≡ None }
+    ensures room { index_map_len places.old + spare places.old ≤ index_map_len places.new + spare places.new }
+    ensures unique { IsUnique nat_eq places.new }
+{
+    let child = Child {
+        status: Status::Running,
+        arg,
+    };
+    let _ = places.insert(number, Some(child));
+}
+
+fn child_at<A: Allocator>(places: &Places<A>, number: u64) -> Option<&Child>
+    ensures { option_copied result ≡ found (get nat_eq places.now number) }
+{
+    match places.get(&number) {
+        Some(place) => place.as_ref(),
+        None => None,
+    }
+}
+
+/// Empties the place of this number, and answers the child that was there.
+fn take_child<A: Allocator>(places: &mut Places<A>, number: u64) -> Option<Child>
+    ensures value { result ≡ found (get nat_eq places.old number) }
+    ensures entries { places.new.entries ≡ set_value (nat_eq number) places.old.entries None }
+    ensures absent { (other : ℕ) → get nat_eq places.old other ≡ None → get nat_eq places.new other ≡ None }
+    ensures len { index_map_len places.new ≡ index_map_len places.old }
+    ensures spare { spare places.new ≡ spare places.old }
+    ensures unique { IsUnique nat_eq places.new }
+{
+    match places.get_mut(&number) {
+        Some(place) => place.take(),
+        None => None,
+    }
+}
+
+/// Lets the child of this number wait for another try, and answers whether it ran.
+fn let_wait<A: Allocator>(places: &mut Places<A>, number: u64) -> bool
+    ensures value { result ≡ option_map_or (λ child. is_running child.status) (found (get nat_eq places.old number)) false }
+    ensures entries { places.new.entries ≡ set_value (nat_eq number) places.old.entries (option_map waits (found (get nat_eq places.old number))) }
+    ensures absent { (other : ℕ) → get nat_eq places.old other ≡ None → get nat_eq places.new other ≡ None }
+    ensures len { index_map_len places.new ≡ index_map_len places.old }
+    ensures spare { spare places.new ≡ spare places.old }
+    ensures unique { IsUnique nat_eq places.new }
+{
+    match places.get_mut(&number) {
+        Some(place) => place_waits(place),
+        None => false,
+    }
+}
+
+fn place_waits(place: &mut Option<Child>) -> bool
+    ensures value { result ≡ option_map_or (λ child. is_running child.status) place.old false }
+    ensures next { place.new ≡ option_map waits place.old }
+{
+    match place {
+        None => false,
+        Some(child) => {
+            let ran = child.is_running();
+            child.status = Status::Restarting;
+            ran
+        }
+    }
+}
+
+/// Adds the rows of the listed children to an empty list that has room for them.
+fn copy_listed<A: Allocator>(places: &Places<A>, copy: &mut Vec<Row, A>)
+    requires empty { copy.old.items ≡ [] }
+    requires room { length (listed places.now.entries) ≤ vec_capacity copy.old }
+    ensures items { copy.new.items ≡ listed places.now.entries }
+    ensures capacity { vec_capacity copy.old ≤ vec_capacity copy.new }
+{
+    for index in 0..places.len() {
+        push_listed(copy, places, index);
+    }
+}
+
+/// Adds the row at this index, if a child is listed there.
+fn push_listed<A: Allocator>(copy: &mut Vec<Row, A>, places: &Places<A>, index: usize)
+    requires { vec_len copy.old + length (cons_option (place_row (slice_index_or places.now.entries index (0, None))) []) ≤ vec_capacity copy.old }
+    ensures items { copy.new.items ≡ copy.old.items ++ cons_option (place_row (slice_index_or places.now.entries index (0, None))) [] }
+    ensures capacity { vec_capacity copy.old ≤ vec_capacity copy.new }
+{
+    match places.get_index(index) {
+        Some((number, child)) => push_row(copy, *number, child),
+        None => {}
+    }
+}
+
+fn push_row<A: Allocator>(copy: &mut Vec<Row, A>, number: u64, child: &Option<Child>)
+    requires { vec_len copy.old + length (cons_option (place_row (number, child.now)) []) ≤ vec_capacity copy.old }
+    ensures items { copy.new.items ≡ copy.old.items ++ cons_option (place_row (number, child.now)) [] }
+    ensures capacity { vec_capacity copy.old ≤ vec_capacity copy.new }
+{
+    if let Some(child) = child {
+        let _ = copy.push(child.row(number));
+    }
+}
+
+/// Makes room for one more place.
+fn make_room<A: Allocator>(places: &mut Places<A>, scratch: &mut Vec<Row, A>, max: usize)
+    requires unique { IsUnique nat_eq places.old }
+    requires fits { length (listed places.old.entries) < max }
+    requires places { 2 * max ≤ index_map_len places.old + spare places.old }
+    requires empty { scratch.old.items ≡ [] }
+    requires scratch { max ≤ vec_capacity scratch.old }
+    requires small { max ≤ 65536 }
+    ensures rows { listed places.new.entries ≡ listed places.old.entries }
+    ensures absent { (number : ℕ) → get nat_eq places.old number ≡ None → get nat_eq places.new number ≡ None }
+    ensures unique { IsUnique nat_eq places.new }
+    ensures places { 2 * max ≤ index_map_len places.new + spare places.new }
+    ensures spare { 0 < spare places.new }
+    ensures empty { scratch.new.items ≡ [] }
+    ensures scratch { vec_capacity scratch.old ≤ vec_capacity scratch.new }
+{
+    if places.len() >= 2 * max {
+        compact(places, scratch);
+    }
+}
+
+/// Gives back the empty places.
+fn compact<A: Allocator>(places: &mut Places<A>, scratch: &mut Vec<Row, A>)
+    requires unique { IsUnique nat_eq places.old }
+    requires places { length (listed places.old.entries) ≤ index_map_len places.old + spare places.old }
+    requires empty { scratch.old.items ≡ [] }
+    requires scratch { length (listed places.old.entries) ≤ vec_capacity scratch.old }
+    ensures places { places.new.entries ≡ map place_of (listed places.old.entries) }
+    ensures room { index_map_len places.old + spare places.old ≤ index_map_len places.new + spare places.new }
+    ensures unique { IsUnique nat_eq places.new }
+    ensures empty { scratch.new.items ≡ [] }
+    ensures capacity { vec_capacity scratch.old ≤ vec_capacity scratch.new }
+{
+    copy_listed(places, scratch);
+    places.clear();
+    put_in(places, scratch);
+    scratch.clear();
+}
+
+/// Puts the children of these rows into an empty map that has room for them.
+fn put_in<A: Allocator>(places: &mut Places<A>, rows: &[Row])
+    requires empty { places.old.entries ≡ [] }
+    requires room { length rows.now ≤ spare places.old }
+    requires unique { IsUnique nat_eq places.old }
+    requires distinct { IsDistinct nat_eq (map (λ row. row.number) rows.now) }
+    ensures places { places.new.entries ≡ map place_of rows.now }
+    ensures room { spare places.old ≤ length rows.now + spare places.new }
+    ensures unique { IsUnique nat_eq places.new }
+{
+    for row in rows {
+        let _ = places.insert(row.number, Some(Child::of_row(row)));
+    }
+}

@@ -1,0 +1,119 @@
+//! How many restarts are borne within a period.
+#![tactic(auto)]
+
+ghost use Rattle.std.specs.Prelude.{◌≡◌, ◌≤◌, ℕ, ◌+◌, List, [], ◌∷◌, ◌++◌, IfOk, max, length, slice_get, ◌==◌, ◌&&◌};
+ghost use Rattle.circular_buffer.specs.Buffer.{buffer};
+ghost use Rattle.sup_window.specs.Attempts.{HasSeen, is_borne, with_attempt, still_counts, greatest, keep_last, front_counts};
+
+#[cfg(test)]
+mod tests;
+
+use circular_buffer::HeapCircularBuffer;
+use std::alloc::{Allocator, Global};
+use std::marker::Model;
+use sup_types::OutOfMemory;
+
+/// The moments of the last attempts to restart, one more of them than are borne within a period.
+#[derive(Drop)]
+pub struct Window<A: Allocator = Global> {
+    intensity: u64,
+    period: u64,
+    latest: u64,
+    moments: HeapCircularBuffer<u64, A>,
+}
+
+impl<A: Allocator> Model for Window<A> {
+    ghost use Rattle.std.specs.Prelude.{◌≡◌, ◌≤◌, ◌+◌};
+    ghost use Rattle.std.specs.List.Sorted.{IsNonDecreasing};
+    ghost use Rattle.sup_window.specs.Attempts.{Recent, greatest};
+
+    ghost Value = { Recent };
+
+    ghost view = { λ w. record { intensity = w.intensity; period = w.period; latest = w.latest; moments = w.moments.items } };
+
+    ghost invariant = { λ w. (w.intensity ≤ 1000) × (w.moments.capacity ≡ w.intensity + 1) × IsNonDecreasing w.moments.items × (greatest w.moments.items ≤ w.latest) };
+}
+
+fn still_counts(period: u64, at: u64, made_at: u64) -> bool
+    ensures { result ≡ still_counts period at made_at }
+{
+    at.saturating_sub(made_at) <= period
+}
+
+impl<A: Allocator> Window<A> {
+    /// A window that has seen no attempt. The intensity is at most 1000.
+    pub fn new(alloc: A, intensity: u64, period: u64) -> Result<Self, OutOfMemory>
+        requires { intensity ≤ 1000 }
+        ensures { IfOk result (λ w. HasSeen w [] × (w.intensity ≡ intensity) × (w.period ≡ period)) }
+    {
+        let moments = HeapCircularBuffer::with_capacity(alloc, intensity as usize + 1)?;
+        Ok(Window {
+            intensity,
+            period,
+            latest: 0,
+            moments,
+        })
+    }
+
+    /// Whether one more attempt at this moment is borne. A moment lower than that of an earlier attempt
+    /// is taken as the highest so far.
+    pub fn would_allow(&self, moment: u64) -> bool
+        ensures value { result ≡ is_borne self.now.intensity self.now.period self.now.moments (max self.now.latest moment) }
+        ensures seen { (attempts : List ℕ) → HasSeen self.now attempts
+            → result ≡ is_borne self.now.intensity self.now.period attempts (max (greatest attempts) moment) }
+    {
+        self.decides(moment)
+    }
+
+    fn decides(&self, moment: u64) -> bool
+        ensures { result ≡ is_borne self.now.intensity self.now.period self.now.moments (max self.now.latest moment) }
+    {
+        let at = self.latest.max(moment);
+        let period = self.period;
+        let attempts_within = self
+            .moments
+            .iter()
+            .filter(|made_at| still_counts(period, at, **made_at))
+            .count();
+        (attempts_within as u64) < self.intensity
+    }
+
+    /// Notes an attempt, and answers whether it is borne. A moment lower than that of an earlier attempt
+    /// is taken as the highest so far.
+    pub fn attempt(&mut self, moment: u64) -> bool
+        ensures value { result ≡ is_borne self.old.intensity self.old.period self.old.moments (max self.old.latest moment) }
+        ensures next { self.new ≡ with_attempt self.old moment }
+        ensures seen { (attempts : List ℕ) → HasSeen self.old attempts
+            → (result ≡ is_borne self.old.intensity self.old.period attempts (max (greatest attempts) moment))
+            × HasSeen self.new (attempts ++ max (greatest attempts) moment ∷ []) }
+    {
+        self.note(moment)
+    }
+
+    // Once it is noted, an attempt is borne where the ring is not full, or its oldest moment counts no more.
+    fn note(&mut self, moment: u64) -> bool
+        ensures value { result ≡ is_borne self.old.intensity self.old.period self.old.moments (max self.old.latest moment) }
+        ensures next { self.new ≡ with_attempt self.old moment }
+    {
+        self.latest = self.latest.max(moment);
+        !push_moment(&mut self.moments, self.period, self.latest)
+    }
+}
+
+/// Adds a moment, and answers whether the ring is then full of moments that still count.
+fn push_moment<A: Allocator>(moments: &mut HeapCircularBuffer<u64, A>, period: u64, at: u64) -> bool
+    ensures items { moments.new ≡ buffer (keep_last moments.old.capacity (moments.old.items ++ at ∷ [])) moments.old.capacity }
+    ensures full { result ≡ ((length moments.new.items == moments.new.capacity) && front_counts period at (slice_get moments.new.items 0)) }
+{
+    let _ = moments.push_back(at);
+    moments.is_full() && front_counts(moments, period, at)
+}
+
+fn front_counts<A: Allocator>(moments: &HeapCircularBuffer<u64, A>, period: u64, at: u64) -> bool
+    ensures { result ≡ front_counts period at (slice_get moments.now.items 0) }
+{
+    match moments.front() {
+        None => false,
+        Some(oldest) => still_counts(period, at, *oldest),
+    }
+}
