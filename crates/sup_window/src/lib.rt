@@ -1,4 +1,17 @@
-//! How many restarts are borne within a period.
+//! How many restarts a supervisor bears within a period (OTP's manual of `supervisor`, "Supervision principles", maximum
+//! restart intensity).
+//!
+//! What the layer above may rely on: an attempt is borne exactly where the attempts that count at its moment, itself
+//! included, are at most the intensity. An attempt made at moment `m` counts at moment `t` where `t <= m + period`.
+//! The window decides as counting over all attempts ever made would, and keeps only the last of them, one more than
+//! are borne. After it is made it takes no memory.
+//!
+//! ```text
+//! let mut window = Window::new(alloc, 1, 5)?;
+//! assert!(window.attempt(10));
+//! assert!(!window.would_allow(15));
+//! assert!(window.would_allow(16));
+//! ```
 #![tactic(auto)]
 
 ghost use Rattle.std.specs.Prelude.{◌≡◌, ◌≤◌, ℕ, ◌+◌, List, [], ◌∷◌, ◌++◌, IfOk, max, length, slice_get, ◌==◌, ◌&&◌};
@@ -34,6 +47,7 @@ impl<A: Allocator> Model for Window<A> {
     ghost invariant = { λ w. (w.intensity ≤ 1000) × (w.moments.capacity ≡ w.intensity + 1) × IsNonDecreasing w.moments.items × (greatest w.moments.items ≤ w.latest) };
 }
 
+/// Whether an attempt made at one moment still counts at another. Nothing wraps: a moment may be near the greatest number.
 fn still_counts(period: u64, at: u64, made_at: u64) -> bool
     ensures { result ≡ still_counts period at made_at }
 {
@@ -41,7 +55,8 @@ fn still_counts(period: u64, at: u64, made_at: u64) -> bool
 }
 
 impl<A: Allocator> Window<A> {
-    /// A window that has seen no attempt. The intensity is at most 1000.
+    /// A window that has seen no attempt, and bears this many within this many seconds. The intensity is at most 1000.
+    /// It makes room for all that it will keep, and is refused only for want of memory.
     pub fn new(alloc: A, intensity: u64, period: u64) -> Result<Self, OutOfMemory>
         requires { intensity ≤ 1000 }
         ensures { IfOk result (λ w. HasSeen w [] × (w.intensity ≡ intensity) × (w.period ≡ period)) }
@@ -55,8 +70,8 @@ impl<A: Allocator> Window<A> {
         })
     }
 
-    /// Whether one more attempt at this moment is borne. A moment lower than that of an earlier attempt
-    /// is taken as the highest so far.
+    /// Whether one more attempt at this moment is borne. A moment lower than that of an earlier attempt is taken as the
+    /// highest so far. Nothing changes.
     pub fn would_allow(&self, moment: u64) -> bool
         ensures value { result ≡ is_borne self.now.intensity self.now.period self.now.moments (max self.now.latest moment) }
         ensures seen { (attempts : List ℕ) → HasSeen self.now attempts
@@ -78,8 +93,8 @@ impl<A: Allocator> Window<A> {
         (attempts_within as u64) < self.intensity
     }
 
-    /// Notes an attempt, and answers whether it is borne. A moment lower than that of an earlier attempt
-    /// is taken as the highest so far.
+    /// Notes an attempt, and answers whether it is borne; one that is not counts as well. A moment lower than that of an
+    /// earlier attempt is taken as the highest so far.
     pub fn attempt(&mut self, moment: u64) -> bool
         ensures value { result ≡ is_borne self.old.intensity self.old.period self.old.moments (max self.old.latest moment) }
         ensures next { self.new ≡ with_attempt self.old moment }
