@@ -1,13 +1,13 @@
 //! A supervisor of one thread, whose children are all instances of one template.
 #![tactic(auto)]
 
-ghost use Rattle.std.specs.Prelude.{◌≡◌, ◌==◌, ◌<◌, ◌≤◌, ℕ, ◌+◌, List, [], ◌∷◌, ◌++◌, IsTrue, IfOk, false, true, map, length};
+ghost use Rattle.std.specs.Prelude.{◌≡◌, ◌==◌, ◌<◌, ◌≤◌, ℕ, ◌+◌, List, [], ◌∷◌, ◌++◌, IsTrue, IfOk, MatchOption, false, true, length, if◌then◌else◌};
 ghost use Rattle.std.specs.List.{list_any};
 ghost use Rattle.sup_window.specs.Attempts.{keep_last};
 ghost use Rattle.sup_types.specs.declared.history.Entry.{Entry};
 ghost use Rattle.sup_types.specs.declared.history.Operation.{Operation};
 ghost use Rattle.sup_types.specs.declared.history.Answer.{Answer};
-ghost use Rattle.sup_core.specs.Rows.{has_number, row_at, argument_at, without, waiting_at, counts_of};
+ghost use Rattle.sup_core.specs.Rows.{has_number, runs_as, stands_as, row_at, counts_of};
 ghost use Rattle.sup_core.specs.State.{State, arrived, seen_of, MatchSeen};
 ghost use Rattle.sup_core.specs.Replies.{reply_to, reply_up, let_go, shuts_down, attempted, bears, is_full, asked_argument, asked_again};
 ghost use Rattle.sup_core.specs.Changes.{running, changed, next_state};
@@ -188,29 +188,24 @@ impl<A: Allocator + Copy> Sup<A> {
                 Some(arg.copied())
             }
             Operation::Exit(number, reason) => {
-                if !self.table.runs_as(*number) || !self.template.restart.restarts_after(reason) {
+                if !self.template.restart.restarts_after(reason) {
                     return None;
                 }
-                self.asked_again(*number, moment)
+                self.asked_again(Status::Running, *number, moment)
             }
-            Operation::Retry(number) => {
-                if !self.table.waits_as(*number) {
-                    return None;
-                }
-                self.asked_again(*number, moment)
-            }
+            Operation::Retry(number) => self.asked_again(Status::Restarting, *number, moment),
             Operation::Terminate(_) | Operation::Stop => None,
         }
     }
 
-    fn asked_again(&self, number: u64, moment: u64) -> Option<Text>
-        requires { list_any (has_number number) self.now.rows ≡ true }
-        ensures { result ≡ asked_again (arrived self.now moment) number }
+    /// The argument of the listed child with this number and status, if one more attempt is borne.
+    fn asked_again(&self, status: Status, number: u64, moment: u64) -> Option<Text>
+        ensures { result ≡ if list_any (stands_as status number) self.now.rows then asked_again (arrived self.now moment) number else None }
     {
         if !self.window.would_allow(self.latest.max(moment)) {
             return None;
         }
-        Some(self.argument(number))
+        self.table.argument_as(status, number)
     }
 
     /// Enters the next entry of the history, and answers the reply to it.
@@ -284,22 +279,24 @@ impl<A: Allocator + Copy> Sup<A> {
         ensures reply { result ≡ reply_up self.old (Operation.Exit number reason.now) answer }
         ensures next { self.new ≡ changed self.old (Operation.Exit number reason.now) result }
     {
-        if !self.table.runs_as(number) {
-            return Reply::Stray(number);
-        }
         if !self.template.restart.restarts_after(reason) {
             return self.let_go(number);
         }
-        self.attempt(number, answer)
+        match self.restart(Status::Running, number, answer) {
+            Some(reply) => reply,
+            None => Reply::Stray(number),
+        }
     }
 
-    /// A listed child ended, and is not started again.
+    /// A child ended, and is not started again.
     fn let_go(&mut self, number: u64) -> Reply
         requires { self.old.down ≡ false }
-        ensures reply { result ≡ let_go self.old number }
+        ensures reply { result ≡ if list_any (runs_as number) self.old.rows then let_go self.old number else Reply.Stray number }
         ensures next { (operation : Operation) → self.new ≡ changed self.old operation result }
     {
-        self.remove(number);
+        if self.table.take_as(Status::Running, number).is_none() {
+            return Reply::Stray(number);
+        }
         if !self.shuts_down() {
             return Reply::Removed(number);
         }
@@ -325,10 +322,10 @@ impl<A: Allocator + Copy> Sup<A> {
         ensures reply { result ≡ reply_up self.old (Operation.Retry number) answer }
         ensures next { self.new ≡ changed self.old (Operation.Retry number) result }
     {
-        if !self.table.waits_as(number) {
-            return Reply::NotFound;
+        match self.restart(Status::Restarting, number, answer) {
+            Some(reply) => reply,
+            None => Reply::NotFound,
         }
-        self.attempt(number, answer)
     }
 
     fn terminate(&mut self, number: u64, _answer: Answer) -> Reply
@@ -336,11 +333,11 @@ impl<A: Allocator + Copy> Sup<A> {
         ensures reply { result ≡ reply_up self.old (Operation.Terminate number) _answer }
         ensures next { self.new ≡ changed self.old (Operation.Terminate number) result }
     {
-        if !self.table.has_number(number) {
-            return Reply::NotFound;
+        if self.table.take(number) {
+            Reply::Ended
+        } else {
+            Reply::NotFound
         }
-        self.remove(number);
-        Reply::Ended
     }
 
     fn stop(&mut self, _answer: Answer) -> Reply
@@ -352,33 +349,77 @@ impl<A: Allocator + Copy> Sup<A> {
         Reply::Stopped
     }
 
-    /// An attempt to restart a listed child.
-    fn attempt(&mut self, number: u64, answer: Answer) -> Reply
+    /// An attempt to restart the listed child with this number and status, if there is one.
+    fn restart(&mut self, status: Status, number: u64, answer: Answer) -> Option<Reply>
         requires up { self.old.down ≡ false }
         requires room { self.old.made < self.old.steps }
-        requires listed { list_any (has_number number) self.old.rows ≡ true }
-        ensures reply { result ≡ attempted self.old number answer }
-        ensures next { (operation : Operation) → self.new ≡ changed self.old operation result }
+        ensures { MatchOption result
+            ((list_any (stands_as status number) self.old.rows ≡ false) × (self.new ≡ self.old))
+            (λ reply. (list_any (stands_as status number) self.old.rows ≡ true) × (reply ≡ attempted self.old number answer)
+            × ((operation : Operation) → self.new ≡ changed self.old operation reply)) }
     {
-        if !self.note_attempt() {
-            self.end_all();
-            return Reply::GaveUp;
-        }
         match answer {
-            Answer::Running => {
-                let arg = self.argument(number);
-                self.remove(number);
-                Reply::Restarted(number, self.list(arg))
-            }
-            Answer::Ignore => {
-                self.remove(number);
-                Reply::Ignored(number)
-            }
-            Answer::Failed(code) => {
-                self.wait(number);
-                Reply::Restarting(number, code)
-            }
+            Answer::Running => self.replace(status, number),
+            Answer::Ignore => self.drop_out(status, number),
+            Answer::Failed(code) => self.keep_waiting(status, number, code),
         }
+    }
+
+    /// The restart was answered `Running`.
+    fn replace(&mut self, status: Status, number: u64) -> Option<Reply>
+        requires up { self.old.down ≡ false }
+        requires room { self.old.made < self.old.steps }
+        ensures { MatchOption result
+            ((list_any (stands_as status number) self.old.rows ≡ false) × (self.new ≡ self.old))
+            (λ reply. (list_any (stands_as status number) self.old.rows ≡ true) × (reply ≡ attempted self.old number Answer.Running)
+            × ((operation : Operation) → self.new ≡ changed self.old operation reply)) }
+    {
+        let arg = self.table.take_as(status, number)?;
+        if !self.note_attempt() {
+            return Some(self.give_up());
+        }
+        Some(Reply::Restarted(number, self.table.list(arg)))
+    }
+
+    /// The restart was answered `Ignore`.
+    fn drop_out(&mut self, status: Status, number: u64) -> Option<Reply>
+        requires { self.old.down ≡ false }
+        ensures { MatchOption result
+            ((list_any (stands_as status number) self.old.rows ≡ false) × (self.new ≡ self.old))
+            (λ reply. (list_any (stands_as status number) self.old.rows ≡ true) × (reply ≡ attempted self.old number Answer.Ignore)
+            × ((operation : Operation) → self.new ≡ changed self.old operation reply)) }
+    {
+        self.table.take_as(status, number)?;
+        if !self.note_attempt() {
+            return Some(self.give_up());
+        }
+        Some(Reply::Ignored(number))
+    }
+
+    /// The restart failed with this code.
+    fn keep_waiting(&mut self, status: Status, number: u64, code: u32) -> Option<Reply>
+        requires { self.old.down ≡ false }
+        ensures { MatchOption result
+            ((list_any (stands_as status number) self.old.rows ≡ false) × (self.new ≡ self.old))
+            (λ reply. (list_any (stands_as status number) self.old.rows ≡ true) × (reply ≡ attempted self.old number (Answer.Failed code))
+            × ((operation : Operation) → self.new ≡ changed self.old operation reply)) }
+    {
+        if !self.table.wait_as(status, number) {
+            return None;
+        }
+        if !self.note_attempt() {
+            return Some(self.give_up());
+        }
+        Some(Reply::Restarting(number, code))
+    }
+
+    /// There were more attempts than are borne.
+    fn give_up(&mut self) -> Reply
+        ensures reply { result ≡ Reply.GaveUp }
+        ensures next { self.new ≡ record self.old { rows = []; down = true } }
+    {
+        self.end_all();
+        Reply::GaveUp
     }
 
     /// Notes an attempt at the latest moment, and answers whether it is borne.
@@ -399,35 +440,11 @@ impl<A: Allocator + Copy> Sup<A> {
         self.table.list(arg)
     }
 
-    fn remove(&mut self, number: u64)
-        ensures room { list_any (has_number number) self.old.rows ≡ true → length self.new.rows < self.new.template.max }
-        ensures next { self.new ≡ record self.old { rows = without number self.old.rows } }
-    {
-        self.table.remove(number);
-    }
-
-    fn wait(&mut self, number: u64)
-        ensures { self.new ≡ record self.old { rows = map (waiting_at number) self.old.rows } }
-    {
-        self.table.wait(number);
-    }
-
     fn end_all(&mut self)
         ensures { self.new ≡ record self.old { rows = []; down = true } }
     {
         self.table.clear();
         self.down = true;
-    }
-
-    /// The argument of a listed child.
-    fn argument(&self, number: u64) -> Text
-        requires { list_any (has_number number) self.now.rows ≡ true }
-        ensures { result ≡ argument_at number self.now.rows }
-    {
-        match self.table.row_at(number) {
-            Some(row) => row.arg,
-            None => unreachable!(),
-        }
     }
 
     fn is_full(&self) -> bool

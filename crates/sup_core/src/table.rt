@@ -3,16 +3,16 @@
 //! Numbers only grow, so the order in which children were put in is that of their numbers. A child that is listed no
 //! more leaves its place empty, since the map gives no room back for a removed entry. Where all places are used, the
 //! listed children are taken out and put in again: that gives back the empty places, and needs no memory.
-ghost use Rattle.std.specs.Prelude.{true, false, ◌≡◌, ◌≤◌, ◌<◌, ◌+◌, ◌*◌, ◌^◌, ℕ, List, [], ◌∷◌, ◌++◌, IfOk, None, Some, map, length, nat_eq, is_some, slice_index_or};
+ghost use Rattle.std.specs.Prelude.{true, false, ◌≡◌, ◌≤◌, ◌<◌, ◌+◌, ◌*◌, ◌^◌, ℕ, List, [], ◌∷◌, ◌++◌, IfOk, None, Some, map, length, nat_eq, is_some, slice_index_or, MatchBool, MatchOption, IsSome, if◌then◌else◌};
 ghost use Rattle.std.specs.List.{list_any, cons_option, IsDistinct};
 ghost use Rattle.std.specs.Option.{option_copied, option_map, option_map_or};
 ghost use Rattle.std.specs.Map.{set_value};
 ghost use Rattle.sup_types.specs.Status.{is_running};
 ghost use Rattle.std.specs.Vec.{vec_len, vec_capacity};
 ghost use Rattle.indexmap.specs.IndexMap.{get, index_map_len, spare, IsUnique};
-ghost use Rattle.sup_core.specs.Rows.{has_number, runs_as, waits_as, row_at, argument_at, without, waiting_at};
+ghost use Rattle.sup_core.specs.Rows.{has_number, stands_as, row_at, argument_at, without, waiting_at};
 ghost use Rattle.sup_core.specs.Changes.{running};
-ghost use Rattle.sup_core.specs.Children.{Listed, listed, place_of, place_row, running_count, one_if, found, waits};
+ghost use Rattle.sup_core.specs.Children.{Listed, listed, place_of, place_row, running_count, one_if, found, taken_of, left_of, waiting_of};
 
 use crate::child::Child;
 use indexmap::IndexMap;
@@ -103,41 +103,13 @@ impl<A: Allocator + Copy> Table<A> {
         }
     }
 
-    pub(crate) fn has_number(&self, number: u64) -> bool
-        ensures { result ≡ list_any (has_number number) self.now.rows }
-    {
-        child_at(&self.places, number).is_some()
-    }
-
-    pub(crate) fn runs_as(&self, number: u64) -> bool
-        ensures value { result ≡ list_any (runs_as number) self.now.rows }
-        ensures listed { result ≡ true → list_any (has_number number) self.now.rows ≡ true }
-    {
-        self.any_runs(number)
-    }
-
-    fn any_runs(&self, number: u64) -> bool
-        ensures { result ≡ list_any (runs_as number) self.now.rows }
+    /// The argument of the row with this number, if it has this status.
+    pub(crate) fn argument_as(&self, status: Status, number: u64) -> Option<Text>
+        ensures { result ≡ if list_any (stands_as status number) self.now.rows then Some (argument_at number self.now.rows) else None }
     {
         match child_at(&self.places, number) {
-            Some(child) => child.is_running(),
-            None => false,
-        }
-    }
-
-    pub(crate) fn waits_as(&self, number: u64) -> bool
-        ensures value { result ≡ list_any (waits_as number) self.now.rows }
-        ensures listed { result ≡ true → list_any (has_number number) self.now.rows ≡ true }
-    {
-        self.any_waits(number)
-    }
-
-    fn any_waits(&self, number: u64) -> bool
-        ensures { result ≡ list_any (waits_as number) self.now.rows }
-    {
-        match child_at(&self.places, number) {
-            Some(child) => !child.is_running(),
-            None => false,
+            Some(child) => child.argument_as(status),
+            None => None,
         }
     }
 
@@ -165,23 +137,45 @@ impl<A: Allocator + Copy> Table<A> {
         self.made
     }
 
-    /// Takes the row with this number out.
-    pub(crate) fn remove(&mut self, number: u64)
-        ensures next { self.new ≡ record self.old { rows = without number self.old.rows } }
-        ensures room { list_any (has_number number) self.old.rows ≡ true → length self.new.rows < self.old.max }
+    /// Takes the row with this number out, and answers whether there was one.
+    pub(crate) fn take(&mut self, number: u64) -> bool
+        ensures { MatchBool result
+            ((list_any (has_number number) self.old.rows ≡ true) × (self.new ≡ record self.old { rows = without number self.old.rows }))
+            ((list_any (has_number number) self.old.rows ≡ false) × (self.new ≡ self.old)) }
     {
         let Some(child) = take_child(&mut self.places, number) else {
-            return;
+            return false;
         };
         self.live -= 1;
         self.running -= one_if(child.is_running());
+        true
     }
 
-    /// The row with this number waits for another try.
-    pub(crate) fn wait(&mut self, number: u64)
-        ensures { self.new ≡ record self.old { rows = map (waiting_at number) self.old.rows } }
+    /// Takes the row with this number out, if it has this status, and answers its argument.
+    pub(crate) fn take_as(&mut self, status: Status, number: u64) -> Option<Text>
+        ensures taken { MatchOption result
+            ((list_any (stands_as status number) self.old.rows ≡ false) × (self.new ≡ self.old))
+            (λ arg. (list_any (stands_as status number) self.old.rows ≡ true) × (arg ≡ argument_at number self.old.rows)
+            × (self.new ≡ record self.old { rows = without number self.old.rows })) }
+        ensures room { IsSome result → length self.new.rows < self.old.max }
     {
-        self.running -= one_if(let_wait(&mut self.places, number));
+        let child = take_child_as(&mut self.places, number, status)?;
+        self.live -= 1;
+        self.running -= one_if(child.is_running());
+        Some(child.arg)
+    }
+
+    /// The row with this number waits for another try, if it has this status. The answer is whether it has.
+    pub(crate) fn wait_as(&mut self, status: Status, number: u64) -> bool
+        ensures { MatchBool result
+            ((list_any (stands_as status number) self.old.rows ≡ true) × (self.new ≡ record self.old { rows = map (waiting_at number) self.old.rows }))
+            ((list_any (stands_as status number) self.old.rows ≡ false) × (self.new ≡ self.old)) }
+    {
+        if !let_wait(&mut self.places, number, status) {
+            return false;
+        }
+        self.running -= one_if(status.is_running());
+        true
     }
 
     /// Takes all rows out.
@@ -240,32 +234,56 @@ fn take_child<A: Allocator>(places: &mut Places<A>, number: u64) -> Option<Child
     }
 }
 
-/// Lets the child of this number wait for another try, and answers whether it ran.
-fn let_wait<A: Allocator>(places: &mut Places<A>, number: u64) -> bool
-    ensures value { result ≡ option_map_or (λ child. is_running child.status) (found (get nat_eq places.old number)) false }
-    ensures entries { places.new.entries ≡ set_value (nat_eq number) places.old.entries (option_map waits (found (get nat_eq places.old number))) }
+/// Empties the place of this number, if a child of this status is there, and answers that child.
+fn take_child_as<A: Allocator>(places: &mut Places<A>, number: u64, status: Status) -> Option<Child>
+    ensures value { result ≡ taken_of status (found (get nat_eq places.old number)) }
+    ensures entries { places.new.entries ≡ set_value (nat_eq number) places.old.entries (left_of status (found (get nat_eq places.old number))) }
     ensures absent { (other : ℕ) → get nat_eq places.old other ≡ None → get nat_eq places.new other ≡ None }
     ensures len { index_map_len places.new ≡ index_map_len places.old }
     ensures spare { spare places.new ≡ spare places.old }
     ensures unique { IsUnique nat_eq places.new }
 {
     match places.get_mut(&number) {
-        Some(place) => place_waits(place),
+        Some(place) => place_gives(place, status),
+        None => None,
+    }
+}
+
+fn place_gives(place: &mut Option<Child>, status: Status) -> Option<Child>
+    ensures value { result ≡ taken_of status place.old }
+    ensures next { place.new ≡ left_of status place.old }
+{
+    match place {
+        Some(child) if child.has_status(status) => place.take(),
+        _ => None,
+    }
+}
+
+/// Lets the child of this number wait for another try, if it has this status, and answers whether it has.
+fn let_wait<A: Allocator>(places: &mut Places<A>, number: u64, status: Status) -> bool
+    ensures value { result ≡ is_some (taken_of status (found (get nat_eq places.old number))) }
+    ensures entries { places.new.entries ≡ set_value (nat_eq number) places.old.entries (waiting_of status (found (get nat_eq places.old number))) }
+    ensures absent { (other : ℕ) → get nat_eq places.old other ≡ None → get nat_eq places.new other ≡ None }
+    ensures len { index_map_len places.new ≡ index_map_len places.old }
+    ensures spare { spare places.new ≡ spare places.old }
+    ensures unique { IsUnique nat_eq places.new }
+{
+    match places.get_mut(&number) {
+        Some(place) => place_waits(place, status),
         None => false,
     }
 }
 
-fn place_waits(place: &mut Option<Child>) -> bool
-    ensures value { result ≡ option_map_or (λ child. is_running child.status) place.old false }
-    ensures next { place.new ≡ option_map waits place.old }
+fn place_waits(place: &mut Option<Child>, status: Status) -> bool
+    ensures value { result ≡ is_some (taken_of status place.old) }
+    ensures next { place.new ≡ waiting_of status place.old }
 {
     match place {
-        None => false,
-        Some(child) => {
-            let ran = child.is_running();
+        Some(child) if child.has_status(status) => {
             child.status = Status::Restarting;
-            ran
+            true
         }
+        _ => false,
     }
 }
 
