@@ -1,0 +1,12 @@
+pub mod Numbers
+pub mod Cuts
+pub mod Commands
+pub mod Gaps
+pub mod Written
+pub mod Sending
+pub mod LineCuts
+pub mod Children
+pub mod Running
+pub mod Pieces
+pub mod WholeRuns
+pub mod OneCommand

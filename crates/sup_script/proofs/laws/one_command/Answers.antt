@@ -1,0 +1,5 @@
+use Rattle.sup_script.proofs.OneCommand.{one_meaning}
+use Rattle.sup_script.proofs.laws.one_command.Goals as goal
+
+pub returns : goal.returns
+returns c = one_meaning

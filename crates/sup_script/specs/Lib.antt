@@ -1,0 +1,15 @@
+pub mod Words
+pub mod Tokens
+pub mod Lines
+pub mod Headers
+pub mod Replies
+pub mod Starter
+pub mod Faults
+pub mod Watch
+pub mod Script
+pub mod Runs
+pub mod Causes
+pub mod Sent
+pub mod Waiting
+pub mod Answering
+pub mod Pieces

@@ -1,0 +1,45 @@
+//! Scripts and history texts, from bytes to bytes.
+mod failing;
+mod fakes;
+mod memory;
+mod scripts;
+mod values;
+
+use crate::{Fault, ScriptFault, ScriptStarter, run};
+use fakes::Pieces;
+use std::process::Abort;
+
+/// A child whose restart fails for a while, and what the script writes.
+const FAILED_RESTART: (&str, &str) = (
+    "sup permanent worker 5 10 10\nstart 0 gap:5:9\nexit 6 1 x\ncount\nretry 7 1\nretry 9 1\ncount\n",
+    "ok 1\nrestarting 1 1\ncount specs 1 active 0 supervisors 0 workers 1\nrestarting 1 1\nrestarted 1 2\ncount specs 1 active 1 supervisors 0 workers 1\n",
+);
+
+/// Runs a script that comes in pieces of several sizes.
+fn expect_run(
+    rt: &(impl Abort + AllocGlobal),
+    script: &str,
+    output: &str,
+    fault: Option<(Fault, u64)>,
+) {
+    for most in [1, 3, 10_000] {
+        let mut reader = Pieces {
+            left: script.as_bytes(),
+            most,
+            calls: usize::MAX,
+        };
+        let mut out = Vec::new(rt.alloc());
+        let result = run(rt.alloc(), &mut reader, &mut out, &ScriptStarter);
+        assert_eq!(rt; out.as_slice(), output.as_bytes());
+        expect_end(rt, result, fault);
+    }
+}
+
+/// How a run ended: well, or with this fault in this line.
+fn expect_end(rt: &impl Abort, ended: Result<(), ScriptFault>, fault: Option<(Fault, u64)>) {
+    let want = match fault {
+        None => Ok(()),
+        Some((fault, line)) => Err(ScriptFault { fault, line }),
+    };
+    assert!(rt; ended == want);
+}
