@@ -1,0 +1,31 @@
+//! `supload`: a supervisor at the command line. It answers a script on standard input.
+//!
+//! The whole program is [`program::run_words`], over any reader and writers; `main` only collects the words and the
+//! three streams.
+#![tactic(auto)]
+
+mod program;
+#[cfg(test)]
+mod tests;
+mod words;
+
+use program::{Status, run_words};
+use std::process::ExitCode;
+use std::rt::Env;
+use std::{env, io};
+
+fn main(rt: HostRuntime) -> ExitCode {
+    let Ok(words) = words_given(&rt) else {
+        return ExitCode::from(Status::OutOfMemory.number());
+    };
+    let mut input = rt.stdin();
+    let mut out = rt.stdout();
+    let mut err = rt.stderr();
+    let status = run_words(rt.alloc(), words.as_slice(), &mut input, &mut out, &mut err);
+    ExitCode::from(status)
+}
+
+/// The words of the command line, the program's name first.
+fn words_given(rt: &(impl Env + AllocGlobal)) -> io::Result<Vec<String>> {
+    Ok(env::args(rt)?.collect(rt.alloc())?)
+}
