@@ -1,10 +1,15 @@
 //! The whole program, over any reader and writers.
 
+ghost use Rattle.std.specs.Prelude.{◌≡◌, Result};
+ghost use Rattle.sup_script.specs.Runs.{IsRun};
+ghost use Rattle.sup_script.specs.Starter.{script_answer};
+ghost use Rattle.sup_script.specs.declared.fault.ScriptFault.{ScriptFault};
+ghost use Rattle.sup_load.specs.Statuses.{status_of};
+
 use crate::words::{Order, read_words};
 use clap::error::{Error, ErrorKind};
 use std::alloc::Global;
 use std::convert::AsStr;
-use std::io;
 use std::io::{Read, Write};
 use sup_script::{Fault, ScriptFault, ScriptStarter, run};
 
@@ -22,8 +27,12 @@ pub enum Status {
 }
 
 impl Status {
-    /// The exit status of the process.
-    pub fn number(self) -> u8 {
+    ghost use Rattle.sup_load.specs.Statuses.{status_number, status_of_fault};
+
+    /// The exit status of the process: 0, 2, 3 or 4, in the order of the variants.
+    pub fn number(self) -> u8
+        ensures { result ≡ status_number self }
+    {
         match self {
             Status::Done => 0,
             Status::BadInput => 2,
@@ -33,7 +42,9 @@ impl Status {
     }
 
     /// The status of a run that stopped with this fault.
-    fn of(fault: Fault) -> Status {
+    fn of(fault: Fault) -> Status
+        ensures { result ≡ status_of_fault fault }
+    {
         match fault {
             Fault::BadTemplate | Fault::BadLine | Fault::TooLong => Status::BadInput,
             Fault::ReadFault | Fault::WriteFault => Status::Failed,
@@ -53,27 +64,37 @@ pub fn run_words<S: AsStr, R: Read, W: Write, E: Write>(
     err: &mut E,
 ) -> u8 {
     let status = match read_words(alloc, words) {
-        Ok(Order::Script) => told(run(alloc, reader, out, &ScriptStarter), err),
+        Ok(Order::Script) => answer_script(alloc, reader, out, err),
         Err(error) => show(&error, out, err),
     };
     status.number()
 }
 
+/// Answers a script. The status is that of the outcome of its run.
+fn answer_script<R: Read, W: Write, E: Write>(
+    alloc: Global,
+    reader: &mut R,
+    out: &mut W,
+    err: &mut E,
+) -> Status
+    ensures { (outcome : Result (Unit {0}) ScriptFault)
+        × IsRun script_answer (R.remaining reader.old) (R.remaining reader.new) (W.contents out.old) (W.contents out.new) outcome
+        × (result ≡ status_of outcome) }
+{
+    told(run(alloc, reader, out, &ScriptStarter), err)
+}
+
 /// Tells the fault of a run, if there is one, by a line on standard error.
-fn told<E: Write>(outcome: Result<(), ScriptFault>, err: &mut E) -> Status {
+fn told<E: Write>(outcome: Result<(), ScriptFault>, err: &mut E) -> Status
+    ensures { result ≡ status_of outcome }
+{
     match outcome {
         Ok(()) => Status::Done,
         Err(stop) => {
-            let _ = write_fault(err, &stop);
+            let _ = writeln!(err, "{stop}");
             Status::of(stop.fault)
         }
     }
-}
-
-fn write_fault<E: Write>(err: &mut E, stop: &ScriptFault) -> io::Result<()> {
-    let number = stop.fault.number();
-    let line = stop.line;
-    writeln!(err, "fault {number} line {line}")
 }
 
 /// Writes the text of words that are no order: a help text, or why they are refused.
