@@ -1,4 +1,6 @@
 //! What no clause says: threads, the end of a press, and growth that is refused.
+ghost use Rattle.std.specs.Prelude.{◌≡◌, ◌^◌};
+
 mod ending;
 mod growth;
 mod threads;
@@ -7,7 +9,9 @@ use std::process::Abort;
 use sup_types::{Answer, Entry, Operation, Template, Text};
 
 /// Permanent workers, 10 of them at most.
-fn template(rt: &impl Abort) -> Template {
+fn template(rt: &impl Abort) -> Template
+    ensures { result.entries ≡ 2 ^ 62 }
+{
     match Template::standard(10, 1 << 62) {
         Ok(template) => template,
         Err(_) => panic!(rt; "a template"),

@@ -43,41 +43,46 @@ fn a_refused_entry_is_not_published(rt: HostRuntime) -> Result<(), Fail> {
     Ok(())
 }
 
+/// Whether the rows of a view that has a child were copied. A view that is refused them is as before.
+fn copies_rows<'h>(
+    rt: &impl Abort,
+    heap: &'h LocalHeap,
+    spare: &'h LocalHeap,
+) -> Result<bool, OutOfMemory> {
+    let front = History::new().tell();
+    let other = View::new(spare, template(rt), front.copied())?;
+    let mut view = View::new(heap, template(rt), front.copied())?;
+    let mut entries = Vec::new(spare);
+    if entries.push(started(rt, "a")).is_err() {
+        return Err(OutOfMemory);
+    }
+    view.absorb_first(&Batch { entries, front }, &other)?;
+    let before = heap.used();
+    match view.rows() {
+        Ok(rows) => {
+            assert_eq!(rt; rows.len(), 1);
+            Ok(true)
+        }
+        Err(OutOfMemory) => {
+            assert_eq!(rt; heap.used(), before);
+            assert_eq!(rt; (view.stamp(), view.counts().workers), (0, 1));
+            Ok(false)
+        }
+    }
+}
+
 #[test]
 fn refuses_each_growth_of_a_view_in_turn(rt: HostRuntime) -> Result<(), Fail> {
     let (mut making, mut copying, mut done) = (false, false, false);
     let spare = LocalHeap::new(rt.alloc(), 1 << 16)?;
-    let front = History::new().tell();
-    let other = View::new(&spare, template(&rt), front.copied())?;
-    let mut entries = Vec::new(&spare);
-    entries.push(started(&rt, "a")).ok().ok_or("memory")?;
-    let batch = Batch {
-        entries,
-        front: front.copied(),
-    };
     for size in 1..192usize {
         let heap = LocalHeap::new(rt.alloc(), size * 64)?;
-        match View::new(&heap, template(&rt), front.copied()) {
-            Ok(mut view) => {
-                view.absorb_first(&batch, &other)?;
-                let before = heap.used();
-                match view.rows() {
-                    Ok(rows) => {
-                        done = true;
-                        assert_eq!(rt; rows.len(), 1);
-                    }
-                    Err(OutOfMemory) => {
-                        copying = true;
-                        assert_eq!(rt; heap.used(), before);
-                        assert_eq!(rt; (view.stamp(), view.counts().workers), (0, 1));
-                    }
-                }
-            }
-            Err(OutOfMemory) => {
-                making = true;
-                assert_eq!(rt; heap.used(), 0);
-            }
+        match copies_rows(&rt, &heap, &spare) {
+            Ok(true) => done = true,
+            Ok(false) => copying = true,
+            Err(OutOfMemory) => making = true,
         }
+        assert_eq!(rt; (heap.used(), spare.used()), (0, 0));
     }
     assert!(rt; making && copying && done);
     Ok(())

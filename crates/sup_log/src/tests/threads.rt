@@ -23,7 +23,7 @@ fn publish_two<R: Wait + Drop>(
     entries: (Entry, Entry),
 ) -> Option<(Press<R>, Ticket)>
     requires { (length press.published + 2 ≤ press.template.entries) × (press.pending ≡ []) }
-    ensures { IfSome result (λ r. (r.1.press ≡ press.press) × (r.0.press ≡ press.press)) }
+    ensures { IfSome result (λ r. r.1.press ≡ press.press) }
 {
     let mut press = press;
     press.append(entries.0).ok()?;
@@ -33,21 +33,36 @@ fn publish_two<R: Wait + Drop>(
     Some((press, ticket))
 }
 
-fn lenses_learn<R: Threads + Wait + Abort + Sync>(rt: &R, press: Press<&R>) -> Option<()>
+/// Two lenses of a press that has published one entry, and a ticket for it.
+fn first_publication<'r, R: Wait + Abort>(
+    rt: &'r R,
+    press: Press<&'r R>,
+) -> Option<(Press<&'r R>, Lens, Lens, Ticket)>
     requires { (press.template.entries ≡ 2 ^ 62) × (press.published ≡ []) × (press.pending ≡ []) }
+    ensures { IfSome result (λ r. (r.1.press ≡ r.0.press) × (r.2.press ≡ r.0.press) × (r.3.press ≡ r.0.press)
+        × (length r.0.published + 2 ≤ r.0.template.entries) × (r.0.pending ≡ [])) }
 {
     let mut press = press;
     let Ok(mut one) = press.lens() else {
         return None;
     };
-    let Ok(mut two) = press.lens() else {
+    let Ok(two) = press.lens() else {
         return None;
     };
-    assert!(rt; press.lens().is_err());
     press.append(started(rt, "a")).ok()?;
     assert_eq!(rt; one.look(|view| view.stamp()).ok(), Some(0));
     press.publish();
     let ticket = press.tell();
+    Some((press, one, two, ticket))
+}
+
+fn lenses_learn<R: Threads + Wait + Abort + Sync>(rt: &R, press: Press<&R>) -> Option<()>
+    requires { (press.template.entries ≡ 2 ^ 62) × (press.published ≡ []) × (press.pending ≡ []) }
+{
+    let Some((mut press, one, mut two, ticket)) = first_publication(rt, press) else {
+        return None;
+    };
+    assert!(rt; press.lens().is_err());
     assert_eq!(rt; ticket.stamp(), 1);
     let entries = (started(rt, "b"), started(rt, "c"));
     let (seen, published) = join(
@@ -57,7 +72,7 @@ fn lenses_learn<R: Threads + Wait + Abort + Sync>(rt: &R, press: Press<&R>) -> O
         { look_after(one, &ticket) },
         || -> Option<(Press<&R>, Ticket)>
             requires { (length press.published + 2 ≤ press.template.entries) × (press.pending ≡ []) }
-            ensures { IfSome result (λ r. (r.1.press ≡ press.entry.press) × (r.0.press ≡ press.entry.press)) }
+            ensures { IfSome result (λ r. r.1.press ≡ press.entry.press) }
         { publish_two(press, entries) },
     );
     let (stamp, first) = seen.ok()?;
