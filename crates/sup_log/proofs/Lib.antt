@@ -1,0 +1,7 @@
+pub mod Prefixes
+pub mod Standings
+pub mod Absorbs
+pub mod Extending
+pub mod Orders
+pub mod Steps
+pub mod Publishing

@@ -1,0 +1,5 @@
+pub mod Rows
+pub mod Tokens
+pub mod Absorbing
+pub mod Fronts
+pub mod Rules

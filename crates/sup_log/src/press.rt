@@ -1,0 +1,125 @@
+//! The press: it makes entries pending, and publishes them.
+ghost use Rattle.std.specs.Prelude.{◌≡◌, ◌<◌, ◌≤◌, ◌+◌, [], ◌∷◌, ◌++◌, length, IfOk, MatchResult};
+ghost use Rattle.sup_log.specs.Tokens.{has_any};
+
+use crate::batch::Batch;
+use crate::copies::Copies;
+use crate::faults::NoPlace;
+use crate::history::History;
+use crate::lens::Lens;
+use crate::ticket::Ticket;
+use core::mem::replace;
+use std::alloc::Global;
+use std::marker::Model;
+use std::sync::Wait;
+use sup_types::{Entry, OutOfMemory, Template};
+
+/// Publishes an operation log into two copies of a supervisor. It keeps `rt`, since publishing and its end wait for the
+/// lenses that look.
+pub struct Press<R: Wait + Drop> {
+    history: History,
+    pending: Vec<Entry>,
+    copies: Copies,
+    editions: u64,
+    rt: R,
+}
+
+impl<R: Wait + Drop> Model for Press<R> {
+    ghost use Rattle.std.specs.Prelude.{◌≡◌, ◌+◌, ◌≤◌, length};
+    ghost use Rattle.sup_log.specs.Tokens.{Record, IsLawful};
+
+    ghost Value = { Record };
+
+    ghost view = { λ p. record { press = p.history.press; template = p.copies.standing.template; published = p.history.front; pending = p.pending.items; editions = p.editions } };
+
+    ghost invariant = { λ p. (p.copies.press ≡ p.history.press) × (p.copies.front ≡ p.history.front) × IsLawful p.copies × (length p.history.front + length p.pending.items ≤ p.copies.standing.template.entries) × (p.editions ≤ length p.history.front) };
+}
+
+impl<R: Wait + Drop> Press<R> {
+    /// Two copies of a supervisor of this template, and room for so many lenses at a time.
+    pub fn new(
+        alloc: Global,
+        rt: R,
+        template: Template,
+        places: usize,
+    ) -> Result<Press<R>, OutOfMemory>
+        requires { (0 < places) × (places ≤ 1024) }
+        ensures { IfOk result (λ p. (p.template ≡ template) × (p.published ≡ []) × (p.pending ≡ []) × (p.editions ≡ 0)) }
+    {
+        let history = History::new();
+        let copies = Copies::new(alloc, &rt, template, places, &history.tell())?;
+        Ok(Press {
+            history,
+            pending: Vec::new(alloc),
+            copies,
+            editions: 0,
+            rt,
+        })
+    }
+
+    /// A lens that has seen all that was published. Refused where no place or no memory is left, with nothing changed.
+    pub fn lens(&mut self) -> Result<Lens, NoPlace>
+        ensures kept { self.new ≡ self.old }
+        ensures lens { IfOk result (λ l. l ≡ record { press = self.old.press; template = self.old.template; front = self.old.published }) }
+    {
+        let reader = self.copies.seat()?;
+        Ok(Lens {
+            reader,
+            front: self.history.tell(),
+        })
+    }
+
+    /// Makes an entry pending. After a refusal nothing has changed.
+    pub fn append(&mut self, entry: Entry) -> Result<(), OutOfMemory>
+        requires { length self.old.published + length self.old.pending < self.old.template.entries }
+        ensures { MatchResult result (λ _. self.new ≡ record self.old { pending = self.old.pending ++ entry ∷ [] }) (λ _. self.new ≡ self.old) }
+    {
+        match self.pending.push(entry) {
+            Ok(()) => Ok(()),
+            Err(_) => Err(OutOfMemory),
+        }
+    }
+
+    /// Publishes what is pending, in order and in one step. It waits for the lenses that look at the copy that is to
+    /// absorb it, and is never refused.
+    pub fn publish(&mut self)
+        ensures { self.new ≡ record self.old { published = self.old.published ++ self.old.pending; pending = []; editions = self.old.editions + has_any self.old.pending } }
+    {
+        if self.pending.is_empty() {
+            return;
+        }
+        let alloc = *self.pending.allocator();
+        let entries = replace(&mut self.pending, Vec::new(alloc));
+        self.history.extend(&self.rt, entries.as_slice());
+        let front = self.history.tell();
+        self.copies.show(&self.rt, Batch { entries, front });
+        self.editions += 1;
+    }
+
+    /// A ticket for all that is published.
+    pub fn tell(&self) -> Ticket
+        ensures { result ≡ record { press = self.now.press; front = self.now.published } }
+    {
+        self.history.tell()
+    }
+
+    /// How many publications had something pending.
+    pub fn editions(&self) -> u64
+        ensures { result ≡ self.now.editions }
+    {
+        self.editions
+    }
+}
+
+impl<R: Wait + Drop> Drop for Press<R> {
+    fn drop(self) {
+        let Press {
+            history: _history,
+            pending: _pending,
+            copies,
+            editions: _,
+            rt,
+        } = self;
+        copies.close(&rt);
+    }
+}

@@ -1,0 +1,143 @@
+//! One copy of the supervisor, as a lens sees it.
+ghost use Rattle.std.specs.Prelude.{◌≡◌, [], length, IfOk};
+ghost use Rattle.sup_core.specs.Rows.{row_at, counts_of};
+ghost use Rattle.sup_core.specs.Account.{account, is_down, listed_rows};
+ghost use Rattle.sup_log.specs.Absorbing.{taken};
+ghost use Rattle.sup_log.specs.Rows.{IsEmptyWhenDown};
+ghost use Rattle.sup_log.specs.Tokens.{IsLawful};
+
+use crate::batch::Batch;
+use crate::ticket::Ticket;
+use left_right::Absorb;
+use std::alloc::{AllocError, Allocator, Global};
+use std::marker::Model;
+use sup_core::Sup;
+use sup_types::{Counts, Entry, OutOfMemory, Row, Seen, Template};
+
+/// One copy of the supervisor, which has absorbed one front of the published history. When it is down there is no row.
+#[derive(Drop)]
+pub struct View<A: Allocator = Global> {
+    sup: Sup<A>,
+    alloc: A,
+    front: Ticket,
+}
+
+impl<A: Allocator> Model for View<A> {
+    ghost use Rattle.sup_log.specs.Tokens.{Sight};
+    ghost use Rattle.sup_log.specs.Rows.{IsEmptyWhenDown};
+
+    ghost Value = { Sight };
+
+    ghost view = { λ v. record { press = v.front.press; standing = v.sup; front = v.front.front } };
+
+    ghost invariant = { λ v. IsEmptyWhenDown v.sup };
+}
+
+/// Takes a step, where the supervisor is not spent.
+fn take<A: Allocator + Copy>(sup: &mut Sup<A>, entry: &Entry)
+    ensures next { sup.new ≡ taken sup.old entry.now }
+    ensures empty { IsEmptyWhenDown sup.old → IsEmptyWhenDown sup.new }
+{
+    if !sup.is_spent() {
+        sup.step(entry);
+    }
+}
+
+impl<A: Allocator + Copy> View<A> {
+    /// A supervisor with this template after no entry.
+    #[tactic(auto, using(crate::proofs::Standings::standing_after))]
+    pub(crate) fn new(alloc: A, template: Template, front: Ticket) -> Result<View<A>, OutOfMemory>
+        requires { front.front ≡ [] }
+        ensures { IfOk result (λ v. (v.press ≡ front.press) × (v.front ≡ front.front) × (v.standing.template ≡ template) × IsLawful v) }
+    {
+        Ok(View {
+            sup: Sup::new(alloc, template)?,
+            alloc,
+            front,
+        })
+    }
+
+    /// The listed child with this number.
+    #[tactic(auto, using(crate::proofs::Standings::rows_are))]
+    pub fn get(&self, number: u64) -> Option<Row>
+        ensures value { result ≡ row_at number self.now.standing.rows }
+        ensures history { IsLawful self.now → result ≡ row_at number (listed_rows (account self.now.standing.template self.now.front)) }
+    {
+        match self.sup.child(number) {
+            Seen::Up(row) => row,
+            Seen::Down => None,
+        }
+    }
+
+    /// How many children are listed.
+    #[tactic(auto, using(crate::proofs::Standings::rows_are))]
+    pub fn counts(&self) -> Counts
+        ensures value { result ≡ counts_of self.now.standing.template.kind self.now.standing.rows }
+        ensures history { IsLawful self.now → result ≡ counts_of self.now.standing.template.kind (listed_rows (account self.now.standing.template self.now.front)) }
+    {
+        match self.sup.counts() {
+            Seen::Up(counts) => counts,
+            Seen::Down => Counts {
+                specs: 1,
+                active: 0,
+                supervisors: 0,
+                workers: 0,
+            },
+        }
+    }
+
+    /// The listed children, by ascending numbers.
+    #[tactic(auto, using(crate::proofs::Standings::rows_are))]
+    pub fn rows(&self) -> Result<Vec<Row, A>, OutOfMemory>
+        ensures value { IfOk result (λ rows. rows.items ≡ self.now.standing.rows) }
+        ensures history { IsLawful self.now → IfOk result (λ rows. rows.items ≡ listed_rows (account self.now.standing.template self.now.front)) }
+    {
+        match self.sup.rows()? {
+            Seen::Up(rows) => Ok(rows),
+            Seen::Down => Ok(Vec::new(self.alloc)),
+        }
+    }
+
+    /// The length of the front that it has absorbed, in entries.
+    pub fn stamp(&self) -> u64
+        ensures { result ≡ length self.now.front }
+    {
+        self.front.stamp()
+    }
+
+    /// Whether the supervisor gave up, was stopped or went down with a significant child.
+    #[tactic(auto, using(crate::proofs::Standings::down_is))]
+    pub fn is_down(&self) -> bool
+        ensures value { result ≡ self.now.standing.down }
+        ensures history { IsLawful self.now → result ≡ is_down (account self.now.standing.template self.now.front) }
+    {
+        self.sup.is_down()
+    }
+
+    /// The front that it has absorbed.
+    pub(crate) fn front(&self) -> &Ticket
+        ensures { result.now ≡ record { press = self.now.press; front = self.now.front } }
+    {
+        &self.front
+    }
+}
+
+impl<A: Allocator + Copy + Drop> Absorb<Batch<A>> for View<A> {
+    ghost use Rattle.sup_log.specs.Absorbing.{absorbed};
+
+    type State = View<A>;
+
+    ghost state = { λ v. v };
+
+    ghost applied = { absorbed };
+
+    ghost never_fails = { Unit {0} };
+
+    fn absorb_first(&mut self, operation: &Batch<A>, _other: &View<A>) -> Result<(), AllocError> {
+        for entry in operation.entries.as_slice() {
+            take(&mut self.sup, entry);
+        }
+        self.front = operation.front.copied();
+        Ok(())
+    }
+}
