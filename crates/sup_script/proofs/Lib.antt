@@ -6,6 +6,7 @@ pub mod Written
 pub mod Sending
 pub mod LineCuts
 pub mod Children
+pub mod Queues
 pub mod Running
 pub mod Pieces
 pub mod WholeRuns

@@ -6,6 +6,7 @@ pub mod Replies
 pub mod Starter
 pub mod Faults
 pub mod Watch
+pub mod Stops
 pub mod Script
 pub mod Runs
 pub mod Causes
