@@ -10,4 +10,12 @@ pub mod Queues
 pub mod Running
 pub mod Pieces
 pub mod WholeRuns
+pub mod Entries
+pub mod FeedCounts
+pub mod Histories
+pub mod Reading
+pub mod Replaying
+pub mod WholeReplays
+pub mod OneValue
+pub mod HistoryLines
 pub mod OneCommand

@@ -5,10 +5,9 @@ use Rattle.std.proofs.Math.ListN.{get_or-append, get_or-eq_default}
 use Rattle.std.proofs.Math.Seq.{get_or-append_seam, take-add}
 use Rattle.std.proofs.lemmas.Bool.{cases_lt}
 use Rattle.std.proofs.lemmas.List.{length-append, take-append-le, take_all, take_more, take-append-drop, length-take-le}
-use Rattle.sup_script.specs.declared.fault.Fault.TheVariants as fault
 use Rattle.sup_script.specs.declared.fault.ScriptFault.{ScriptFault}
-use Rattle.sup_script.specs.Stops.{IsAtLine, IsCutShort}
-use Rattle.sup_script.specs.Waiting.{IsCutAt, IsTorn, IsMark, IsQueue}
+use Rattle.sup_script.specs.Stops.{IsCutShort}
+use Rattle.sup_script.specs.Waiting.{IsCutAt, IsTorn, IsQueue}
 
 -- nothing waits
 pub queue_none : (Texts : List (List ℕ) → List ℕ → Type 0) (front : List (List ℕ)) (written : List ℕ) → Texts front written → IsQueue Texts front written [] []

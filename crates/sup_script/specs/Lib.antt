@@ -14,3 +14,6 @@ pub mod Sent
 pub mod Waiting
 pub mod Answering
 pub mod Pieces
+pub mod History
+pub mod HistoryReading
+pub mod Replays

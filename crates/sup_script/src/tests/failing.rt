@@ -1,8 +1,6 @@
 //! Readers and writers that fail, and texts that are too long.
-ghost use Rattle.std.specs.Prelude.{◌≤◌, length};
-
 use super::fakes::{Endless, Narrow, Pieces, Stuck};
-use super::{FAILED_RESTART, expect_end};
+use super::{FAILED_RESTART, expect_end, line_feeds};
 use crate::{Fault, ScriptStarter, run};
 use std::test::Fail;
 
@@ -86,12 +84,6 @@ fn reply_bytes(replies: &[u8], lines: usize) -> usize {
         }
     }
     replies.len()
-}
-
-fn line_feeds(bytes: &[u8]) -> usize
-    ensures { result ≤ length bytes.now }
-{
-    bytes.iter().filter(|byte| **byte == b'\n').count()
 }
 
 #[test]
