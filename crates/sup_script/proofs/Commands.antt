@@ -177,9 +177,12 @@ none_of_length [] none = refl
 none_of_length (x ∷ xs) none = absurd (omega arith)
 
 -- operations of one name have as many arguments
+pub arguments_same : (o p : Operation) → operation_verb o ≡ operation_verb p → length (argument_words o) ≡ length (argument_words p)
+arguments_same o p same = count_is o ∙ ap arguments_count same ∙ sym (count_is p)
+
 pub none_past : (v : Verb) (o p : Operation) (ws xs : List (List ℕ)) → operation_verb o ≡ v → operation_verb p ≡ v → ws ≡ argument_words o ++ xs → ws ≡ argument_words p → xs ≡ []
 none_past v o p ws xs a b e f =
-    let same : length (argument_words o) ≡ length (argument_words p) = count_is o ∙ ap arguments_count (a ∙ sym b) ∙ sym (count_is p) in
+    let same = arguments_same o p (a ∙ sym b) in
     let whole : length (argument_words o ++ xs) ≡ length (argument_words p) = ap length (sym e ∙ f) in
     none_of_length xs (omega (arith, length-append (argument_words o) xs))
 

@@ -6,7 +6,16 @@ pub mod Written
 pub mod Sending
 pub mod LineCuts
 pub mod Children
+pub mod Queues
 pub mod Running
 pub mod Pieces
 pub mod WholeRuns
+pub mod Entries
+pub mod FeedCounts
+pub mod Histories
+pub mod Reading
+pub mod Replaying
+pub mod WholeReplays
+pub mod OneValue
+pub mod HistoryLines
 pub mod OneCommand

@@ -5,7 +5,7 @@ use Rattle.std.proofs.lemmas.List.Elements.{All-head, All-tail}
 use Rattle.sup_script.specs.Script.{lines_of}
 use Rattle.sup_script.specs.Words.{Lacks, IsSplit}
 
-lines_at : (xs ys : List ℕ) → Lacks 10 xs → lines_of (xs ++ 10 ∷ ys) ≡ xs ∷ lines_of ys
+pub lines_at : (xs ys : List ℕ) → Lacks 10 xs → lines_of (xs ++ 10 ∷ ys) ≡ xs ∷ lines_of ys
 lines_at [] ys lacks = refl
 lines_at (x ∷ xs) ys lacks =
     rw (All-head (λ b. (b == 10) ≡ false) x xs lacks) (ap (onto_first x) (lines_at xs ys (All-tail (λ b. (b == 10) ≡ false) x xs lacks)))

@@ -26,7 +26,7 @@ some_first b (line ∷ lines) = omega arith
 pub some_lines : (b : ℕ) (bs : List ℕ) → 0 < length (lines_of (b ∷ bs))
 some_lines b bs = elim (b == 10) as (λ v. 0 < length (cond v ([] ∷ lines_of bs) (onto_first b (lines_of bs)))) [ true ↦ omega arith | false ↦ some_first b (lines_of bs) ]
 
-some_lines_snoc : (xs : List ℕ) → 0 < length (lines_of (xs ++ 10 ∷ []))
+pub some_lines_snoc : (xs : List ℕ) → 0 < length (lines_of (xs ++ 10 ∷ []))
 some_lines_snoc [] = some_lines 10 []
 some_lines_snoc (x ∷ xs) = some_lines x (xs ++ 10 ∷ [])
 

@@ -1,11 +1,8 @@
 -- Answering line after line.
-use Rattle.std.proofs.Common.{◌≡◌, ◌⊎◌, ℕ, ◌+◌, ◌-◌, ◌<◌, ◌≤◌, List, [], ◌∷◌, ◌++◌, length, get_or, take, drop, Option, None, Some, Result, Ok, Err, refl, sym, ap, subst, ◌∙◌, append_assoc, append-nil, arith, inl, inr}
+use Rattle.std.proofs.Common.{◌≡◌, ◌⊎◌, ℕ, ◌+◌, ◌<◌, List, [], ◌∷◌, ◌++◌, length, Option, None, Some, Result, Ok, Err, refl, sym, ap, subst, ◌∙◌, append_assoc, append-nil, arith, inl, inr}
 use Rattle.std.specs.Io.KnownBytes.{Appends, Keeps}
 use Rattle.std.proofs.KnownBytes.{Appends-nil, Appends-trans, Appends-kept}
-use Rattle.std.proofs.Math.ListN.{get_or-append, get_or-eq_default}
-use Rattle.std.proofs.Math.Seq.{get_or-append_seam, take-add}
-use Rattle.std.proofs.lemmas.Bool.{cases_lt}
-use Rattle.std.proofs.lemmas.List.{length-append, take-append-le, take_all, take_more, take-append-drop, length-take-le, append_cancel_left}
+use Rattle.std.proofs.lemmas.List.{length-append, append_cancel_left}
 use Rattle.sup_types.specs.declared.template.Template.{Template}
 use Rattle.sup_types.specs.declared.history.Entry.{Entry}
 use Rattle.sup_core.specs.State.{State}
@@ -16,10 +13,12 @@ use Rattle.sup_script.specs.declared.fault.Fault.TheVariants as fault
 use Rattle.sup_script.specs.declared.fault.ScriptFault.{ScriptFault}
 use Rattle.sup_script.specs.Words.{words_of}
 use Rattle.sup_script.specs.Lines.{LineMeans, MeansNothing}
-use Rattle.sup_script.specs.Headers.{IsHeader, HasHeader}
-use Rattle.sup_script.specs.Script.{Answering, text_of, history_after, replies_text, AreMeant, Answers, IsAtLine, IsCutShort, StopsWith, IsBadAfter}
+use Rattle.sup_script.specs.Headers.{AreHeaderWords, IsFirst, HasFirst}
+use Rattle.sup_script.specs.Script.{Answering, text_of, history_after, replies_text, AreMeant, Answers, StopsWith, IsBadAfter}
+use Rattle.sup_script.specs.Stops.{IsAtLine, IsCutShort}
 use Rattle.sup_script.specs.Answering.{histories, Stands, IsAnsweredTo, IsAnsweredMore, LineGives, LinesGive, IsWaiting}
-use Rattle.sup_script.specs.Waiting.{IsCutAt, IsTorn, IsFlushed}
+use Rattle.sup_script.specs.Waiting.{IsTorn, IsFlushed}
+use Rattle.sup_script.proofs.Queues.{queue_none, queue_more, torn_cut}
 
 meant_push : (lines : List (List ℕ)) (cs : List Command) (line : List ℕ) (c : Command) → AreMeant lines cs → LineMeans line c → AreMeant (lines ++ line ∷ []) (cs ++ c ∷ [])
 meant_push [] [] line c s m = (m, tt)
@@ -50,7 +49,7 @@ answers_of answer front text sup next s = stands_answered answer front text sup 
 -- ---- one line
 
 -- the first line makes the supervisor
-stands_first : (answer : Answering) (front : List (List ℕ)) (text line : List ℕ) (sup : State) → Stands answer front text None → IsHeader line sup.template → IsAfter sup [] → Stands answer (front ++ line ∷ []) (text ++ []) (Some sup)
+stands_first : (answer : Answering) (front : List (List ℕ)) (text line : List ℕ) (sup : State) → Stands answer front text None → IsFirst AreHeaderWords line sup.template → IsAfter sup [] → Stands answer (front ++ line ∷ []) (text ++ []) (Some sup)
 stands_first answer [] text line sup s h after =
     record { header_is = h; commands = []; meant = tt; replies = append-nil text ∙ s; after = after }
 stands_first answer (header ∷ body) text line sup s h after = absurd s
@@ -73,14 +72,14 @@ stands_more answer (header ∷ body) text line more c old new s m same texts aft
     }
 
 module _ (answer : Answering) (front : List (List ℕ)) (text line : List ℕ) (next : ℕ) (old : List ℕ) where
-  pub header_gives : (sup : State) → IsAnsweredTo answer front text None next → IsHeader line sup.template → IsAfter sup [] → IsAnsweredMore answer front text line (Some sup) next old old
+  pub header_gives : (sup : State) → IsAnsweredTo answer front text None next → IsFirst AreHeaderWords line sup.template → IsAfter sup [] → IsAnsweredMore answer front text line (Some sup) next old old
   header_gives sup s h after = record {
     more = [];
     grown = sym (append-nil old);
     so_far = record { stands = stands_first answer front text line sup s.stands h after; next_is = omega (arith, s.next_is, length-append front (line ∷ [])) };
   }
 
-  header_stops : (f : Fault) (lines : List (List ℕ)) (sup' : Option State) (new : List ℕ) → Stands answer lines text None → HasHeader line (Err f) → LineGives answer lines text line sup' next old new (Err f)
+  header_stops : (f : Fault) (lines : List (List ℕ)) (sup' : Option State) (new : List ℕ) → Stands answer lines text None → HasFirst AreHeaderWords line (Err f) → LineGives answer lines text line sup' next old new (Err f)
   header_stops fault.OutOfMemory lines sup' new s h = absurd h
   header_stops fault.BadTemplate [] sup' new s h = (refl, h)
   header_stops fault.BadTemplate (l ∷ ls) sup' new s h = absurd s
@@ -90,7 +89,7 @@ module _ (answer : Answering) (front : List (List ℕ)) (text line : List ℕ) (
   header_stops fault.WriteFault lines sup' new s h = absurd h
   header_stops fault.TooLong lines sup' new s h = absurd h
 
-  pub header_refused : (f : Fault) (sup' : Option State) (new : List ℕ) → IsAnsweredTo answer front text None next → HasHeader line (Err f) → LineGives answer front text line sup' next old new (Err f)
+  pub header_refused : (f : Fault) (sup' : Option State) (new : List ℕ) → IsAnsweredTo answer front text None next → HasFirst AreHeaderWords line (Err f) → LineGives answer front text line sup' next old new (Err f)
   header_refused f sup' new s h = header_stops f front sup' new s.stands h
 
   bad_after : (lines : List (List ℕ)) (sup : State) → Stands answer lines text (Some sup) → MeansNothing (words_of line) → IsBadAfter lines line
@@ -122,46 +121,18 @@ module _ (answer : Answering) (front : List (List ℕ)) (text line : List ℕ) (
 
 -- nothing waits
 pub waits_none : (answer : Answering) (front : List (List ℕ)) (written : List ℕ) (sup : Option State) (next : ℕ) → IsAnsweredTo answer front written sup next → IsWaiting answer front written [] [] sup next
-waits_none answer front written sup next s = record {
-  so_far = rw (append-nil written) s;
-  first = length front;
-  count = omega arith;
-  start = rw (take_all (length front) front (omega arith)) (answers_of answer front written sup next s);
-  marks = λ k below. absurd (omega arith);
-  last = refl;
-}
+waits_none answer front written sup next s =
+    record { so_far = rw (append-nil written) s; queue = queue_none (Answers answer) front written (answers_of answer front written sup next s) }
 
 -- one reply more waits
 pub waits_more : (answer : Answering) (front : List (List ℕ)) (line written old new ends : List ℕ) (sup sup' : Option State) (next : ℕ)
     → IsWaiting answer front written old ends sup next → IsAnsweredMore answer front (written ++ old) line sup' next old new → IsWaiting answer (front ++ line ∷ []) written new (ends ++ length new ∷ []) sup' (next + 1)
 waits_more answer front line written old new ends sup sup' next w one =
-    let lines = front ++ line ∷ [] in
     let whole : written ++ new ≡ (written ++ old) ++ one.more = ap (λ (l : List ℕ). written ++ l) one.grown ∙ sym (append_assoc written old one.more) in
-    let so_far : IsAnsweredTo answer lines (written ++ new) sup' (next + 1) = rw whole one.so_far in
-    let more_lines : length lines ≡ length front + 1 = length-append front (line ∷ []) in
-    let more_ends : length (ends ++ length new ∷ []) ≡ length ends + 1 = length-append ends (length new ∷ []) in
-    let more_bytes : length new ≡ length old + length one.more = ap length one.grown ∙ length-append old one.more in
-    let end : get_or (ends ++ length new ∷ []) (length ends) 0 ≡ length new = get_or-append_seam ends (length new) [] 0 in
+    let so_far : IsAnsweredTo answer (front ++ line ∷ []) (written ++ new) sup' (next + 1) = rw whole one.so_far in
     record {
       so_far = so_far;
-      first = w.first;
-      count = omega (arith, w.count);
-      start = rw (take-append-le w.first front (line ∷ []) (omega (arith, w.count))) w.start;
-      marks = λ k below. elim (cases_lt k (length ends)) [
-        | inl before ↦
-            let mark = w.marks k before in
-            let lines_same : take (w.first + k + 1) lines ≡ take (w.first + k + 1) front = take-append-le (w.first + k + 1) front (line ∷ []) (omega (arith, w.count)) in
-            let end_same : get_or (ends ++ length new ∷ []) k 0 ≡ get_or ends k 0 = get_or-append ends (length new ∷ []) 0 k before in
-            let bytes_same : take (get_or ends k 0) new ≡ take (get_or ends k 0) old = ap (take (get_or ends k 0)) one.grown ∙ take-append-le (get_or ends k 0) old one.more mark.inside in
-            rw end_same (record { inside = omega (arith, mark.inside); answered = rw (lines_same, bytes_same) mark.answered })
-        | inr past ↦
-            let here : k ≡ length ends = omega arith in
-            let end_is : get_or (ends ++ length new ∷ []) k 0 ≡ length new = ap (λ i. get_or (ends ++ length new ∷ []) i 0) here ∙ end in
-            let all_lines : take (w.first + k + 1) lines ≡ lines = take_all (w.first + k + 1) lines (omega (arith, w.count)) in
-            let all_bytes : take (length new) new ≡ new = take_all (length new) new (omega arith) in
-            rw end_is (record { inside = omega arith; answered = rw (all_lines, all_bytes) (answers_of answer lines (written ++ new) sup' (next + 1) so_far) })
-      ];
-      last = let index : length (ends ++ length new ∷ []) - 1 ≡ length ends = omega (arith, more_ends) in ap (λ i. get_or (ends ++ length new ∷ []) i 0) index ∙ end;
+      queue = queue_more (Answers answer) front line written old one.more new ends w.queue one.grown (answers_of answer (front ++ line ∷ []) (written ++ new) sup' (next + 1) so_far);
     }
 
 -- the line's fault stays a fault of that line, whatever it left behind
@@ -176,96 +147,14 @@ next_refused answer front written line old new bytes sup next fault.TooLong h = 
 
 -- ---- where the writing stops
 
--- the lines up to a number, and the one behind them
-lines_next : (front : List (List ℕ)) (n : ℕ) → n < length front → take (n + 1) front ≡ take n front ++ get_or front n [] ∷ []
-lines_next front n below = take_more front n [] below
-
-bytes_next : (bytes : List ℕ) (n m : ℕ) → n ≤ m → take m bytes ≡ take n bytes ++ take (m - n) (drop n bytes)
-bytes_next bytes n m below = let whole : m ≡ n + (m - n) = omega arith in ap (λ k. take k bytes) whole ∙ take-add n (m - n) bytes
-
--- a reply between two marks was cut
-module _ (answer : Answering) (front : List (List ℕ)) (written waiting : List ℕ) (lines from taken to : ℕ) where
-  pub cut_between : lines < length front → from ≤ taken → taken ≤ to → Answers answer (take lines front) (written ++ take from waiting) → Answers answer (take (lines + 1) front) (written ++ take to waiting)
-      → IsCutShort answer front (lines + 1) (written ++ take taken waiting)
-  cut_between below before after start end =
-      let split = bytes_next waiting from taken before in
-      let split_more = bytes_next waiting taken to after in
-      record {
-        before = written ++ take from waiting;
-        at = record {
-          front = take lines front;
-          line = get_or front lines [];
-          rest = drop (lines + 1) front;
-          parts = sym (take-append-drop (lines + 1) front) ∙ ap (λ (l : List (List ℕ)). l ++ drop (lines + 1) front) (lines_next front lines below) ∙ append_assoc (take lines front) (get_or front lines [] ∷ []) (drop (lines + 1) front);
-          number_is = omega (arith, length-take-le lines front (omega arith));
-          answered = start;
-        };
-        sent = take (taken - from) (drop from waiting);
-        unsent = take (to - taken) (drop taken waiting);
-        written_is = ap (λ (l : List ℕ). written ++ l) split ∙ sym (append_assoc written (take from waiting) (take (taken - from) (drop from waiting)));
-        reply =
-            let joined : (written ++ take from waiting) ++ (take (taken - from) (drop from waiting) ++ take (to - taken) (drop taken waiting)) ≡ written ++ take to waiting =
-            append_assoc written (take from waiting) (take (taken - from) (drop from waiting) ++ take (to - taken) (drop taken waiting))
-            ∙ ap (λ (l : List ℕ). written ++ l) (sym (append_assoc (take from waiting) (take (taken - from) (drop from waiting)) (take (to - taken) (drop taken waiting))) ∙ ap (λ (l : List ℕ). l ++ take (to - taken) (drop taken waiting)) (sym split) ∙ sym split_more) in
-            rw (← lines_next front lines below, joined) end;
-      }
-
--- the bytes of the waiting replies were written in part
-module _ (answer : Answering) (front : List (List ℕ)) (written waiting ends : List ℕ) (sup : Option State) (next : ℕ) (w : IsWaiting answer front written waiting ends sup next) where
-  pub torn_at : (taken whole : ℕ) → taken < length waiting → IsCutAt ends taken whole → IsCutShort answer front (w.first + whole + 1) (written ++ take taken waiting)
-  torn_at taken whole short cut =
-      let below : whole < length ends = elim (cases_lt whole (length ends)) [
-        | inl h ↦ h
-        | inr past ↦ elim (cases_lt 0 (length ends)) [
-          | inl some ↦ let last : get_or ends (length ends - 1) 0 ≤ taken = cut.before (length ends - 1) (omega arith) in absurd (omega (arith, w.last, last, short))
-          | inr none ↦ let zero : get_or ends (length ends - 1) 0 ≡ 0 = get_or-eq_default ends 0 (omega arith) in absurd (omega (arith, w.last, zero, short))
-        ]
-      ] in
-      let mark = w.marks whole below in
-      elim (cases_lt 0 whole) [
-        | inl some ↦
-            let k = whole - 1 in
-            let earlier = w.marks k (omega arith) in
-            let lines_are : w.first + k + 1 ≡ w.first + whole = omega arith in
-            let start : Answers answer (take (w.first + whole) front) (written ++ take (get_or ends k 0) waiting) = rw lines_are at earlier.answered in
-            cut_between answer front written waiting (w.first + whole) (get_or ends k 0) taken (get_or ends whole 0) (omega (arith, w.count)) (cut.before k (omega arith)) (omega (arith, cut.after below)) start mark.answered
-        | inr none ↦
-            let zero : whole ≡ 0 = omega arith in
-            let lines_are : w.first ≡ w.first + whole = omega arith in
-            let start : Answers answer (take (w.first + whole) front) (written ++ []) = rw (append-nil written, ← lines_are) w.start in
-            cut_between answer front written waiting (w.first + whole) 0 taken (get_or ends whole 0) (omega (arith, w.count)) (omega arith) (omega (arith, cut.after below)) start mark.answered
-      ]
-
--- more lines behind
-cut_more : (answer : Answering) (lines more : List (List ℕ)) (number : ℕ) (written : List ℕ) → IsCutShort answer lines number written → IsCutShort answer (lines ++ more) number written
-cut_more answer lines more number written c = record {
-  before = c.before;
-  at = record {
-    front = c.at.front;
-    line = c.at.line;
-    rest = c.at.rest ++ more;
-    parts = ap (λ (l : List (List ℕ)). l ++ more) c.at.parts ∙ append_assoc c.at.front (c.at.line ∷ c.at.rest) more;
-    number_is = c.at.number_is;
-    answered = c.at.answered;
-  };
-  sent = c.sent;
-  unsent = c.unsent;
-  written_is = c.written_is;
-  reply = c.reply;
-}
-
-stops_by_write : (answer : Answering) (lines : List (List ℕ)) (number : ℕ) (written : List ℕ) (f : Fault) → f ≡ fault.WriteFault → IsCutShort answer lines number written → StopsWith answer lines written number f
+stops_by_write : (answer : Answering) (lines : List (List ℕ)) (number : ℕ) (written : List ℕ) (f : Fault) → f ≡ fault.WriteFault → IsCutShort (Answers answer) lines number written → StopsWith answer lines written number f
 stops_by_write answer lines number written f e c = rw e c
 
 pub torn_stops : (answer : Answering) (front more : List (List ℕ)) (written waiting ends : List ℕ) (sup : Option State) (next : ℕ) (old new : Option (List ℕ)) (e : ScriptFault)
     → IsWaiting answer front written waiting ends sup next → IsTorn waiting ends old new next e → (sent : List ℕ) × Appends old new sent × StopsWith answer (front ++ more) (written ++ sent) e.line e.fault
 torn_stops answer front more written waiting ends sup next old new e w t =
-    let number : e.line ≡ w.first + t.whole + 1 = omega (arith, t.line_is, w.count, w.so_far.next_is) in (
-      take t.taken waiting,
-      t.wrote,
-      stops_by_write answer (front ++ more) e.line (written ++ take t.taken waiting) e.fault t.fault_is
-          (rw number (cut_more answer front more (w.first + t.whole + 1) (written ++ take t.taken waiting) (torn_at answer front written waiting ends sup next w t.taken t.whole t.short t.cut))),
-    )
+    let cut = torn_cut (Answers answer) front more written waiting ends next old new e w.queue w.so_far.next_is t in
+    (cut.0, cut.1, stops_by_write answer (front ++ more) e.line (written ++ cut.0) e.fault t.fault_is cut.2)
 
 -- the line behind a front has a fault
 line_stops : (answer : Answering) (whole : List (List ℕ)) (text : List ℕ) (number : ℕ) (front : List (List ℕ)) (line : List ℕ) (left : List (List ℕ)) (before : List ℕ) (sup : Option State) (bytes : List ℕ) (f : Fault)
@@ -337,7 +226,7 @@ module _ (answer : Answering) (front : List (List ℕ)) (text : List ℕ) (whole
     pub partly_stops : (line : List ℕ) (left' : List (List ℕ)) (sup' : Option State) (new : Option (List ℕ)) (bytes : List ℕ) (f : Fault) → left ≡ line ∷ left' → Appends mid new waiting
         → LineGives answer (front ++ p.body) (text ++ p.more) line sup' next bytes bytes (Err f) → (more : List ℕ) × Appends old new more × StopsWith answer (front ++ whole) (text ++ more) next f
     partly_stops line left' sup' new bytes f e wrote h =
-        let at : IsAtLine answer (front ++ whole) next (text ++ (p.more ++ waiting)) = record {
+        let at : IsAtLine (Answers answer) (front ++ whole) next (text ++ (p.more ++ waiting)) = record {
           front = front ++ p.body;
           line = line;
           rest = left';

@@ -1,5 +1,5 @@
 -- What the answering of lines does, in the middle of a script.
-use Rattle.std.specs.Prelude.{◌≡◌, ℕ, ◌+◌, ◌-◌, ◌<◌, ◌≤◌, ◌^◌, List, [], ◌∷◌, ◌++◌, length, get_or, take, Option, None, Some, Result, Ok, Err}
+use Rattle.std.specs.Prelude.{◌≡◌, ℕ, ◌+◌, ◌-◌, ◌^◌, List, [], ◌∷◌, ◌++◌, length, Option, None, Some, Result, Ok, Err}
 use Rattle.std.specs.Io.KnownBytes.{Appends}
 use Rattle.sup_types.specs.declared.template.Template.{Template}
 use Rattle.sup_types.specs.declared.history.Entry.{Entry}
@@ -9,7 +9,8 @@ use Rattle.sup_script.specs.declared.command.Command.{Command}
 use Rattle.sup_script.specs.declared.fault.Fault.{Fault}
 use Rattle.sup_script.specs.declared.fault.Fault.TheVariants as fault
 use Rattle.sup_script.specs.declared.fault.ScriptFault.{ScriptFault}
-use Rattle.sup_script.specs.Headers.{IsHeader, IsOutOfRange}
+use Rattle.sup_script.specs.Headers.{AreHeaderWords, IsFirst, IsOutOfRange}
+use Rattle.sup_script.specs.Waiting.{IsQueue}
 use Rattle.sup_script.specs.Script.{Answering, history_after, replies_text, AreMeant, IsBadAfter, Answers, StopsWith}
 
 -- how many entries a supervisor, or one that is still to be made, can take
@@ -24,7 +25,7 @@ histories answer template history (c ∷ cs) = histories answer template (histor
 
 -- the supervisor has the header's template, and went through the commands, whose replies are this text
 pub record HasAnswered (answer : Answering) (header : List ℕ) (body : List (List ℕ)) (text : List ℕ) (s : State) : Type 0 where
-  pub header_is : IsHeader header s.template
+  pub header_is : IsFirst AreHeaderWords header s.template
   pub commands : List Command
   pub meant : AreMeant body commands
   pub replies : text ≡ replies_text answer s.template [] commands
@@ -52,25 +53,16 @@ pub record IsAnsweredMore (answer : Answering) (front : List (List ℕ)) (text l
 abbrev pub LineGives : Answering → List (List ℕ) → List ℕ → List ℕ → Option State → ℕ → List ℕ → List ℕ → Result (Unit {0}) Fault → Type 0
 LineGives answer front text line sup next old new (Ok u) = IsAnsweredMore answer front text line sup next old new
 LineGives answer front text line sup next old new (Err fault.OutOfMemory) = Unit {0}
-LineGives answer front text line sup next old new (Err fault.BadTemplate) = (front ≡ []) × IsOutOfRange line
+LineGives answer front text line sup next old new (Err fault.BadTemplate) = (front ≡ []) × IsOutOfRange AreHeaderWords line
 LineGives answer front text line sup next old new (Err fault.BadLine) = IsBadAfter front line
 LineGives answer front text line sup next old new (Err fault.ReadFault) = ⊥
 LineGives answer front text line sup next old new (Err fault.WriteFault) = ⊥
 LineGives answer front text line sup next old new (Err fault.TooLong) = ⊥
 
--- the replies up to a mark are the answers of the lines up to it
-pub record IsMark (answer : Answering) (front : List (List ℕ)) (written waiting : List ℕ) (lines end : ℕ) : Type 0 where
-  pub inside : end ≤ length waiting
-  pub answered : Answers answer (take lines front) (written ++ take end waiting)
-
--- the replies of the last lines wait, and their ends are marked
+-- the same of the replies that are written and those that wait
 pub record IsWaiting (answer : Answering) (front : List (List ℕ)) (written waiting ends : List ℕ) (sup : Option State) (next : ℕ) : Type 0 where
   pub so_far : IsAnsweredTo answer front (written ++ waiting) sup next
-  pub first : ℕ
-  pub count : first + length ends ≡ length front
-  pub start : Answers answer (take first front) written
-  pub marks : (k : ℕ) → k < length ends → IsMark answer front written waiting (first + k + 1) (get_or ends k 0)
-  pub last : get_or ends (length ends - 1) 0 ≡ length waiting
+  pub queue : IsQueue (Answers answer) front written waiting ends
 
 -- the line's reply waits behind the others, or the line has a fault and the others wait as before
 abbrev pub NextGives : Answering → List (List ℕ) → List ℕ → List ℕ → Option State → ℕ → List ℕ → List ℕ → Result (Unit {0}) Fault → Type 0

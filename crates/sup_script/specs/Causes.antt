@@ -22,6 +22,15 @@ HasLineCause has_refused fault.ReadFault = ⊥
 HasLineCause has_refused fault.WriteFault = has_refused ≡ true
 HasLineCause has_refused fault.TooLong = ⊥
 
+-- what the reading of a whole text can have
+abbrev pub HasReadCause : Reading → Fault → Type 0
+HasReadCause reading fault.OutOfMemory = Unit {0}
+HasReadCause reading fault.BadTemplate = ⊥
+HasReadCause reading fault.BadLine = ⊥
+HasReadCause reading fault.ReadFault = (reading.has_failed ≡ true) ⊎ (reading.calls ≡ 33554432)
+HasReadCause reading fault.WriteFault = ⊥
+HasReadCause reading fault.TooLong = 16777216 < reading.given
+
 -- what a run can have: a fault of reading only where the reader failed or was asked 2^25 times, one of writing only where
 -- the writer refused, and too long a text only where more than 2^24 bytes came
 abbrev pub HasCause : Reading → Writing → Fault → Type 0

@@ -1,5 +1,5 @@
--- The first line of a script, and the template that it gives.
-use Rattle.std.specs.Prelude.{◌≡◌, ◌⊎◌, ℕ, ◌<◌, ◌^◌, Bool, true, false, List, [], ◌∷◌, ◌++◌, Result, Ok, Err, codes}
+-- The first lines of texts, and the templates that they give.
+use Rattle.std.specs.Prelude.{◌≡◌, ◌⊎◌, ℕ, ◌<◌, ◌^◌, Bool, true, false, List, [], ◌∷◌, ◌++◌, Option, None, Some, Result, Ok, Err, codes}
 use Rattle.std.specs.Fmt.{decimal}
 use Rattle.sup_types.specs.Template.{AreInRange, can_stand}
 use Rattle.sup_types.specs.declared.template.Template.{Template}
@@ -31,11 +31,6 @@ abbrev pub AreHeaderWords : List (List ℕ) → Parts → Type 0
 AreHeaderWords words parts =
     (IsPlain parts × (words ≡ codes "sup" ∷ limit_words parts)) ⊎ (words ≡ codes "sup" ∷ (limit_words parts ++ shutdown_words parts))
 
--- a line has the shape of a header with these parts
-pub record HasShape (line : List ℕ) (parts : Parts) : Type 0 where
-  pub fits : FitsParts parts
-  pub words : AreHeaderWords (words_of line) parts
-
 -- the parts are in the ranges of a template, and go together
 abbrev pub CanStand : Parts → Type 0
 CanStand parts =
@@ -52,32 +47,44 @@ pub record IsTemplateOf (template : Template) (parts : Parts) : Type 0 where
   pub significant : template.significant ≡ parts.significant
   pub auto_shutdown : template.auto_shutdown ≡ parts.auto_shutdown
 
--- a header of a template
-pub record IsHeader (line : List ℕ) (template : Template) : Type 0 where
+-- ---- first lines, whose words are those of their parts by `Shape`
+
+pub record HasShape (Shape : List (List ℕ) → Parts → Type 0) (line : List ℕ) (parts : Parts) : Type 0 where
+  pub fits : FitsParts parts
+  pub words : Shape (words_of line) parts
+
+-- the first line of a template
+pub record IsFirst (Shape : List (List ℕ) → Parts → Type 0) (line : List ℕ) (template : Template) : Type 0 where
   pub parts : Parts
-  pub shape : HasShape line parts
+  pub shape : HasShape Shape line parts
   pub template_is : IsTemplateOf template parts
 
--- a header's shape with parts of which there is no template
-pub record IsOutOfRange (line : List ℕ) : Type 0 where
+-- a first line with parts of which there is no template
+pub record IsOutOfRange (Shape : List (List ℕ) → Parts → Type 0) (line : List ℕ) : Type 0 where
   pub parts : Parts
-  pub shape : HasShape line parts
+  pub shape : HasShape Shape line parts
   pub unfit : CanStand parts → ⊥
 
--- a line has no header's shape
-abbrev pub IsNoHeader : List ℕ → Type 0
-IsNoHeader line = (parts : Parts) → HasShape line parts → ⊥
+-- a line of another shape
+abbrev pub IsNoFirst : (List (List ℕ) → Parts → Type 0) → List ℕ → Type 0
+IsNoFirst Shape line = (parts : Parts) → HasShape Shape line parts → ⊥
 
 -- ---- what is read
 
-abbrev pub HasHeader : List ℕ → Result Template Fault → Type 0
-HasHeader line (Ok template) = IsHeader line template
-HasHeader line (Err fault.OutOfMemory) = ⊥
-HasHeader line (Err fault.BadTemplate) = IsOutOfRange line
-HasHeader line (Err fault.BadLine) = IsNoHeader line
-HasHeader line (Err fault.ReadFault) = ⊥
-HasHeader line (Err fault.WriteFault) = ⊥
-HasHeader line (Err fault.TooLong) = ⊥
+-- the template of a first line, or what is wrong with it
+abbrev pub HasFirst : (List (List ℕ) → Parts → Type 0) → List ℕ → Result Template Fault → Type 0
+HasFirst Shape line (Ok template) = IsFirst Shape line template
+HasFirst Shape line (Err fault.OutOfMemory) = ⊥
+HasFirst Shape line (Err fault.BadTemplate) = IsOutOfRange Shape line
+HasFirst Shape line (Err fault.BadLine) = IsNoFirst Shape line
+HasFirst Shape line (Err fault.ReadFault) = ⊥
+HasFirst Shape line (Err fault.WriteFault) = ⊥
+HasFirst Shape line (Err fault.TooLong) = ⊥
+
+-- the parts that were found, or that there are none
+abbrev pub HasParts : (List (List ℕ) → Parts → Type 0) → List ℕ → Option Parts → Type 0
+HasParts Shape line None = IsNoFirst Shape line
+HasParts Shape line (Some parts) = HasShape Shape line parts
 
 abbrev pub HasNoLimits : List (List ℕ) → Type 0
 HasNoLimits words = (parts : Parts) (more : List (List ℕ)) → FitsParts parts → words ≡ limit_words parts ++ more → ⊥

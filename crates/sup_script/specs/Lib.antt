@@ -6,6 +6,7 @@ pub mod Replies
 pub mod Starter
 pub mod Faults
 pub mod Watch
+pub mod Stops
 pub mod Script
 pub mod Runs
 pub mod Causes
@@ -13,3 +14,6 @@ pub mod Sent
 pub mod Waiting
 pub mod Answering
 pub mod Pieces
+pub mod History
+pub mod HistoryReading
+pub mod Replays

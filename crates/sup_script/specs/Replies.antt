@@ -73,6 +73,11 @@ refusal_text SimpleOneForOne = line_of (codes "error" ∷ codes "simple_one_for_
 abbrev pub field_word : Field → List ℕ
 field_word (field.Word bytes) = bytes.now
 field_word (field.Number n) = decimal n
+field_word (field.Term term) = codes "shutdown:" ++ term.now
+
+-- words with a space behind each
+abbrev pub spaced : List (List ℕ) → List ℕ
+spaced words = flat_map (λ word. word ++ 32 ∷ []) words
 
 -- new is old with some bytes behind it
 abbrev pub Grows : List ℕ → List ℕ → Type 0

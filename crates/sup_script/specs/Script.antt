@@ -1,5 +1,5 @@
 -- Whole scripts, and the text of the replies to their lines.
-use Rattle.std.specs.Prelude.{◌≡◌, ℕ, ◌+◌, ◌==◌, List, [], ◌∷◌, ◌++◌, length, if◌then◌else◌}
+use Rattle.std.specs.Prelude.{◌≡◌, ℕ, ◌==◌, List, [], ◌∷◌, ◌++◌, length, if◌then◌else◌}
 use Rattle.std.specs.List.{onto_first}
 use Rattle.sup_types.specs.declared.text.Text.{Text}
 use Rattle.sup_types.specs.declared.template.Template.{Template}
@@ -15,7 +15,8 @@ use Rattle.sup_script.specs.declared.fault.Fault.{Fault}
 use Rattle.sup_script.specs.declared.fault.Fault.TheVariants as fault
 use Rattle.sup_script.specs.Words.{words_of}
 use Rattle.sup_script.specs.Lines.{LineMeans, MeansNothing}
-use Rattle.sup_script.specs.Headers.{IsHeader, IsOutOfRange, IsNoHeader}
+use Rattle.sup_script.specs.Headers.{AreHeaderWords, IsFirst, IsOutOfRange, IsNoFirst}
+use Rattle.sup_script.specs.Stops.{IsAtLine, IsCutShort}
 use Rattle.sup_script.specs.Replies.{reply_text, which_text, count_text, refusal_text}
 
 -- the lines of a text: each ends with a line feed, and the last one may lack it
@@ -62,13 +63,13 @@ AreMeant (line ∷ lines) (c ∷ cs) = LineMeans line c × AreMeant lines cs
 
 -- a line that is bad where these lines stand before it
 abbrev pub IsBadAfter : List (List ℕ) → List ℕ → Type 0
-IsBadAfter [] line = IsNoHeader line
+IsBadAfter [] line = IsNoFirst AreHeaderWords line
 IsBadAfter (header ∷ body) line = MeansNothing (words_of line)
 
 -- commands behind a header, and the text of their replies
 pub record IsAnswered (answer : Answering) (header : List ℕ) (body : List (List ℕ)) (text : List ℕ) : Type 0 where
   pub template : Template
-  pub header_is : IsHeader header template
+  pub header_is : IsFirst AreHeaderWords header template
   pub commands : List Command
   pub meant : AreMeant body commands
   pub replies : text ≡ replies_text answer template [] commands
@@ -78,29 +79,11 @@ abbrev pub Answers : Answering → List (List ℕ) → List ℕ → Type 0
 Answers answer [] text = text ≡ []
 Answers answer (header ∷ body) text = IsAnswered answer header body text
 
--- a line, and the text of the replies of those before it, which have no fault
-pub record IsAtLine (answer : Answering) (lines : List (List ℕ)) (number : ℕ) (text : List ℕ) : Type 0 where
-  pub front : List (List ℕ)
-  pub line : List ℕ
-  pub rest : List (List ℕ)
-  pub parts : lines ≡ front ++ line ∷ rest
-  pub number_is : number ≡ length front + 1
-  pub answered : Answers answer front text
-
--- a line whose reply was written in part
-pub record IsCutShort (answer : Answering) (lines : List (List ℕ)) (number : ℕ) (written : List ℕ) : Type 0 where
-  pub before : List ℕ
-  pub at : IsAtLine answer lines number before
-  pub sent : List ℕ
-  pub unsent : List ℕ
-  pub written_is : written ≡ before ++ sent
-  pub reply : Answers answer (at.front ++ at.line ∷ []) (before ++ (sent ++ unsent))
-
 -- the answering of lines stopped in a line with a fault
 abbrev pub StopsWith : Answering → List (List ℕ) → List ℕ → ℕ → Fault → Type 0
-StopsWith answer lines written number fault.OutOfMemory = IsAtLine answer lines number written
-StopsWith answer lines written number fault.BadTemplate = (at : IsAtLine answer lines number written) × (at.front ≡ []) × IsOutOfRange at.line
-StopsWith answer lines written number fault.BadLine = (at : IsAtLine answer lines number written) × IsBadAfter at.front at.line
+StopsWith answer lines written number fault.OutOfMemory = IsAtLine (Answers answer) lines number written
+StopsWith answer lines written number fault.BadTemplate = (at : IsAtLine (Answers answer) lines number written) × (at.front ≡ []) × IsOutOfRange AreHeaderWords at.line
+StopsWith answer lines written number fault.BadLine = (at : IsAtLine (Answers answer) lines number written) × IsBadAfter at.front at.line
 StopsWith answer lines written number fault.ReadFault = ⊥
-StopsWith answer lines written number fault.WriteFault = IsCutShort answer lines number written
+StopsWith answer lines written number fault.WriteFault = IsCutShort (Answers answer) lines number written
 StopsWith answer lines written number fault.TooLong = ⊥

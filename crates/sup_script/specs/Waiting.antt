@@ -1,5 +1,5 @@
 -- Replies that wait to be written.
-use Rattle.std.specs.Prelude.{◌≡◌, ◌⊎◌, ℕ, ◌+◌, ◌<◌, ◌≤◌, List, [], length, get_or, take, Option, Result, Ok, Err}
+use Rattle.std.specs.Prelude.{◌≡◌, ◌⊎◌, ℕ, ◌+◌, ◌-◌, ◌<◌, ◌≤◌, List, [], ◌++◌, length, get_or, take, Option, Result, Ok, Err}
 use Rattle.std.specs.Io.KnownBytes.{Appends, Keeps}
 use Rattle.sup_script.specs.declared.fault.Fault.TheVariants as fault
 use Rattle.sup_script.specs.declared.fault.ScriptFault.{ScriptFault}
@@ -29,3 +29,19 @@ IsFlushed bytes ends bytes' ends' old new next (Err e) = IsTorn bytes ends old n
 abbrev pub IsFlushedOrKept : List ℕ → List ℕ → List ℕ → List ℕ → Option (List ℕ) → Option (List ℕ) → ℕ → Result (Unit {0}) ScriptFault → Type 0
 IsFlushedOrKept bytes ends bytes' ends' old new next (Ok u) = ((bytes' ≡ bytes) × (ends' ≡ ends) × Keeps old new) ⊎ ((bytes' ≡ []) × (ends' ≡ []) × Appends old new bytes)
 IsFlushedOrKept bytes ends bytes' ends' old new next (Err e) = IsTorn bytes ends old new next e
+
+-- ---- what the waiting replies are; `Texts` tells which text of replies some lines have
+
+-- the replies up to a mark are those of the lines up to it
+pub record IsMark (Texts : List (List ℕ) → List ℕ → Type 0) (front : List (List ℕ)) (written waiting : List ℕ) (lines end : ℕ) : Type 0 where
+  pub inside : end ≤ length waiting
+  pub answered : Texts (take lines front) (written ++ take end waiting)
+
+-- the replies of the last lines wait, and their ends are marked
+pub record IsQueue (Texts : List (List ℕ) → List ℕ → Type 0) (front : List (List ℕ)) (written waiting ends : List ℕ) : Type 0 where
+  pub whole : Texts front (written ++ waiting)
+  pub first : ℕ
+  pub count : first + length ends ≡ length front
+  pub start : Texts (take first front) written
+  pub marks : (k : ℕ) → k < length ends → IsMark Texts front written waiting (first + k + 1) (get_or ends k 0)
+  pub last : get_or ends (length ends - 1) 0 ≡ length waiting

@@ -1,10 +1,9 @@
-//! The first line of a script.
+//! The first lines of texts.
 
 ghost use Rattle.std.specs.Prelude.{◌≡◌, List, ℕ, [], ◌∷◌, ◌++◌, ◌↔◌, IsOk, IfOk, MatchOption};
 ghost use Rattle.sup_script.specs.Words.{words_left};
 ghost use Rattle.sup_script.specs.Tokens.{mark_word, auto_word};
-ghost use Rattle.sup_script.specs.Headers.{HasHeader, HasShape, IsPlain, FitsParts, CanStand, IsTemplateOf, limit_words, HasNoLimits, HasNoShutdown};
-ghost use Rattle.sup_script.specs.declared.header.Parts.{Parts as SomeParts};
+ghost use Rattle.sup_script.specs.Headers.{AreHeaderWords, HasFirst, HasParts, IsPlain, FitsParts, CanStand, IsTemplateOf, limit_words, HasNoLimits, HasNoShutdown};
 
 use crate::fault::Fault;
 use crate::tokens::{after_word, next_number, read_auto, read_kind, read_mark, read_restart};
@@ -46,7 +45,7 @@ impl Parts {
 
 /// The template of a script's header, or what is wrong with the line.
 pub fn read_header(line: &[u8]) -> Result<Template, Fault>
-    ensures { HasHeader line.now result }
+    ensures { HasFirst AreHeaderWords line.now result }
 {
     let parts = match read_shape(line) {
         Some(parts) => parts,
@@ -60,7 +59,7 @@ pub fn read_header(line: &[u8]) -> Result<Template, Fault>
 
 /// The parts that a line of a header's shape names.
 fn read_shape(line: &[u8]) -> Option<Parts>
-    ensures { MatchOption result ((parts : SomeParts) → HasShape line.now parts → ⊥) (λ parts. HasShape line.now parts) }
+    ensures { HasParts AreHeaderWords line.now result }
 {
     let rest = after_word(Some(line), b"sup")?;
     let (parts, rest) = next_limits(rest)?;

@@ -1,10 +1,18 @@
 //! Laws of the definitions alone: the functions do nothing, and their contracts are the laws.
 
 ghost use Rattle.std.specs.Prelude.{◌≡◌, ℕ, List};
+ghost use Rattle.sup_types.specs.declared.template.Template.{Template};
+ghost use Rattle.sup_types.specs.declared.history.Entry.{Entry};
 ghost use Rattle.sup_script.specs.declared.command.Command.{Command};
+ghost use Rattle.sup_script.specs.History.{Spells, IsSameTemplate};
 ghost use Rattle.sup_script.specs.Lines.{LineMeans};
 
 /// No line spells two commands.
 pub fn one_command()
     ensures { (line : List ℕ) (c d : Command) → LineMeans line c → LineMeans line d → c ≡ d }
+{}
+
+/// No history text, of either version, spells two values.
+pub fn one_value()
+    ensures { (bytes : List ℕ) (t u : Template) (es fs : List Entry) → Spells bytes t es → Spells bytes u fs → IsSameTemplate t u × (es ≡ fs) }
 {}

@@ -1,15 +1,20 @@
-//! Scripts: bytes in, the text of each reply out.
+//! Scripts and history texts: bytes in, the text of each reply out.
 //!
 //! A script is a header, which gives the template, and a line for each command. `run` reads one from any reader and
 //! writes the reply of each command to any writer. It streams: the lines that one read brought are answered, and their
 //! replies written, before the next read, so whoever writes the script line by line has each answer at once, and memory
 //! does not grow with the script. It takes no memory for a line but for the rows of `which`.
 //!
-//! What the layer above may rely on is the contract of `run`: which bytes were read, which text was written, and at a
-//! fault which line it stands in and which replies were written before. It speaks of the lines' meaning (`LineMeans`),
-//! of the replies' text and of the supervisor's account of the history alone. `run_watched` is the same run with two
-//! witnesses, by which its contract also names the cause of each fault of reading or writing. `laws` has laws of the
-//! definitions alone.
+//! A history text is a template and the entries of a history, with what the start function answered to each.
+//! `read_history` reads one, `write_history` writes one, and `replay` writes the reply of each entry from an empty
+//! supervisor.
+//!
+//! What the layer above may rely on are the contracts of `run` and `replay`: which bytes were read, which text was
+//! written, and at a fault which line it stands in and which replies were written before. They speak of what lines mean
+//! (`LineMeans`, `Spells`), of the replies' text and of the supervisor's account of the history alone. `run_watched` and
+//! `replay_watched` are the same with two witnesses, by which their contracts also name the cause of each fault of
+//! reading or writing. `laws` has laws of the definitions alone: no line means two commands, and no text spells two
+//! values, so what was written is read again.
 //!
 //! ```text
 //! let mut script = b"sup permanent worker 1 5 10\nstart 0 a\nexit 1 1 normal\nwhich\n".as_slice();
@@ -24,9 +29,13 @@ mod command;
 mod entered;
 mod fault;
 mod header;
+mod history;
+mod history_text;
+mod input;
 pub mod laws;
 mod lines;
 mod outbox;
+mod replays;
 mod reply;
 mod script;
 mod send;
@@ -38,6 +47,9 @@ mod words;
 
 pub use command::{Command, read_line};
 pub use fault::{Fault, ScriptFault};
+pub use history::{History, HistoryFault, read_history};
+pub use history_text::write_history;
+pub use replays::{replay, replay_watched};
 pub use reply::write_reply;
 pub use script::{run, run_watched};
 pub use starter::ScriptStarter;

@@ -4,7 +4,7 @@ ghost use Rattle.std.specs.Prelude.{◌≡◌, ◌++◌, [], ◌∷◌, map, OnO
 ghost use Rattle.std.specs.List.{join_with_byte};
 ghost use Rattle.std.specs.Fmt.{decimal};
 ghost use Rattle.sup_core.specs.State.{MatchSeen};
-ghost use Rattle.sup_script.specs.Replies.{line_of, reply_text, row_text, rows_text, which_text, count_text, refusal_text, status_word, field_word, Grows};
+ghost use Rattle.sup_script.specs.Replies.{line_of, reply_text, row_text, rows_text, which_text, count_text, refusal_text, status_word, field_word, spaced, Grows};
 
 use std::alloc::{AllocError, Allocator};
 use sup_types::{Counts, OutOfMemory, Refusal, Reply, Row, Seen, Status};
@@ -14,6 +14,8 @@ use sup_types::{Counts, OutOfMemory, Refusal, Reply, Row, Seen, Status};
 pub enum Field<'a> {
     Word(&'a [u8]),
     Number(u64),
+    /// `shutdown:` with these bytes behind it.
+    Term(&'a [u8]),
 }
 
 /// Appends the text of a reply, with its line feed. After a refusal `out` is as before.
@@ -189,7 +191,7 @@ fn append_pair<A: Allocator>(
 }
 
 /// Appends the words of a line, with a space between each two, and a line feed.
-fn append_line<A: Allocator>(out: &mut Vec<u8, A>, fields: &[Field]) -> Result<(), AllocError>
+pub fn append_line<A: Allocator>(out: &mut Vec<u8, A>, fields: &[Field]) -> Result<(), AllocError>
     ensures ok { OnOk result (out.new.items ≡ out.old.items ++ line_of (map field_word fields.now)) }
     ensures err { OnErr result (Grows out.old.items out.new.items) }
 {
@@ -203,6 +205,17 @@ fn append_line<A: Allocator>(out: &mut Vec<u8, A>, fields: &[Field]) -> Result<(
     Ok(())
 }
 
+/// Appends words, each with a space behind it.
+pub fn append_spaced<A: Allocator>(out: &mut Vec<u8, A>, fields: &[Field]) -> Result<(), AllocError>
+    ensures ok { OnOk result (out.new.items ≡ out.old.items ++ spaced (map field_word fields.now)) }
+{
+    for field in fields {
+        append_field(out, field)?;
+        out.push(b' ')?;
+    }
+    Ok(())
+}
+
 fn append_field<A: Allocator>(out: &mut Vec<u8, A>, field: &Field) -> Result<(), AllocError>
     ensures ok { OnOk result (out.new.items ≡ out.old.items ++ field_word field.now) }
     ensures err { OnErr result (Grows out.old.items out.new.items) }
@@ -210,6 +223,10 @@ fn append_field<A: Allocator>(out: &mut Vec<u8, A>, field: &Field) -> Result<(),
     match field {
         Field::Word(bytes) => out.extend_from_slice(bytes),
         Field::Number(number) => append_number(out, *number),
+        Field::Term(bytes) => {
+            out.extend_from_slice(b"shutdown:")?;
+            out.extend_from_slice(bytes)
+        }
     }
 }
 

@@ -1,6 +1,9 @@
 //! Scripts and history texts, from bytes to bytes.
+ghost use Rattle.std.specs.Prelude.{◌≤◌, length};
+
 mod failing;
 mod fakes;
+mod histories;
 mod memory;
 mod scripts;
 mod values;
@@ -13,6 +16,12 @@ use std::process::Abort;
 const FAILED_RESTART: (&str, &str) = (
     "sup permanent worker 5 10 10\nstart 0 gap:5:9\nexit 6 1 x\ncount\nretry 7 1\nretry 9 1\ncount\n",
     "ok 1\nrestarting 1 1\ncount specs 1 active 0 supervisors 0 workers 1\nrestarting 1 1\nrestarted 1 2\ncount specs 1 active 1 supervisors 0 workers 1\n",
+);
+
+/// A history text, and what its replay writes.
+const HISTORY: (&str, &str) = (
+    "history 1 permanent worker 1 5 10\n1 0 0 start a running\n2 0 3 exit 1 x ignore\n1 1 4 terminate 1 ignore\n",
+    "ok 1\nignored 1\nerror not_found\n",
 );
 
 /// Runs a script that comes in pieces of several sizes.
@@ -42,4 +51,10 @@ fn expect_end(rt: &impl Abort, ended: Result<(), ScriptFault>, fault: Option<(Fa
         Some((fault, line)) => Err(ScriptFault { fault, line }),
     };
     assert!(rt; ended == want);
+}
+
+fn line_feeds(bytes: &[u8]) -> usize
+    ensures { result ≤ length bytes.now }
+{
+    bytes.iter().filter(|byte| **byte == b'\n').count()
 }

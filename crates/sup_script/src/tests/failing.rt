@@ -1,6 +1,6 @@
 //! Readers and writers that fail, and texts that are too long.
 use super::fakes::{Endless, Narrow, Pieces, Stuck};
-use super::{FAILED_RESTART, expect_end};
+use super::{FAILED_RESTART, expect_end, line_feeds};
 use crate::{Fault, ScriptStarter, run};
 use std::test::Fail;
 
@@ -71,24 +71,19 @@ fn refuses_a_text_that_is_too_long(rt: HostRuntime) -> Result<(), Fail> {
     Ok(())
 }
 
-/// How many bytes the replies of the first so many lines are: each line of the script but its header has one.
+/// How many bytes the replies to the lines of the first so many bytes of the script are: each line but the header has a
+/// reply of one line.
 fn reply_bytes(replies: &[u8], lines: usize) -> usize {
     let mut left = lines;
-    let mut count = 0;
-    for byte in replies {
+    for (i, byte) in replies.iter().enumerate() {
         if left <= 1 {
-            return count;
+            return i;
         }
-        count += 1;
         if *byte == b'\n' {
             left -= 1;
         }
     }
-    count
-}
-
-fn line_feeds(bytes: &[u8]) -> usize {
-    bytes.iter().filter(|byte| **byte == b'\n').count()
+    replies.len()
 }
 
 #[test]

@@ -1,0 +1,84 @@
+-- Whole replays.
+use Rattle.std.proofs.Common.{◌≡◌, ℕ, ◌+◌, ◌≤◌, List, [], ◌∷◌, length, Option, Result, Ok, Err, refl, arith, inl, inr}
+use Rattle.std.proofs.KnownBytes.{Appends-nil}
+use Rattle.sup_types.specs.declared.template.Template.{Template}
+use Rattle.sup_types.specs.declared.history.Entry.{Entry}
+use Rattle.sup_script.specs.declared.fault.Fault.{Fault}
+use Rattle.sup_script.specs.declared.fault.Fault.TheVariants as fault
+use Rattle.sup_script.specs.declared.fault.ScriptFault.{ScriptFault}
+use Rattle.sup_script.specs.Watch.{Reading, Writing}
+use Rattle.sup_script.specs.Causes.{HasReadCause, HasCause}
+use Rattle.sup_script.specs.History.{Spells}
+use Rattle.sup_script.specs.HistoryReading.{HistoryStops}
+use Rattle.sup_script.specs.Replays.{IsRead, RepliesGive, IsReplay}
+use Rattle.sup_script.specs.Runs.{IsEndedPart}
+use Rattle.sup_script.specs.Script.{lines_of}
+use Rattle.sup_script.proofs.Histories.{few_entries}
+
+module _ (remaining left contents : Option (List ℕ)) (given : List ℕ) where
+  -- the reading had a fault
+  pub input_faulty : (f : Fault) (number : ℕ) → IsRead remaining left given (Err f) → (front : List ℕ) × IsEndedPart given front × (number ≡ length (lines_of front) + 1) → IsReplay remaining left contents contents (Err (record { fault = f; line = number }))
+  input_faulty f number r at = record {
+    given = given;
+    past = r.past;
+    written = [];
+    short = r.short;
+    took = r.took;
+    wrote = Appends-nil contents;
+    outcome = inl (record { ended = r.ended; front = at.0; lines = at.1; line_is = at.2; none = refl });
+  }
+
+  module _ (r : IsRead remaining left given (Ok tt)) where
+    -- the text has one
+    pub text_faulty : (e : ScriptFault) → HistoryStops given e.line e.fault → IsReplay remaining left contents contents (Err e)
+    text_faulty e stops = record {
+      given = given;
+      past = r.past;
+      written = [];
+      short = r.short;
+      took = r.took;
+      wrote = Appends-nil contents;
+      outcome = inr (inl (record { ended = r.ended; stops = stops; none = refl }));
+    }
+
+    -- the replies were made and written, or not
+    pub replied : (held : Option (List ℕ)) (template : Template) (entries : List Entry) (s : Spells given template entries) (result : Result (Unit {0}) ScriptFault) → RepliesGive (s.first ∷ s.body) template entries contents held result → IsReplay remaining left contents held result
+    replied held template entries s (Ok u) g = record {
+      given = given;
+      past = r.past;
+      written = _;
+      short = r.short;
+      took = r.took;
+      wrote = g;
+      outcome = record { ended = r.ended; template = template; entries = entries; spelled = s; written_is = refl };
+    }
+    replied held template entries s (Err e) g = record {
+      given = given;
+      past = r.past;
+      written = g.0;
+      short = r.short;
+      took = r.took;
+      wrote = g.1;
+      outcome = inr (inr (record { ended = r.ended; template = template; entries = entries; spelled = s; stops = rw s.lines g.2 }));
+    }
+
+    pub room_for_all : (template : Template) (entries : List Entry) → Spells given template entries → length entries ≤ template.entries
+    room_for_all template entries s = let few = few_entries given template entries s in omega (arith, few, s.first_is.template_is.entries, r.short)
+
+-- ---- causes
+
+pub read_cause : (reading : Reading) (writing : Writing) (f : Fault) → HasReadCause reading f → HasCause reading writing f
+read_cause reading writing fault.OutOfMemory h = tt
+read_cause reading writing fault.BadTemplate h = tt
+read_cause reading writing fault.BadLine h = tt
+read_cause reading writing fault.ReadFault h = h
+read_cause reading writing fault.WriteFault h = absurd h
+read_cause reading writing fault.TooLong h = h
+
+pub text_cause : (reading : Reading) (writing : Writing) (bytes : List ℕ) (number : ℕ) (f : Fault) → HistoryStops bytes number f → HasCause reading writing f
+text_cause reading writing bytes number fault.OutOfMemory h = tt
+text_cause reading writing bytes number fault.BadTemplate h = tt
+text_cause reading writing bytes number fault.BadLine h = tt
+text_cause reading writing bytes number fault.ReadFault h = absurd h
+text_cause reading writing bytes number fault.WriteFault h = absurd h
+text_cause reading writing bytes number fault.TooLong h = absurd h
