@@ -1,4 +1,4 @@
-//! `supload`: a supervisor at the command line. It answers a script on standard input.
+//! `supload`: a supervisor at the command line. It answers a script or replays a history on standard input.
 //!
 //! The whole program is [`program::run_words`], over any reader and writers; `main` only collects the words and the
 //! three streams.

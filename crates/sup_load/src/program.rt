@@ -2,6 +2,7 @@
 
 ghost use Rattle.std.specs.Prelude.{◌≡◌, Result};
 ghost use Rattle.sup_script.specs.Runs.{IsRun};
+ghost use Rattle.sup_script.specs.Replays.{IsReplay};
 ghost use Rattle.sup_script.specs.Starter.{script_answer};
 ghost use Rattle.sup_script.specs.declared.fault.ScriptFault.{ScriptFault};
 ghost use Rattle.sup_load.specs.Statuses.{status_of};
@@ -11,7 +12,7 @@ use clap::error::{Error, ErrorKind};
 use std::alloc::Global;
 use std::convert::AsStr;
 use std::io::{Read, Write};
-use sup_script::{Fault, ScriptFault, ScriptStarter, run};
+use sup_script::{Fault, ScriptFault, ScriptStarter, replay, run};
 
 /// How the program ended.
 #[derive(Clone, Copy, Debug, PartialEq, Eq)]
@@ -65,6 +66,7 @@ pub fn run_words<S: AsStr, R: Read, W: Write, E: Write>(
 ) -> u8 {
     let status = match read_words(alloc, words) {
         Ok(Order::Script) => answer_script(alloc, reader, out, err),
+        Ok(Order::Replay) => answer_history(alloc, reader, out, err),
         Err(error) => show(&error, out, err),
     };
     status.number()
@@ -82,6 +84,20 @@ fn answer_script<R: Read, W: Write, E: Write>(
         × (result ≡ status_of outcome) }
 {
     told(run(alloc, reader, out, &ScriptStarter), err)
+}
+
+/// Replays a history text. The status is that of the outcome of its replay.
+fn answer_history<R: Read, W: Write, E: Write>(
+    alloc: Global,
+    reader: &mut R,
+    out: &mut W,
+    err: &mut E,
+) -> Status
+    ensures { (outcome : Result (Unit {0}) ScriptFault)
+        × IsReplay (R.remaining reader.old) (R.remaining reader.new) (W.contents out.old) (W.contents out.new) outcome
+        × (result ≡ status_of outcome) }
+{
+    told(replay(alloc, reader, out), err)
 }
 
 /// Tells the fault of a run, if there is one, by a line on standard error.

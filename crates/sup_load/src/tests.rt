@@ -1,5 +1,6 @@
 //! The program over readers and writers of memory: what it writes, and its exit status.
 mod bad_input;
+mod histories;
 mod scripts;
 mod words;
 

@@ -10,6 +10,8 @@ use std::convert::AsStr;
 pub enum Order {
     /// To answer a script.
     Script,
+    /// To replay a history text.
+    Replay,
 }
 
 const ABOUT: &str =
@@ -39,6 +41,23 @@ A moment is a whole number of seconds. An argument `ignore` is answered by no ch
 Example:
   printf 'sup permanent worker 1 5 10\\nstart 0 a\\nexit 1 1 normal\\nwhich\\n' | supload script";
 
+const REPLAY: &str =
+    "Reads a history text on standard input and writes the reply of each entry on standard output";
+
+const REPLAY_HELP: &str =
+    "Reads a history text on standard input and writes the reply of each entry, one a line, on standard output.
+
+The first line is `history 2`, a restart type (permanent, transient, temporary), a kind (worker, supervisor), the
+intensity (0 to 1000), the period in seconds (1 to 86400), the most rows (1 to 65536), a mark (plain, significant)
+and an automatic shutdown (never, any, all); or `history 1` with all but the last two.
+
+Each further line is an entry: HANDLE SERIAL MOMENT OPERATION ANSWER. The operation is `start TEXT`,
+`exit NUMBER REASON`, `retry NUMBER`, `terminate NUMBER` or `stop`; the answer is what the start function answered:
+`running`, `ignore` or `failed CODE`. Every line ends with a line feed. Nothing is written before all was read.
+
+Example:
+  printf 'history 1 permanent worker 1 5 10\\n1 0 0 start a running\\n' | supload replay";
+
 const STATUSES: &str = "Exit status:
   0  all was answered
   2  the words or a line are wrong, or the input is too long
@@ -53,6 +72,7 @@ pub fn read_words<S: AsStr>(alloc: Global, words: &[S]) -> Result<Order, Error> 
     let matches = command.try_get_matches_from_mut(words)?;
     match matches.subcommand() {
         Some(("script", _)) => Ok(Order::Script),
+        Some(("replay", _)) => Ok(Order::Replay),
         _ => {
             let mut command = Command::new(alloc, "supload");
             Err(command.error(ErrorKind::InvalidSubcommand, "there is no such command")?)
@@ -65,10 +85,15 @@ fn command<'a>(alloc: Global) -> Result<Command<'a>, AllocError> {
         .about(SCRIPT)
         .long_about(SCRIPT_HELP)
         .after_help(STATUSES);
+    let replay = Command::new(alloc, "replay")
+        .about(REPLAY)
+        .long_about(REPLAY_HELP)
+        .after_help(STATUSES);
     Command::new(alloc, "supload")
         .bin_name("supload")?
         .about(ABOUT)
         .after_help(STATUSES)
         .subcommand_required(true)
-        .subcommand(script)
+        .subcommand(script)?
+        .subcommand(replay)
 }

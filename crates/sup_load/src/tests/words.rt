@@ -9,13 +9,11 @@ fn tells(text: &[u8], part: &str) -> bool {
 }
 
 #[test]
-fn a_script_is_ordered(rt: HostRuntime) {
-    assert!(rt;
-        matches!(
-            read_words(rt.alloc(), &["supload", "script"]),
-            Ok(Order::Script)
-        )
-    );
+fn a_command_is_ordered(rt: HostRuntime) {
+    let script = read_words(rt.alloc(), &["supload", "script"]);
+    assert!(rt; matches!(script, Ok(Order::Script)));
+    let replay = read_words(rt.alloc(), &["supload", "replay"]);
+    assert!(rt; matches!(replay, Ok(Order::Replay)));
 }
 
 #[test]
@@ -25,6 +23,7 @@ fn refused_words_are_told_on_standard_error(rt: HostRuntime) {
         &["supload", "scripts"],
         &["supload", "--no"],
         &["supload", "script", "file"],
+        &["supload", "replay", "file"],
         &["supload", "script", "--fast"],
     ] {
         let outcome = outcome_of(&rt, words, b"");
@@ -40,6 +39,7 @@ fn help_goes_to_standard_output(rt: HostRuntime) {
         (["supload", "--help"].as_slice(), "script"),
         (&["supload", "-h"], "Exit status:"),
         (&["supload", "script", "--help"], "gap:A:B"),
+        (&["supload", "replay", "--help"], "history 2"),
         (&["supload", "help", "script"], "gap:A:B"),
     ] {
         let outcome = outcome_of(&rt, words, b"");
