@@ -3,11 +3,13 @@ use Rattle.std.proofs.Common.{◌≡◌, ℕ, zero, suc, ◌+◌, ◌-◌, ◌�
 use Rattle.std.specs.Prelude.{nat_le, not, ◌&&◌, ◌==◌, slice_get}
 use Rattle.std.specs.List.{fold, filter}
 use Rattle.std.specs.List.Sorted.{IsNonDecreasing}
-use Rattle.std.proofs.lemmas.Bool.{le-leb, lt-leb, leb-true, cases_Bool, cond-true, cond-false, cases_lt, eqb-true, eqb-false, ne_eqb}
+use Rattle.std.proofs.lemmas.Option.{slice_get_past}
+use Rattle.circular_buffer.proofs.Places.{slice_get-drop, slice_get-some, slice_get-append_left, slice_get-last}
+use Rattle.std.proofs.lemmas.Bool.{eq-eqb, le-leb, lt-leb, leb-true, cases_Bool, cond-true, cond-false, cases_lt, eqb-true, eqb-false, ne_eqb}
 use Rattle.std.proofs.lemmas.List.Elements.{filter-append}
 use Rattle.std.proofs.lemmas.List.Sums.{length-filter, fold_push, count_by-le-length}
 use Rattle.std.proofs.lemmas.List.Sorted.{IsNonDecreasingBy-push, IsNonDecreasingBy-drop}
-use Rattle.sup_window.specs.Attempts.{still_counts, attempts_within, is_borne, greatest, keep_last, Recent, HasSeen, with_attempt, front_counts}
+use Rattle.sup_window.specs.Attempts.{still_counts, attempts_within, is_borne, greatest, keep_last, Recent, HasSeen, with_attempt, front_counts, counts_at}
 
 pub keep_last-short : {X : Type 0} (n : ℕ) (xs : List X) → length xs ≤ n → keep_last n xs ≡ xs
 keep_last-short n xs short = let none : length xs - n ≡ 0 = omega arith in ap (λ k. drop k xs) none
@@ -184,6 +186,42 @@ is_borne-full intensity period at moments rising low =
     ∙ full_decides intensity period at moments kept (IsNonDecreasingBy-drop (λ m. m) (length all - (intensity + 1)) all rises)
     (omega (arith, length-drop (length all - (intensity + 1)) all))
     (elim (kept_count p up (intensity + 1) all rises) [ inl e ↦ inl (e ∙ more) | inr (a, b) ↦ inr (a, omega (arith, more)) ])
+
+-- fewer moments than may be borne leave room for one more
+pub is_borne-few : (intensity period at : ℕ) (moments : List ℕ) → IsNonDecreasing moments → greatest moments ≤ at → length moments < intensity
+    → is_borne intensity period moments at ≡ true
+is_borne-few intensity period at moments rising low few =
+    let all = moments ++ at ∷ [] in
+    let kept = keep_last (intensity + 1) all in
+    let long = length-append moments (at ∷ []) in
+    let short : length kept ≡ intensity + 1 → ⊥ = λ e. omega (arith, e, few, long, length-drop (length all - (intensity + 1)) all) in
+    is_borne-full intensity period at moments rising low
+    ∙ ap (λ b. not (b && front_counts period at (slice_get kept 0))) (ne_eqb (length kept) (intensity + 1) short)
+
+-- with as many, the moment that would then be the oldest decides
+pub is_borne-oldest : (intensity period at : ℕ) (moments : List ℕ) → IsNonDecreasing moments → greatest moments ≤ at → intensity ≤ length moments
+    → length moments ≤ intensity + 1 → is_borne intensity period moments at ≡ not (counts_at period at (slice_get moments (length moments - intensity)))
+is_borne-oldest intensity period at moments rising low many most =
+    let all = moments ++ at ∷ [] in
+    let kept = keep_last (intensity + 1) all in
+    let long = length-append moments (at ∷ []) in
+    let full : length kept ≡ intensity + 1 = omega (arith, many, most, long, length-drop (length all - (intensity + 1)) all) in
+    let place : length moments - intensity ≡ (length all - (intensity + 1)) + 0 = omega (arith, long, many) in
+    is_borne-full intensity period at moments rising low
+    ∙ ap (λ b. not (b && front_counts period at (slice_get kept 0))) (eq-eqb (length kept) (intensity + 1) full)
+    ∙ ap (λ o. not (front_counts period at o)) (slice_get-drop (length all - (intensity + 1)) all 0 (length moments - intensity) place)
+    ∙ ap not (oldest (cases_lt (length moments - intensity) (length moments)))
+  where
+    oldest : ((length moments - intensity) < length moments) ⊎ (length moments ≤ (length moments - intensity))
+        → front_counts period at (slice_get (moments ++ at ∷ []) (length moments - intensity)) ≡ counts_at period at (slice_get moments (length moments - intensity))
+    oldest (inl within) =
+        let there = slice_get-some moments (length moments - intensity) within in
+        ap (front_counts period at) (slice_get-append_left moments (at ∷ []) (length moments - intensity) within ∙ there.1)
+        ∙ sym (ap (counts_at period at) there.1)
+    oldest (inr past) =
+        ap (front_counts period at) (slice_get-last moments at (length moments - intensity) (omega (arith, past)))
+        ∙ le-leb at (at + period) (omega arith)
+        ∙ sym (ap (counts_at period at) (slice_get_past moments (length moments - intensity) past))
 
 greatest_from : (a b : ℕ) (xs : List ℕ) → a ≤ b → fold max a xs ≤ fold max b xs
 greatest_from a b [] below = below

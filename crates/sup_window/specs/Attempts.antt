@@ -1,5 +1,5 @@
 -- Attempts to restart, by their moments.
-use Rattle.std.specs.Prelude.{◌≡◌, ℕ, ◌+◌, ◌-◌, false, Option, Some, None, List, [], ◌∷◌, ◌++◌, Bool, nat_le, max, drop, length, fold, count_by}
+use Rattle.std.specs.Prelude.{◌≡◌, ℕ, ◌+◌, ◌-◌, true, false, Option, Some, None, List, [], ◌∷◌, ◌++◌, Bool, nat_le, max, drop, length, fold, count_by}
 use Rattle.std.specs.List.Sorted.{IsNonDecreasing}
 
 -- whether an attempt made at one moment still counts at another
@@ -45,6 +45,11 @@ with_attempt window moment =
       latest = at;
       moments = keep_last (window.intensity + 1) (window.moments ++ at ∷ []);
     }
+
+-- whether a moment still counts; where there is none it is that of the attempt itself
+abbrev pub counts_at : ℕ → ℕ → Option ℕ → Bool
+counts_at period at None = true
+counts_at period at (Some made_at) = still_counts period at made_at
 
 -- whether there is an oldest moment, and it still counts
 abbrev pub front_counts : ℕ → ℕ → Option ℕ → Bool

@@ -16,7 +16,7 @@
 
 ghost use Rattle.std.specs.Prelude.{◌≡◌, ◌≤◌, ℕ, ◌+◌, List, [], ◌∷◌, ◌++◌, IfOk, max, length, slice_get, ◌==◌, ◌&&◌};
 ghost use Rattle.circular_buffer.specs.Buffer.{buffer};
-ghost use Rattle.sup_window.specs.Attempts.{HasSeen, is_borne, with_attempt, still_counts, greatest, keep_last, front_counts};
+ghost use Rattle.sup_window.specs.Attempts.{HasSeen, is_borne, with_attempt, still_counts, greatest, keep_last, front_counts, counts_at};
 
 #[cfg(test)]
 mod tests;
@@ -80,17 +80,18 @@ impl<A: Allocator> Window<A> {
         self.decides(moment)
     }
 
+    // With one attempt more the ring would be full of moments that still count, or not, by its oldest one then: so the
+    // answer takes one look, however many attempts are kept.
     fn decides(&self, moment: u64) -> bool
         ensures { result ≡ is_borne self.now.intensity self.now.period self.now.moments (max self.now.latest moment) }
     {
         let at = self.latest.max(moment);
-        let period = self.period;
-        let attempts_within = self
-            .moments
-            .iter()
-            .filter(|made_at| still_counts(period, at, **made_at))
-            .count();
-        (attempts_within as u64) < self.intensity
+        let kept = self.moments.len() as u64;
+        if kept < self.intensity {
+            return true;
+        }
+        let oldest = (kept - self.intensity) as usize;
+        !counts_at(&self.moments, oldest, self.period, at)
     }
 
     /// Notes an attempt, and answers whether it is borne; one that is not counts as well. A moment lower than that of an
@@ -112,6 +113,21 @@ impl<A: Allocator> Window<A> {
     {
         self.latest = self.latest.max(moment);
         !push_moment(&mut self.moments, self.period, self.latest)
+    }
+}
+
+/// Whether the moment at this place still counts. Behind the last one stands the attempt that is asked about, which does.
+fn counts_at<A: Allocator>(
+    moments: &HeapCircularBuffer<u64, A>,
+    index: usize,
+    period: u64,
+    at: u64,
+) -> bool
+    ensures { result ≡ counts_at period at (slice_get moments.now.items index) }
+{
+    match moments.get(index) {
+        None => true,
+        Some(made_at) => still_counts(period, at, *made_at),
     }
 }
 
