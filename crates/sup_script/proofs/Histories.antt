@@ -99,8 +99,8 @@ module _ (text rest : List ℕ) (template : Template) (entries : List Entry) (nu
   abbrev fault_at : IsFaultAt text number
   fault_at = record { front = r.done; rest = rest; parts = r.parts; full = r.full; right = right; number_is = omega (arith, r.number_is, ap length r.lines) }
 
-  pub no_room : HistoryStops text number fault.OutOfMemory
-  no_room = fault_at
+  pub no_room : (line more : List ℕ) (e : Entry) → IsSplit 10 rest line more → EntryMeans line e → HistoryStops text number fault.OutOfMemory
+  no_room line more e split means = (fault_at, line, more, e, split, means)
 
   pub bad_line : 0 < length rest → ((line more : List ℕ) → IsSplit 10 rest line more → MeansNoEntry line) → HistoryStops text number fault.BadLine
   bad_line some none = (fault_at, bad) where

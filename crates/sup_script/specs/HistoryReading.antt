@@ -37,9 +37,9 @@ abbrev pub IsBadRest : List (List ℕ) → List ℕ → Type 0
 IsBadRest [] rest = (line more : List ℕ) → IsSplit 10 rest line more → IsNoFirst AreFirstWords line
 IsBadRest (first ∷ body) rest = (0 < length rest) × ((line more : List ℕ) → IsSplit 10 rest line more → MeansNoEntry line)
 
--- the reading stopped with this fault; memory can be refused anywhere
+-- the reading stopped with this fault; memory can be refused for any entry that was read
 abbrev pub HistoryStops : List ℕ → ℕ → Fault → Type 0
-HistoryStops bytes number fault.OutOfMemory = IsFaultAt bytes number
+HistoryStops bytes number fault.OutOfMemory = (at : IsFaultAt bytes number) × (line : List ℕ) × (more : List ℕ) × (e : Entry) × IsSplit 10 at.rest line more × EntryMeans line e
 HistoryStops bytes number fault.BadTemplate = (at : IsFaultAt bytes number) × (at.front ≡ []) × (line : List ℕ) × (more : List ℕ) × IsSplit 10 at.rest line more × IsOutOfRange AreFirstWords line
 HistoryStops bytes number fault.BadLine = (at : IsFaultAt bytes number) × IsBadRest (lines_of at.front) at.rest
 HistoryStops bytes number fault.ReadFault = ⊥

@@ -73,7 +73,7 @@ fn write_reply_leaves_the_text_as_it_was(rt: HostRuntime) -> Result<(), Fail> {
 fn replay_writes_whole_replies_whatever_is_refused(rt: HostRuntime) -> Result<(), Fail> {
     let replies = HISTORY.1.as_bytes();
     let (mut refused, mut done) = (false, false);
-    for size in 0..96usize {
+    for size in 0..256usize {
         let heap = LocalHeap::new(rt.alloc(), 256 + size * 2048)?;
         let mut reader = HISTORY.0.as_bytes();
         let mut out = Vec::new(rt.alloc());

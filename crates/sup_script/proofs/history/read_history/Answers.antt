@@ -20,7 +20,9 @@ returns-in-None-next_entry g c =
     bad_line c.args.text.now c.loop-rest.rest.now c.in-Ok.template c.loop-rest.entries.items c.loop-rest.line c.loop-rest.invariant.so_far (grind (arith, nat_tests)) c.in-None-next_entry.ensures
 
 pub returns-then-is_err : goal.returns-then-is_err
-returns-then-is_err g c = no_room c.args.text.now c.loop-rest.rest.now c.in-Ok.template c.loop-rest.entries.items c.loop-rest.line c.loop-rest.invariant.so_far
+returns-then-is_err g c =
+    let found = c.in-Some-next_entry.ensures in
+    no_room c.args.text.now c.loop-rest.rest.now c.in-Ok.template c.loop-rest.entries.items c.loop-rest.line c.loop-rest.invariant.so_far found.0 c.in-Some-next_entry.found.1.now c.in-Some-next_entry.found.0 found.1 found.2
 
 pub loop-rest-preserved : goal.loop-rest-preserved
 loop-rest-preserved g c =
