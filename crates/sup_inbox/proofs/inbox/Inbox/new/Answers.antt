@@ -1,0 +1,5 @@
+use Rattle.sup_inbox.proofs.Moves.{begins}
+use Rattle.sup_inbox.proofs.inbox.Inbox.new.Goals as goal
+
+pub ruled-requires-clause-rule : goal.ruled-requires-clause-rule
+ruled-requires-clause-rule g c = begins
