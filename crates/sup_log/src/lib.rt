@@ -1,21 +1,27 @@
-//! The published history of a supervisor: one press publishes an operation log into two copies, and any number of lenses
-//! look at one of them without a lock.
+//! The published history of a supervisor: one press publishes entries into two copies, and any number of lenses look
+//! at one of them without a lock.
 //!
-//! What the layer above may rely on: the published history only grows, by whole publications. A look is answered by the
-//! copy that has absorbed one front (a prefix) of that history, by the definitions and at the press's own template. A lens
-//! never goes back: its next front holds its last one and the front of every ticket that it learnt. A ticket is plain data
-//! that says "the history so far": it may be copied, shared and sent, and learning does not use it up. No call of a lens or
-//! of a ticket waits.
+//! A [`Press`] makes entries pending, and publishes them in one step. A [`Lens`] is a reader's place: a look calls a
+//! function once on a [`View`], the copy that has absorbed one front (a prefix) of the published history. The fronts that
+//! a lens sees never go back. A [`Ticket`] is a front as plain data, a causal timestamp: it may be copied, shared and
+//! sent to another thread, and a lens that learnt it sees nothing older from then on.
+//!
+//! What the layer above may rest on: `publish` makes the published history into itself and what was pending, and can't be
+//! refused; an entry that `append` refused is not published; what `look` shows is the supervisor of the press's own
+//! template after the front that the lens then has; no call of a lens, a ticket or a view waits.
 //!
 //! ```text
-//! let mut press = Press::new(alloc, rt, template, 2)?;
+//! let mut press = Press::new(alloc, &rt, template, 2)?;
 //! let mut lens = press.lens()?;
 //! press.append(entry)?;
 //! press.publish();
 //! let ticket = press.tell();
 //! lens.learn(&ticket)?;
-//! let running = lens.look(|view| view.counts().active)?;
+//! let (stamp, counts) = lens.look(|view| (view.stamp(), view.counts()))?;
 //! ```
+//!
+//! The log of the entries is that of a `logbook` book and stands in the proofs alone. The copies are `left_right`'s, whose
+//! operation is one publication: its entries, and the front that ends with them.
 #![tactic(auto)]
 
 mod batch;
