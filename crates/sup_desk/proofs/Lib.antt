@@ -1,4 +1,0 @@
-pub mod Answered
-pub mod After
-pub mod Entries
-pub mod Counted

@@ -1,4 +1,0 @@
-pub mod Knowledge
-pub mod Books
-pub mod Faults
-pub mod Asking
