@@ -5,34 +5,26 @@ use crate::{Fault, ScriptStarter, run};
 use std::test::Fail;
 
 #[test]
-fn answers_the_ended_lines_after_a_failed_read(rt: HostRuntime) {
-    let mut reader = Pieces {
-        left: b"sup permanent worker 1 5 10\nstart 0 a\nsta",
-        most: 41,
-        calls: 1,
-    };
-    let mut out = Vec::new(rt.alloc());
-    let result = run(rt.alloc(), &mut reader, &mut out, &ScriptStarter);
-    expect_end(&rt, result, Some((Fault::ReadFault, 3)));
-    assert_eq!(rt; out.as_slice(), b"ok 1\n".as_slice());
-}
-
-#[test]
-fn a_bad_line_comes_before_a_failed_read(rt: HostRuntime) {
-    let mut reader = Pieces {
-        left: b"sup permanent worker 1 5 10\nx\nstart 0 a\n",
-        most: 7,
-        calls: 6,
-    };
-    let mut out = Vec::new(rt.alloc());
-    let result = run(rt.alloc(), &mut reader, &mut out, &ScriptStarter);
-    expect_end(&rt, result, Some((Fault::BadLine, 2)));
-    assert_eq!(rt; out.as_slice(), b"".as_slice());
+fn answers_the_ended_lines_before_a_failed_read(rt: HostRuntime) {
+    // A bad line comes before the failed read.
+    let ended = b"sup permanent worker 1 5 10\nstart 0 a\nsta".as_slice();
+    let faulty = b"sup permanent worker 1 5 10\nx\nstart 0 a\n".as_slice();
+    for (left, most, calls, replies, fault) in [
+        (ended, 41, 1, "ok 1\n", (Fault::ReadFault, 3)),
+        (faulty, 7, 6, "", (Fault::BadLine, 2)),
+    ] {
+        let mut reader = Pieces { left, most, calls };
+        let mut out = Vec::new(rt.alloc());
+        let result = run(rt.alloc(), &mut reader, &mut out, &ScriptStarter);
+        expect_end(&rt, result, Some(fault));
+        assert_eq!(rt; out.as_slice(), replies.as_bytes());
+    }
 }
 
 #[test]
 fn stops_in_the_line_whose_reply_is_cut(rt: HostRuntime) {
-    let mut reader = b"sup permanent worker 1 5 10\nstart 0 a\nstart 0 b\n".as_slice();
+    let script = b"sup permanent worker 1 5 10\nstart 0 a\nstart 0 b\n".as_slice();
+    let mut reader = script;
     let mut writer = Narrow {
         held: Vec::new(rt.alloc()),
         calls: 7,
@@ -40,11 +32,7 @@ fn stops_in_the_line_whose_reply_is_cut(rt: HostRuntime) {
     let result = run(rt.alloc(), &mut reader, &mut writer, &ScriptStarter);
     expect_end(&rt, result, Some((Fault::WriteFault, 3)));
     assert_eq!(rt; writer.held.as_slice(), b"ok 1\nok".as_slice());
-}
-
-#[test]
-fn stops_where_nothing_is_taken(rt: HostRuntime) {
-    let mut reader = b"sup permanent worker 1 5 10\nstart 0 a\nstart 0 b\n".as_slice();
+    let mut reader = script;
     let result = run(rt.alloc(), &mut reader, &mut Stuck, &ScriptStarter);
     expect_end(&rt, result, Some((Fault::WriteFault, 2)));
 }

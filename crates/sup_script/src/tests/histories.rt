@@ -1,7 +1,7 @@
 //! Worked history texts: what they spell, what they replay, and what is written again.
 use super::fakes::{Narrow, Pieces};
 use super::{HISTORY, expect_end};
-use crate::{Fault, HistoryFault, read_history, replay, write_history};
+use crate::{Fault, read_history, replay, write_history};
 use std::process::Abort;
 use std::test::Fail;
 
@@ -26,62 +26,47 @@ fn expect_replay(
 }
 
 #[test]
-fn replays_each_entry(rt: HostRuntime) {
-    expect_replay(&rt, HISTORY.0, HISTORY.1, None);
-    expect_replay(&rt, "history 1 permanent worker 1 5 10\n", "", None);
-    expect_replay(
-        &rt,
-        "history 2 temporary worker 1 5 10 significant all\n1 0 0 start a running\n1 1 1 exit 1 x ignore\n",
-        "ok 1\nshut_down 1\n",
-        None,
-    );
-}
-
-#[test]
-fn a_faulty_text_writes_nothing(rt: HostRuntime) {
-    expect_replay(
-        &rt,
-        "history 1 permanent worker 1 5 10\n1 0 0 start a running\n2 0 3 exit 1 x ignore\n1 1 4 terminate 1 ignore",
-        "",
-        Some((Fault::BadLine, 4)),
-    );
-    expect_replay(&rt, "", "", Some((Fault::BadLine, 1)));
-    expect_replay(
-        &rt,
-        "history 2 permanent worker 1 5 10 significant any\n",
-        "",
-        Some((Fault::BadTemplate, 1)),
-    );
-    expect_replay(
-        &rt,
-        "history 2 permanent worker 1 5 10\n",
-        "",
-        Some((Fault::BadLine, 1)),
-    );
-    expect_replay(
-        &rt,
-        "history 1 permanent worker 1 5 10 plain never\n",
-        "",
-        Some((Fault::BadLine, 1)),
-    );
-    expect_replay(
-        &rt,
-        "history 3 permanent worker 1 5 10 plain never\n",
-        "",
-        Some((Fault::BadLine, 1)),
-    );
-    expect_replay(
-        &rt,
-        "history 1 permanent worker 1001 5 10\n",
-        "",
-        Some((Fault::BadTemplate, 1)),
-    );
-    expect_replay(
-        &rt,
-        "history 1 permanent worker 1 5 10\n1 0 0 start a failed 4294967296\n",
-        "",
-        Some((Fault::BadLine, 2)),
-    );
+fn replays_each_entry_of_a_text_without_fault(rt: HostRuntime) {
+    let significant =
+        "history 2 temporary worker 1 5 10 significant all\n1 0 0 start a running\n1 1 1 exit 1 x ignore\n";
+    let unended =
+        "history 1 permanent worker 1 5 10\n1 0 0 start a running\n2 0 3 exit 1 x ignore\n1 1 4 terminate 1 ignore";
+    let long_code = "history 1 permanent worker 1 5 10\n1 0 0 start a failed 4294967296\n";
+    for (text, output, fault) in [
+        (HISTORY.0, HISTORY.1, None),
+        ("history 1 permanent worker 1 5 10\n", "", None),
+        (significant, "ok 1\nshut_down 1\n", None),
+        (unended, "", Some((Fault::BadLine, 4))),
+        ("", "", Some((Fault::BadLine, 1))),
+        (
+            "history 2 permanent worker 1 5 10 significant any\n",
+            "",
+            Some((Fault::BadTemplate, 1)),
+        ),
+        (
+            "history 2 permanent worker 1 5 10\n",
+            "",
+            Some((Fault::BadLine, 1)),
+        ),
+        (
+            "history 1 permanent worker 1 5 10 plain never\n",
+            "",
+            Some((Fault::BadLine, 1)),
+        ),
+        (
+            "history 3 permanent worker 1 5 10 plain never\n",
+            "",
+            Some((Fault::BadLine, 1)),
+        ),
+        (
+            "history 1 permanent worker 1001 5 10\n",
+            "",
+            Some((Fault::BadTemplate, 1)),
+        ),
+        (long_code, "", Some((Fault::BadLine, 2))),
+    ] {
+        expect_replay(&rt, text, output, fault);
+    }
 }
 
 #[test]
@@ -165,16 +150,5 @@ fn writes_each_operation_and_answer(rt: HostRuntime) -> Result<(), Fail> {
         }
         Err(_) => panic!(rt; "a history text"),
     }
-    Ok(())
-}
-
-#[test]
-fn a_history_fault_has_a_number_and_a_line(rt: HostRuntime) -> Result<(), Fail> {
-    let e = HistoryFault {
-        fault: Fault::BadTemplate,
-        line: 1,
-    };
-    assert_eq!(rt; e.number(), 7);
-    assert_eq!(rt; e.to_string(rt.alloc())?.as_str(), "fault 7 line 1");
     Ok(())
 }

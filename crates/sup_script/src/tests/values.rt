@@ -1,5 +1,5 @@
 //! Lines, replies and faults one by one.
-use crate::{Command, Fault, ScriptFault, ScriptStarter, read_line, write_reply};
+use crate::{Command, Fault, HistoryFault, ScriptFault, ScriptStarter, read_line, write_reply};
 use std::test::Fail;
 use sup_types::{Answer, Operation, Reason, Reply, Starter, Text};
 
@@ -46,19 +46,15 @@ fn reads_lines(rt: HostRuntime) {
 }
 
 #[test]
-fn writes_replies(rt: HostRuntime) -> Result<(), Fail> {
+fn writes_replies_and_answers_starts(rt: HostRuntime) -> Result<(), Fail> {
     let mut out = Vec::from_slice(rt.alloc(), b"x")?;
     write_reply(&Reply::Restarting(3, 7), &mut out)?;
     assert_eq!(rt; out.as_slice(), b"xrestarting 3 7\n".as_slice());
-    Ok(())
-}
-
-#[test]
-fn the_start_function_fails_in_a_gap(rt: HostRuntime) {
     let gap = Text::new(b"gap:5:9").expect(&rt, "a text");
     assert_eq!(rt; ScriptStarter.start(&gap, 4), Answer::Running);
     assert_eq!(rt; ScriptStarter.start(&gap, 5), Answer::Failed(1));
     assert_eq!(rt; ScriptStarter.start(&gap, 9), Answer::Running);
+    Ok(())
 }
 
 #[test]
@@ -73,5 +69,11 @@ fn a_fault_has_a_number_and_a_line(rt: HostRuntime) -> Result<(), Fail> {
         e.fault.to_string(rt.alloc())?.as_str(),
         "the text is too long"
     );
+    let e = HistoryFault {
+        fault: Fault::BadTemplate,
+        line: 1,
+    };
+    assert_eq!(rt; e.number(), 7);
+    assert_eq!(rt; e.to_string(rt.alloc())?.as_str(), "fault 7 line 1");
     Ok(())
 }
