@@ -1,5 +1,6 @@
-//! The program `supload script` as one would write it in plain Rust: std's HashMap, one BufReader, one BufWriter. It is
-//! what the speed of the proved program is compared with, and is not part of it. It reads well-formed scripts alone.
+//! `supload script` and `supload replay` as one would write them in plain Rust: std's HashMap, one BufReader, one
+//! BufWriter. It is what the speed of the proved program is compared with, and is not part of it. It reads well-formed
+//! texts alone.
 use std::collections::{HashMap, VecDeque};
 use std::io::{self, BufRead, BufReader, BufWriter, Write};
 
@@ -22,8 +23,10 @@ struct Supervisor {
     latest: u64,
     attempts: VecDeque<u64>,
     down: bool,
+    given: Option<Answer>,
 }
 
+#[derive(Clone, Copy)]
 enum Answer {
     Running,
     Ignore,
@@ -48,6 +51,29 @@ fn ask(arg: &str, moment: u64) -> Answer {
 }
 
 impl Supervisor {
+    fn new(header: &[&str]) -> Supervisor {
+        Supervisor {
+            restart: header[0].to_string(),
+            worker: header[1] == "worker",
+            intensity: header[2].parse().unwrap(),
+            period: header[3].parse().unwrap(),
+            max: header[4].parse().unwrap(),
+            significant: header.get(5) == Some(&"significant"),
+            auto: header.get(6).unwrap_or(&"never").to_string(),
+            rows: HashMap::new(),
+            running: 0,
+            made: 0,
+            latest: 0,
+            attempts: VecDeque::new(),
+            down: false,
+            given: None,
+        }
+    }
+
+    fn ask(&self, arg: &str, moment: u64) -> Answer {
+        self.given.unwrap_or_else(|| ask(arg, moment))
+    }
+
     fn list(&mut self, arg: String) -> u64 {
         self.made += 1;
         self.running += 1;
@@ -77,7 +103,7 @@ impl Supervisor {
             self.end_all();
             return writeln!(out, "gave_up");
         }
-        match ask(&self.rows[&number].arg, moment) {
+        match self.ask(&self.rows[&number].arg, moment) {
             Answer::Running => {
                 let child = self.remove(number).unwrap();
                 let next = self.list(child.arg);
@@ -119,7 +145,7 @@ impl Supervisor {
                     return writeln!(out, "error full");
                 }
                 let arg = words.next().unwrap();
-                match ask(arg, moment) {
+                match self.ask(arg, moment) {
                     Answer::Running => {
                         let number = self.list(arg.to_string());
                         writeln!(out, "ok {number}")
@@ -193,32 +219,55 @@ impl Supervisor {
     }
 }
 
-fn main() -> io::Result<()> {
-    let mut input = BufReader::with_capacity(65_536, io::stdin().lock());
-    let mut out = BufWriter::with_capacity(65_536, io::stdout().lock());
+/// An entry's line without its handle and serial: an operation as a script has it, and what the start function answered.
+fn entry(line: &str) -> (String, Answer) {
+    let mut words: Vec<&str> = line.split(' ').skip(2).collect();
+    let answer = match words.pop().unwrap() {
+        "running" => Answer::Running,
+        "ignore" => Answer::Ignore,
+        code => {
+            words.pop();
+            Answer::Failed(code.parse().unwrap())
+        }
+    };
+    words.swap(0, 1);
+    (words.join(" "), answer)
+}
+
+/// Reads the whole history, and then writes the reply of each entry.
+fn replay(input: &mut impl BufRead, out: &mut impl Write) -> io::Result<()> {
+    let mut text = String::new();
+    input.read_to_string(&mut text)?;
+    let mut lines = text.lines();
+    let header: Vec<&str> = lines.next().unwrap().split(' ').skip(2).collect();
+    let entries: Vec<(String, Answer)> = lines.map(entry).collect();
+    let mut supervisor = Supervisor::new(&header);
+    for (operation, answer) in &entries {
+        supervisor.given = Some(*answer);
+        supervisor.line(operation, out)?;
+    }
+    out.flush()
+}
+
+fn script(input: &mut impl BufRead, out: &mut impl Write) -> io::Result<()> {
     let mut line = String::new();
     input.read_line(&mut line)?;
-    let header: Vec<&str> = line.trim_end_matches('\n').split(' ').collect();
-    let mut supervisor = Supervisor {
-        restart: header[1].to_string(),
-        worker: header[2] == "worker",
-        intensity: header[3].parse().unwrap(),
-        period: header[4].parse().unwrap(),
-        max: header[5].parse().unwrap(),
-        significant: header.get(6) == Some(&"significant"),
-        auto: header.get(7).unwrap_or(&"never").to_string(),
-        rows: HashMap::new(),
-        running: 0,
-        made: 0,
-        latest: 0,
-        attempts: VecDeque::new(),
-        down: false,
-    };
+    let header: Vec<&str> = line.trim_end_matches('\n').split(' ').skip(1).collect();
+    let mut supervisor = Supervisor::new(&header);
     loop {
         line.clear();
         if input.read_line(&mut line)? == 0 {
             return out.flush();
         }
-        supervisor.line(line.trim_end_matches('\n'), &mut out)?;
+        supervisor.line(line.trim_end_matches('\n'), out)?;
+    }
+}
+
+fn main() -> io::Result<()> {
+    let mut input = BufReader::with_capacity(65_536, io::stdin().lock());
+    let mut out = BufWriter::with_capacity(65_536, io::stdout().lock());
+    match std::env::args().nth(1).as_deref() {
+        Some("replay") => replay(&mut input, &mut out),
+        _ => script(&mut input, &mut out),
     }
 }

@@ -1,6 +1,7 @@
 #!/usr/bin/env bash
-# Times `supload script` beside the same program in plain Rust (plain.rs), on scripts of 1, 4 and 16 MiB of starts, exits
-# and counts, and compares what both write. Needs python3 and rustc; prints a line a size. It takes about a minute.
+# Times `supload script` and `supload replay` beside the same program in plain Rust (plain.rs), on scripts of 1, 4 and 16 MiB
+# of starts, exits and counts and on histories of the same sizes, and compares what both write. Needs python3 and rustc;
+# prints a line a size. It takes about a minute.
 set -eu
 top=$(cd "$(dirname "${BASH_SOURCE[0]}")/.." && pwd)
 room=$(mktemp -d)
@@ -40,23 +41,43 @@ def script(size):
         lines.append(line)
 
 
+def history(size):
+    """The updates of a script as the entries of a history, each answered `running` where the start function is asked."""
+    lines, total = ["history 2 permanent worker 1000 1 65536 plain never"], 52
+    for line in script(4 * size).splitlines()[1:]:
+        words = line.split(" ")
+        if words[0] == "count":
+            continue
+        asked = "ignore" if words[0] == "terminate" else "running"
+        entry = " ".join(["0", str(len(lines) - 1), words[1], words[0], *words[2:], asked])
+        if total + len(entry) + 1 > size:
+            break
+        total += len(entry) + 1
+        lines.append(entry)
+    return "\n".join(lines) + "\n"
+
+
 def seconds(words, name):
-    best = None
-    for _ in range(7):
-        with open(name, "rb") as source, open(room + "/out", "wb") as out:
-            start = time.perf_counter()
-            subprocess.run(words, stdin=source, stdout=out, check=True)
-            took = time.perf_counter() - start
-        best = took if best is None else min(best, took)
-    return best, open(room + "/out", "rb").read()
+    with open(name, "rb") as source, open(room + "/out", "wb") as out:
+        start = time.perf_counter()
+        subprocess.run(words, stdin=source, stdout=out, check=True)
+        took = time.perf_counter() - start
+    return took, open(room + "/out", "rb").read()
 
 
-for mebi in (1, 4, 16):
-    text = script(mebi << 20)
-    name = f"{room}/{mebi}"
-    open(name, "w").write(text)
-    ours, wrote = seconds([proved, "script"], name)
-    theirs, expected = seconds([plain], name)
-    same = "the same replies" if wrote == expected else "OTHER REPLIES"
-    print(f"{mebi} MiB, {text.count(chr(10))} lines: supload {ours:.3f} s, plain Rust {theirs:.3f} s, {same}")
+def best_of_both(one, other, name):
+    """The best of fifteen runs of each, which take turns, and whether both write the same."""
+    runs = [(seconds(one, name), seconds(other, name)) for _ in range(15)]
+    (_, wrote), (_, expected) = runs[-1]
+    return min(a[0] for a, _ in runs), min(b[0] for _, b in runs), wrote == expected
+
+
+for command, make in (("script", script), ("replay", history)):
+    for mebi in (1, 4, 16):
+        text = make(mebi << 20)
+        name = f"{room}/{mebi}"
+        open(name, "w").write(text)
+        ours, theirs, is_same = best_of_both([proved, command], [plain, command], name)
+        same = "the same replies" if is_same else "OTHER REPLIES"
+        print(f"{command}, {mebi} MiB, {text.count(chr(10))} lines: supload {ours:.3f} s, plain Rust {theirs:.3f} s, {same}")
 PY
