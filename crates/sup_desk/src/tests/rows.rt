@@ -160,10 +160,9 @@ fn ask_anew<N: Name, R: Wait + Abort>(rt: &R, ground: Ground<&R>) -> Result<(), 
         panic!(rt; "it is up");
     };
     assert_eq!(rt; rows.len(), 3);
-    let done = first
-        .start_child(rt, 0, text(rt, "d"))
-        .ok()
-        .ok_or("entered")?;
+    let Ok(done) = first.start_child(rt, 0, text(rt, "d")) else {
+        panic!(rt; "the update is entered");
+    };
     let seen = second.inspect(|view| (view.stamp(), view.counts().active));
     assert_eq!(rt; seen.ok(), Some(Seen::Up((4, 4))));
     assert!(rt; second.learn(&done.ticket).is_ok());
@@ -174,7 +173,9 @@ fn ask_anew<N: Name, R: Wait + Abort>(rt: &R, ground: Ground<&R>) -> Result<(), 
     let mut third = desk.handle(rt).ok().ok_or("a handle")?;
     assert_eq!(rt; third.front(), 4);
     assert_eq!(rt; third.count_children().ok(), Some(workers(4, 4)));
-    let stopped = first.stop(rt, 1).ok().ok_or("entered")?;
+    let Ok(stopped) = first.stop(rt, 1) else {
+        panic!(rt; "the update is entered");
+    };
     assert!(rt; second.learn(&stopped.ticket).is_ok());
     let mut called = false;
     let seen = second.inspect(|_| called = true);
@@ -202,7 +203,9 @@ fn shut_down<N: Name, R: Wait + Abort>(rt: &R, ground: Ground<&R>) -> Result<(),
         first.start_child(rt, 0, text(rt, "a")),
         Reply::Started(1),
     );
-    let done = first.exit(rt, 1, 1, Reason::Normal).ok().ok_or("entered")?;
+    let Ok(done) = first.exit(rt, 1, 1, Reason::Normal) else {
+        panic!(rt; "the update is entered");
+    };
     assert_eq!(rt; done.reply, Reply::ShutDown(1));
     assert!(rt; second.learn(&done.ticket).is_ok());
     assert_eq!(rt; second.count_children().ok(), Some(Seen::Down));

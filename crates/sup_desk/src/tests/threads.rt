@@ -29,6 +29,21 @@ fn start_all<N: Name, R: Wait>(
     started
 }
 
+/// The numbers of children that two handles start at once, so many each.
+fn start_both<N: Name + Send + Sync, R: Threads + Wait + Sync>(
+    rt: &R,
+    first: &mut Handle<'_, N, Always, &R>,
+    second: &mut Handle<'_, N, Always, &R>,
+    arg: &Text,
+    count: u64,
+) -> (u64, u64) {
+    join(
+        rt,
+        || start_all(rt, first, arg, count),
+        || start_all(rt, second, arg, count),
+    )
+}
+
 fn crowd<N: Name + Send + Sync, R: Threads + Wait + Abort + Sync>(
     rt: &R,
     ground: Ground<&R>,
@@ -39,12 +54,8 @@ fn crowd<N: Name + Send + Sync, R: Threads + Wait + Abort + Sync>(
     let arg = text(rt, "a");
     let mut first = desk.handle(rt).ok().ok_or("a handle")?;
     let mut second = desk.handle(rt).ok().ok_or("a handle")?;
-    let (one, two) = join(
-        rt,
-        || start_all(rt, &mut first, &arg, 100),
-        || start_all(rt, &mut second, &arg, 100),
-    );
-    assert_eq!(rt; (one, two), (100, 100));
+    let started = start_both(rt, &mut first, &mut second, &arg, 100);
+    assert_eq!(rt; started, (100, 100));
     assert_eq!(rt;
         second.ticket(rt).ok().map(|ticket| ticket.stamp()),
         Some(200)
