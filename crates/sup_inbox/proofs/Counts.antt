@@ -1,11 +1,11 @@
 -- The notes of each poster among a list, and how many they are together.
-use Rattle.std.proofs.Common.{◌≡◌, ◌≢◌, ℕ, zero, suc, ◌+◌, ◌<◌, ◌≤◌, Bool, true, false, cond, eq-eqb, ne_eqb, List, [], ◌∷◌, ◌++◌, length, get_or, take, refl, sym, ap, ◌∙◌, subst, arith}
+use Rattle.std.proofs.Common.{◌≡◌, ◌≢◌, ℕ, zero, suc, ◌+◌, ◌<◌, ◌≤◌, Bool, true, false, cond, eq-eqb, ne_eqb, List, [], ◌∷◌, ◌++◌, length, refl, sym, ap, ◌∙◌, subst, arith}
 use Rattle.std.specs.Prelude.{◌==◌, All}
-use Rattle.std.proofs.lemmas.List.{take_more}
 use native.Mathlib.Decide.{dec_le, ℕ_discrete}
 use mathlib.Core.Logic.{dite}
 use Rattle.sup_inbox.specs.declared.note.Note.{Note}
-use Rattle.sup_inbox.specs.Delivery.{from, total}
+use Rattle.sup_inbox.specs.declared.rule.Sent.{Sent}
+use Rattle.sup_inbox.specs.Delivery.{from, total, sum_of, sum_idle, AreSent}
 use Rattle.sup_inbox.specs.Ends.{IsBy}
 
 cond_append : (b : Bool) (n : Note) (xs ys zs : List Note) → zs ≡ xs ++ ys → cond b (n ∷ zs) zs ≡ cond b (n ∷ xs) xs ++ ys
@@ -67,27 +67,38 @@ count-all n [] h = none n
     none (suc n) = let h = none n in omega (arith, h)
 count-all n (x ∷ xs) h = count-in n x xs h.0.0 h.0.1 ∙ ap suc (count-all n xs h.1)
 
-total-snoc : (ls : List (List Note)) (l : List Note) → total (ls ++ l ∷ []) ≡ total ls + length l
-total-snoc [] l = omega arith
-total-snoc (m ∷ ls) l = let h = total-snoc ls l in omega (arith, h)
+-- how many of the posters 1 to n have no pass
+sum_idle-most : (places : ℕ → ℕ) (n : ℕ) → sum_idle places (λ _. 1) n ≤ n
+sum_idle-most places zero = omega arith
+sum_idle-most places (suc n) = more (places (suc n) == 0) (sum_idle places (λ _. 1) n) n (sum_idle-most places n)
+  where
+    more : (b : Bool) (s n : ℕ) → s ≤ n → s + cond b 1 0 ≤ suc n
+    more true s n h = omega (arith, h)
+    more false s n h = omega (arith, h)
 
-count-total : (n : ℕ) (xs : List Note) (ls : List (List Note)) → n ≤ length ls → ((k : ℕ) → k < n → from xs (k + 1) ≡ get_or ls k []) → count_to xs n ≡ total (take n ls)
-count-total zero xs ls h each = refl
-count-total (suc n) xs ls h each =
-    let less = count-total n xs ls (omega arith) (λ k low. each k (omega arith)) in
-    let one : suc n ≡ n + 1 = omega arith in
-    let here = ap (λ m. length (from xs m)) one ∙ ap (λ (l : List Note). length l) (each n (omega arith)) in
-    let more = ap (λ m. total (take m ls)) one ∙ ap total (take_more ls n [] (omega arith)) ∙ total-snoc (take n ls) (get_or ls n []) in
-    omega (arith, less, here, more)
+both_idle : (b : Bool) (s n : ℕ) → s ≤ n → s + cond b 1 0 ≡ suc n → (b ≡ true) × (s ≡ n)
+both_idle true s n h e = (refl, omega (arith, h, e))
+both_idle false s n h e = absurd (omega (arith, h, e))
 
-take-all : (ls : List (List Note)) → take (length ls) ls ≡ ls
-take-all [] = refl
-take-all (l ∷ ls) = ap (λ m. l ∷ m) (take-all ls)
+-- where none of the posters 1 to n has a pass, all their notes are counted
+count-idle : (places : ℕ → ℕ) (xs : List Note) (n : ℕ) → sum_idle places (λ _. 1) n ≡ n → count_to xs n ≡ sum_idle places (λ w. length (from xs w)) n
+count-idle places xs zero e = refl
+count-idle places xs (suc n) e =
+    let h = both_idle (places (suc n) == 0) (sum_idle places (λ _. 1) n) n (sum_idle-most places n) e in
+    let last = ap (λ b. cond b (length (from xs (suc n))) 0) h.0 in
+    let less = count-idle places xs n h.1 in
+    omega (arith, less, last)
 
--- the lists of the posters 1 to n, together, are as long as the notes
-pub counts : (n : ℕ) (xs : List Note) (ls : List (List Note)) → length ls ≡ n → ((k : ℕ) → k < n → from xs (k + 1) ≡ get_or ls k []) → from xs 0 ≡ [] → ((w : ℕ) → n < w → from xs w ≡ []) → length xs ≡ total ls
-counts n xs ls len each none later =
-    let a = count-all n xs (by_from n xs none later) in
-    let b = count-total n xs ls (omega (arith, len)) each in
-    let c = ap (λ m. total (take m ls)) (sym len) ∙ ap total (take-all ls) in
-    sym a ∙ b ∙ c
+sum_of-one : (ss : List Sent) → sum_of (λ _. 1) ss ≡ length ss
+sum_of-one [] = refl
+sum_of-one (s ∷ ss) = let r = sum_of-one ss in omega (arith, r)
+
+total-sent : (notes : List Note) (ss : List Sent) → AreSent notes ss → sum_of (λ w. length (from notes w)) ss ≡ total ss
+total-sent notes [] h = refl
+total-sent notes (s ∷ ss) h = λ i. length (h.0 i) + total-sent notes ss h.1 i
+
+-- where these are all the posters 1 to n, each once, there are as many notes as they posted
+pub counts : (places : ℕ → ℕ) (n : ℕ) (xs : List Note) (ss : List Sent) → length ss ≡ n → ((f : ℕ → ℕ) → sum_idle places f n ≡ sum_of f ss) → AreSent xs ss → from xs 0 ≡ [] → ((w : ℕ) → n < w → from xs w ≡ []) → length xs ≡ total ss
+counts places n xs ss len once each none later =
+    let all = once (λ _. 1) ∙ sum_of-one ss ∙ len in
+    sym (count-all n xs (by_from n xs none later)) ∙ count-idle places xs n all ∙ once (λ w. length (from xs w)) ∙ total-sent xs ss each

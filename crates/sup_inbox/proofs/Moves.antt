@@ -1,5 +1,5 @@
 -- Each step keeps the rule of the inbox.
-use Rattle.std.proofs.Common.{◌≡◌, ◌≢◌, ◌⊎◌, ℕ, zero, suc, ◌+◌, ◌<◌, ◌≤◌, true, false, true≢false, cond, eq-eqb, ne_eqb, List, [], ◌∷◌, ◌++◌, length, length-append, get_or, set, refl, sym, ap, ◌∙◌, subst, inl, inr, ⊎_elim, arith, append_assoc, append-nil}
+use Rattle.std.proofs.Common.{◌≡◌, ◌≢◌, ◌⊎◌, ℕ, zero, suc, ◌+◌, ◌<◌, ◌≤◌, true, false, true≢false, cond, eq-eqb, ne_eqb, List, [], ◌∷◌, ◌++◌, length, length-append, set, refl, sym, ap, ◌∙◌, subst, inl, inr, ⊎_elim, arith, append_assoc, append-nil}
 use Rattle.std.specs.Prelude.{◌==◌}
 use native.Mathlib.Decide.{dec_le, ℕ_discrete}
 use mathlib.Core.Logic.{dite}
@@ -8,8 +8,9 @@ use lib.ListN.{get_elem?}
 use Rattle.crossbeam_queue.specs.Fifo.{Pushes, Pops, Forks, Merges, Learns}
 use Rattle.crossbeam_queue.proofs.Lists.{at_set}
 use Rattle.sup_inbox.specs.declared.note.Note.{Note}
+use Rattle.sup_inbox.specs.declared.rule.Sent.{Sent}
 use Rattle.sup_inbox.specs.declared.rule.View.{View}
-use Rattle.sup_inbox.specs.Delivery.{from, total, root, nobody, opened, seat, gathered, posts, takes, IsIdle, Fits, Delivers, IsSettled}
+use Rattle.sup_inbox.specs.Delivery.{from, total, sum_of, sum_idle, root, nobody, opened, seat, gathered, posts, takes, AreGathered, AreSent, IsIdle, Fits, Delivers, IsSettled}
 use Rattle.sup_inbox.proofs.Counts.{from-append, from-own, from-other, counts}
 
 abbrev AllFit : ℕ → (ℕ → ℕ) → (ℕ → List Note) → List Note → List View → Type 0
@@ -38,9 +39,33 @@ begins = (0, (λ _. 0), (λ _. []), [], (λ w. refl), one)
     one : AllFit 0 (λ _. 0) (λ _. []) [] (root ∷ [])
     one zero v e = subst (Fits 0 (λ _. 0) (λ _. []) [] 0) (some-injective _ _ e) (
       (λ p. absurd (off p)),
-      λ _. record { one = refl; took = refl; none = (refl, refl); later = λ w h. (refl, refl); known = λ k h. absurd (omega arith); below = omega arith },
+      λ _. record { one = refl; took = refl; none = (refl, refl); later = λ w h. (refl, refl); known = tt; once = λ f. refl },
     )
     one (suc j) v e = absurd (some-ne-none v (sym e))
+
+are_gathered-sent : (made : ℕ) (places : ℕ → ℕ) (sent sent' : ℕ → List Note) → ((w : ℕ) → places w ≡ 0 → sent' w ≡ sent w) → (ss : List Sent) → AreGathered made places sent ss → AreGathered made places sent' ss
+are_gathered-sent made places sent sent' same [] h = tt
+are_gathered-sent made places sent sent' same (s ∷ ss) h = (h.0, h.1, h.2 ∙ sym (same s.poster h.1), are_gathered-sent made places sent sent' same ss h.3)
+
+are_gathered-places : (made made' : ℕ) (places places' : ℕ → ℕ) (sent : ℕ → List Note) → made ≤ made' → ((w : ℕ) → w ≤ made → places w ≡ 0 → places' w ≡ 0) → (ss : List Sent) → AreGathered made places sent ss → AreGathered made' places' sent ss
+are_gathered-places made made' places places' sent more same [] h = tt
+are_gathered-places made made' places places' sent more same (s ∷ ss) h = (omega (arith, more, h.0), same s.poster h.0 h.1, h.2, are_gathered-places made made' places places' sent more same ss h.3)
+
+are_gathered-snoc : (made : ℕ) (places : ℕ → ℕ) (sent : ℕ → List Note) (ss : List Sent) (s : Sent) → AreGathered made places sent ss → s.poster ≤ made → places s.poster ≡ 0 → s.notes ≡ sent s.poster → AreGathered made places sent (ss ++ s ∷ [])
+are_gathered-snoc made places sent [] s h low none is = (low, none, is, tt)
+are_gathered-snoc made places sent (t ∷ ss) s h low none is = (h.0, h.1, h.2, are_gathered-snoc made places sent ss s h.3 low none is)
+
+are_sent : (made : ℕ) (places : ℕ → ℕ) (sent : ℕ → List Note) (notes : List Note) → ((w : ℕ) → from notes w ≡ sent w) → (ss : List Sent) → AreGathered made places sent ss → AreSent notes ss
+are_sent made places sent notes has [] h = tt
+are_sent made places sent notes has (s ∷ ss) h = (has s.poster ∙ sym h.2, are_sent made places sent notes has ss h.3)
+
+sum_of-snoc : (f : ℕ → ℕ) (ss : List Sent) (s : Sent) → sum_of f (ss ++ s ∷ []) ≡ sum_of f ss + f s.poster
+sum_of-snoc f [] s = omega arith
+sum_of-snoc f (t ∷ ss) s = let r = sum_of-snoc f ss s in omega (arith, r)
+
+sum_idle-same : (places places' f : ℕ → ℕ) (n : ℕ) → ((w : ℕ) → w ≤ n → places' w ≡ places w) → sum_idle places' f n ≡ sum_idle places f n
+sum_idle-same places places' f zero same = refl
+sum_idle-same places places' f (suc n) same = λ i. sum_idle-same places places' f n (λ w low. same w (omega (arith, low))) i + cond (same (suc n) (omega arith) i == 0) (f (suc n)) 0
 
 -- what a poster's note adds to the notes of the poster w
 quiet : (places : ℕ → ℕ) (pass : ℕ) (x : Note) (w : ℕ) → places x.poster ≡ suc pass → places w ≢ suc pass → from (x ∷ []) w ≡ []
@@ -74,8 +99,8 @@ pushes n pass v x may by items views room h at =
                 took = t.took;
                 none = idle 0 t.none;
                 later = λ w low. idle w (t.later w low);
-                known = λ k low. ((t.known k low).0, (t.known k low).1 ∙ sym (rest (k + 1) (t.known k low).0));
-                below = t.below;
+                known = are_gathered-sent u.made places sent sent' rest u.gathered t.known;
+                once = t.once;
               }),
             ))
             ((λ _. (mine.0, λ i. mine.1 i ++ sym (from-own x [] v.poster by) i)), (λ p. absurd (off p))),
@@ -97,7 +122,7 @@ pops pass v may x items views h at =
         (λ w. ap (λ l. from l w) (append_assoc taken (x ∷ []) items) ∙ h.4 w),
         fits_set taker places sent taken' views pass (takes v x)
             (λ j u apart e. ((h.5 j u e).0, (λ p. absurd (apart (((h.5 j u e).1 p).one ∙ sym mine.one)))))
-            ((λ p. absurd (off p)), (λ _. record { one = mine.one; took = ap (λ l. l ++ x ∷ []) mine.took; none = mine.none; later = mine.later; known = mine.known; below = mine.below })),
+            ((λ p. absurd (off p)), (λ _. record { one = mine.one; took = ap (λ l. l ++ x ∷ []) mine.took; none = mine.none; later = mine.later; known = mine.known; once = mine.once })),
       ),
       refl,
     )
@@ -134,8 +159,14 @@ forks pass v may items views h at =
         took = mine.took;
         none = idle 0 (λ s. omega (arith, s)) mine.none;
         later = λ w low. idle w (λ s. omega (arith, s, low)) (mine.later w (omega (arith, low)));
-        known = λ k low. let b = mine.below in (same (k + 1) (λ s. omega (arith, s, low, b)) ∙ (mine.known k low).0, (mine.known k low).1);
-        below = let b = mine.below in omega (arith, b);
+        known = are_gathered-places v.made next places places' sent (omega arith) (λ w low z. same w (λ s. omega (arith, s, low)) ∙ z) v.gathered mine.known;
+        once = λ f.
+            let one : next ≡ suc v.made = omega arith in
+            let all = ap (sum_idle places' f) one in
+            let below = sum_idle-same places places' f v.made (λ w low. same w (λ s. omega (arith, s, low))) in
+            let last = ap (λ b. cond b (f (suc v.made)) 0) (ne_eqb (places' (suc v.made)) 0 (λ z. let p = put-here places next (suc (length views')) (suc v.made) one in omega (arith, z, p))) in
+            let m = mine.once f in
+            omega (arith, all, below, last, m);
       }),
     ) in
     let fresh : Fits taker places' sent taken (length views') (seat v) = ((λ _. (put-here places next (suc (length views')) next refl, sym new.1)), (λ p. absurd (off p))) in (
@@ -149,19 +180,23 @@ forks pass v may items views h at =
           (at_end views' (seat v) u j e),
     )
 
-get_or-snoc-old : (ls : List (List Note)) (l : List Note) (k : ℕ) → k < length ls → get_or (ls ++ l ∷ []) k [] ≡ get_or ls k []
-get_or-snoc-old [] l k h = absurd (omega arith)
-get_or-snoc-old (m ∷ ls) l zero h = refl
-get_or-snoc-old (m ∷ ls) l (suc k) h = get_or-snoc-old ls l k (omega arith)
+sum_idle-put : (places f : ℕ → ℕ) (n w : ℕ) → places w ≢ 0 → 1 ≤ w → w ≤ n → sum_idle (put places w 0) f n ≡ sum_idle places f n + f w
+sum_idle-put places f zero w has first high = absurd (omega (arith, first, high))
+sum_idle-put places f (suc n) w has first high =
+    dite (ℕ_discrete w (suc n))
+    (λ e.
+    let below = sum_idle-same places (put places w 0) f n (λ v low. put-else places w 0 v (λ s. omega (arith, e, s, low))) in
+    let new = ap (λ p. cond (p == 0) (f (suc n)) 0) (put-here places w 0 (suc n) e) in
+    let old = ap (λ b. cond b (f (suc n)) 0) (ne_eqb (places (suc n)) 0 (λ z. has (ap places e ∙ z))) in
+    let same = ap f e in
+    omega (arith, below, new, old, same))
+    (λ d.
+    let less = sum_idle-put places f n w has first (omega (arith, d, high)) in
+    let last = ap (λ p. cond (p == 0) (f (suc n)) 0) (put-else places w 0 (suc n) d) in
+    omega (arith, less, last))
 
-get_or-snoc-new : (ls : List (List Note)) (l : List Note) (k : ℕ) → k ≡ length ls → get_or (ls ++ l ∷ []) k [] ≡ l
-get_or-snoc-new [] l zero h = refl
-get_or-snoc-new [] l (suc k) h = absurd (omega (arith, h))
-get_or-snoc-new (m ∷ ls) l zero h = absurd (omega (arith, h))
-get_or-snoc-new (m ∷ ls) l (suc k) h = get_or-snoc-new ls l k (omega (arith, h))
-
-pub merges : (pass : ℕ) (v : View) (other : ℕ) (u : View) → v.takes ≡ true → u.posts ≡ true → u.poster ≡ length v.gathered + 1 → Merges Delivers pass v other u (gathered v u) nobody
-merges pass v other u may posting next items views h at apart there =
+pub merges : (pass : ℕ) (v : View) (other : ℕ) (u : View) → v.takes ≡ true → u.posts ≡ true → Merges Delivers pass v other u (gathered v u) nobody
+merges pass v other u may posting items views h at apart there =
     let taker = h.0 in let places = h.1 in let sent = h.2 in let taken = h.3 in
     let mine = (h.5 pass v at).1 may in
     let both = gathered v u in
@@ -172,16 +207,20 @@ merges pass v other u may posting next items views h at apart there =
     let rest : (w : ℕ) → places w ≡ 0 → places' w ≡ 0 = λ w e. dite (ℕ_discrete u.poster w) (λ s. put-here places u.poster 0 w s) (λ n. same w n ∙ e) in
     let idle : (w : ℕ) → IsIdle places sent w → IsIdle places' sent w = λ w i. (rest w i.0, i.1) in
     let made : u.poster ≤ v.made = dite (dec_le u.poster v.made) (λ b. b) (λ n. let a = (mine.later u.poster (omega (arith, n))).0 in let b = theirs.0 in absurd (omega (arith, a, b))) in
-    let more = length-append v.gathered (u.posted ∷ []) in
-    let grown : (k : ℕ) → k < length (v.gathered ++ u.posted ∷ []) → (places' (k + 1) ≡ 0) × (get_or (v.gathered ++ u.posted ∷ []) k [] ≡ sent (k + 1)) = λ k low.
-    dite (ℕ_discrete k (length v.gathered))
-    (λ e. let s : u.poster ≡ k + 1 = omega (arith, e, next) in (put-here places u.poster 0 (k + 1) s, get_or-snoc-new v.gathered u.posted k e ∙ theirs.1 ∙ ap sent s))
-    (λ n. let l : k < length v.gathered = omega (arith, n, low, more) in (rest (k + 1) (mine.known k l).0, get_or-snoc-old v.gathered u.posted k l ∙ (mine.known k l).1)) in
+    let has : places u.poster ≢ 0 = λ z. let c = theirs.0 in omega (arith, z, c) in
+    let first : 1 ≤ u.poster = dite (ℕ_discrete u.poster 0) (λ e. absurd (has (ap places e ∙ mine.none.0))) (λ n. omega (arith, n)) in
+    let one : Sent = record { poster = u.poster; notes = u.posted } in
+    let known = are_gathered-snoc v.made places' sent v.gathered one (are_gathered-places v.made v.made places places' sent (omega arith) (λ w low z. rest w z) v.gathered mine.known) made (put-here places u.poster 0 u.poster refl) theirs.1 in
+    let once : (f : ℕ → ℕ) → sum_idle places' f v.made ≡ sum_of f both.gathered = λ f.
+    let a = sum_idle-put places f v.made u.poster has first made in
+    let b = sum_of-snoc f v.gathered one in
+    let m = mine.once f in
+    omega (arith, a, b, m) in
     let Now : ℕ → View → Type 0 = λ j y. j ≢ other → Fits taker places' sent taken j y in
     let now : (j : ℕ) (y : View) → j ≢ other → get_elem? (set views pass both) j ≡ some y → Fits taker places' sent taken j y = λ j y away e.
     ⊎_elim
     (λ (x : (j ≡ pass) × (both ≡ y)). subst (λ (z : ℕ × View). Fits taker places' sent taken z.0 z.1) (λ i. (sym x.0 i, x.1 i))
-    ((λ p. absurd (off p)), (λ _. record { one = mine.one; took = mine.took; none = idle 0 mine.none; later = λ w low. idle w (mine.later w low); known = grown; below = omega (arith, more, made, next) })))
+    ((λ p. absurd (off p)), (λ _. record { one = mine.one; took = mine.took; none = idle 0 mine.none; later = λ w low. idle w (mine.later w low); known = known; once = once })))
     (λ (x : (j ≢ pass) × (get_elem? views j ≡ some y)).
     let f = h.5 j y x.1 in (
       (λ p. let q = f.0 p in (same y.poster (λ s. let a = ap places s in let b = q.0 in let c = theirs.0 in away (omega (arith, a, b, c))) ∙ q.0, q.1)),
@@ -202,10 +241,10 @@ settled pass v may all items views h at =
     let mine = (h.5 pass v at).1 may in
     let notes = v.taken ++ items in
     let has : (w : ℕ) → from notes w ≡ sent w = λ w. ap (λ l. from (l ++ items) w) mine.took ∙ h.4 w in
-    let each : (k : ℕ) → k < v.made → from notes (k + 1) ≡ get_or v.gathered k [] = λ k low. has (k + 1) ∙ sym (mine.known k (omega (arith, all))).1 in
+    let each = are_sent v.made h.1 sent notes has v.gathered mine.known in
     let none : from notes 0 ≡ [] = has 0 ∙ mine.none.1 in
     let later : (w : ℕ) → v.made < w → from notes w ≡ [] = λ w low. has w ∙ (mine.later w low).1 in
-    record { each = each; none = none; later = later; count = sym (length-append v.taken items) ∙ counts v.made notes v.gathered all each none later }
+    record { each = each; none = none; later = later; count = sym (length-append v.taken items) ∙ counts h.1 v.made notes v.gathered all mine.once each none later }
 
 pub empties : (pass : ℕ) (v : View) → v.takes ≡ true → length v.gathered ≡ v.made → Pops Delivers pass v (λ x w. (w ≡ takes v x) × (length w.taken ≤ total v.gathered))
 empties pass v may all x items views h at =

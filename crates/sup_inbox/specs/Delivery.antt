@@ -1,9 +1,10 @@
 -- What each poster posted is what was taken of it and then what the queue holds of it, in its order, and there is no other note.
-use Rattle.std.specs.Prelude.{◌≡◌, ℕ, suc, ◌+◌, ◌<◌, ◌≤◌, true, false, cond, ◌==◌, List, [], ◌∷◌, ◌++◌, length, get_or}
+use Rattle.std.specs.Prelude.{◌≡◌, ℕ, zero, suc, ◌+◌, ◌<◌, ◌≤◌, true, false, cond, ◌==◌, List, [], ◌∷◌, ◌++◌, length}
 use mathlib.Core.Option.{some}
 use lib.ListN.{get_elem?}
 use Rattle.crossbeam_queue.specs.Passes.{Pass, view}
 use Rattle.sup_inbox.specs.declared.note.Note.{Note}
+use Rattle.sup_inbox.specs.declared.rule.Sent.{Sent}
 use Rattle.sup_inbox.specs.declared.rule.View.{View}
 
 -- the notes by this poster, in order
@@ -11,12 +12,22 @@ abbrev pub from : List Note → ℕ → List Note
 from [] w = []
 from (n ∷ ns) w = cond (n.poster == w) (n ∷ from ns w) (from ns w)
 
--- how many notes the lists have
-abbrev pub total : List (List Note) → ℕ
+-- how many notes these posters posted
+abbrev pub total : List Sent → ℕ
 total [] = 0
-total (l ∷ ls) = length l + total ls
+total (s ∷ ss) = length s.notes + total ss
 
-abbrev pub taker_view : ℕ → List Note → List (List Note) → View
+-- what f gives for each of these posters, added up
+abbrev pub sum_of : (ℕ → ℕ) → List Sent → ℕ
+sum_of f [] = 0
+sum_of f (s ∷ ss) = f s.poster + sum_of f ss
+
+-- what f gives for those of the posters 1 to n that have no pass, added up
+abbrev pub sum_idle : (ℕ → ℕ) → (ℕ → ℕ) → ℕ → ℕ
+sum_idle places f zero = 0
+sum_idle places f (suc n) = sum_idle places f n + cond (places (suc n) == 0) (f (suc n)) 0
+
+abbrev pub taker_view : ℕ → List Note → List Sent → View
 taker_view made taken gathered = record { posts = false; poster = 0; posted = []; takes = true; made = made; taken = taken; gathered = gathered }
 
 abbrev pub poster_view : ℕ → List Note → View
@@ -40,7 +51,7 @@ abbrev pub seat : View → View
 seat v = poster_view (v.made + 1) []
 
 abbrev pub gathered : View → View → View
-gathered v u = taker_view v.made v.taken (v.gathered ++ u.posted ∷ [])
+gathered v u = taker_view v.made v.taken (v.gathered ++ record { poster = u.poster; notes = u.posted } ∷ [])
 
 abbrev pub posts : View → Note → View
 posts v x = poster_view v.poster (v.posted ++ x ∷ [])
@@ -56,14 +67,20 @@ FitsPoster places sent pass v = v.posts ≡ true → (places v.poster ≡ suc pa
 abbrev pub IsIdle : (ℕ → ℕ) → (ℕ → List Note) → ℕ → Type 0
 IsIdle places sent w = (places w ≡ 0) × (sent w ≡ [])
 
--- the one taker knows what was taken, that the numbers of no poster posted nothing, and what the gathered posters posted
+-- these posters have no pass any more, and their notes are what they posted
+abbrev pub AreGathered : ℕ → (ℕ → ℕ) → (ℕ → List Note) → List Sent → Type 0
+AreGathered made places sent [] = Unit {0}
+AreGathered made places sent (s ∷ ss) = (s.poster ≤ made) × (places s.poster ≡ 0) × (s.notes ≡ sent s.poster) × AreGathered made places sent ss
+
+-- the one taker knows what was taken, that the numbers of no poster posted nothing, and what the gathered posters posted: those
+-- that have no pass, each once
 pub record IsTaker (taker : ℕ) (places : ℕ → ℕ) (sent : ℕ → List Note) (taken : List Note) (pass : ℕ) (v : View) : Type 0 where
   pub one : pass ≡ taker
   pub took : v.taken ≡ taken
   pub none : IsIdle places sent 0
   pub later : (w : ℕ) → v.made < w → IsIdle places sent w
-  pub known : (k : ℕ) → k < length v.gathered → (places (k + 1) ≡ 0) × (get_or v.gathered k [] ≡ sent (k + 1))
-  pub below : length v.gathered ≤ v.made
+  pub known : AreGathered v.made places sent v.gathered
+  pub once : (f : ℕ → ℕ) → sum_idle places f v.made ≡ sum_of f v.gathered
 
 abbrev pub FitsTaker : ℕ → (ℕ → ℕ) → (ℕ → List Note) → List Note → ℕ → View → Type 0
 FitsTaker taker places sent taken pass v = v.takes ≡ true → IsTaker taker places sent taken pass v
@@ -77,9 +94,14 @@ Delivers items views =
     × ((w : ℕ) → from (taken ++ items) w ≡ sent w)
     × ((pass : ℕ) (v : View) → get_elem? views pass ≡ some v → Fits taker places sent taken pass v)
 
+-- what each of these posted stands among the notes
+abbrev pub AreSent : List Note → List Sent → Type 0
+AreSent notes [] = Unit {0}
+AreSent notes (s ∷ ss) = (from notes s.poster ≡ s.notes) × AreSent notes ss
+
 -- once all posters were gathered in: what each posted is what was taken of it and what the queue holds of it, and there is no more
 pub record IsSettled (v : View) (items : List Note) : Type 0 where
-  pub each : (k : ℕ) → k < v.made → from (v.taken ++ items) (k + 1) ≡ get_or v.gathered k []
+  pub each : AreSent (v.taken ++ items) v.gathered
   pub none : from (v.taken ++ items) 0 ≡ []
   pub later : (w : ℕ) → v.made < w → from (v.taken ++ items) w ≡ []
   pub count : length v.taken + length items ≡ total v.gathered

@@ -2,6 +2,7 @@
 use Rattle.std.specs.Prelude.{◌≡◌, ℕ, suc, ◌≤◌, List, [], ◌∷◌}
 use Rattle.atomic_table.specs.Seated.{TableId}
 use Rattle.sup_inbox.specs.declared.note.Note.{Note}
+use Rattle.sup_inbox.specs.declared.rule.Sent.{Sent}
 
 -- an inbox: which one it is, and how many notes it holds at most
 pub record Held : Type 0 where
@@ -25,13 +26,18 @@ abbrev pub AreFrom : TableId → ℕ → List Posting → Type 0
 AreFrom id first [] = Unit {0}
 AreFrom id first (p ∷ ps) = (p.inbox ≡ id) × (p.number ≡ first) × AreFrom id (suc first) ps
 
+-- these are posters of the inbox
+abbrev pub AreOf : TableId → List Posting → Type 0
+AreOf id [] = Unit {0}
+AreOf id (p ∷ ps) = (p.inbox ≡ id) × AreOf id ps
+
 -- none of these posted a note
 abbrev pub AreNew : List Posting → Type 0
 AreNew [] = Unit {0}
 AreNew (p ∷ ps) = (p.posted ≡ []) × AreNew ps
 
-abbrev pub posted_of : Posting → List Note
-posted_of p = p.posted
+abbrev pub sent_of : Posting → Sent
+sent_of p = record { poster = p.number; notes = p.posted }
 
 -- the note is by one of the posters 1 to n
 abbrev pub IsBy : ℕ → Note → Type 0

@@ -1,7 +1,7 @@
 //! The inbox, its posters and its taker.
 ghost use Rattle.std.specs.Prelude.{◌≡◌, ◌+◌, ◌≤◌, [], ◌∷◌, ◌++◌, length, IfOk, IfErr, OnErr, IfSome, IfNone, vec_len, MatchResult, MatchOption};
 ghost use Rattle.sup_inbox.specs.Delivery.{known_by, root, taker_view, poster_view};
-ghost use Rattle.sup_inbox.specs.Ends.{Held, Posting, Taking, AreFrom, AreNew};
+ghost use Rattle.sup_inbox.specs.Ends.{Held, Posting, Taking, AreFrom, AreNew, AreOf};
 
 use crate::note::Note;
 use crate::rule::{Opens, Place, Posts, Queue, Takes};
@@ -108,6 +108,13 @@ impl Poster {
         self.number
     }
 
+    /// How many notes it posted, which is the next note's serial.
+    pub fn serial(&self) -> u64
+        ensures { result ≡ length self.now.posted }
+    {
+        self.count
+    }
+
     /// Posts the exit of a child, as the note with this poster's number and next serial. It is refused only where the inbox
     /// was full at one moment of the call; then all comes back, and no serial is used.
     pub fn post<R: Wait, A: Allocator>(
@@ -170,6 +177,7 @@ impl Root {
     ) -> Result<(Vec<Poster, B>, Taker), Root>
         requires { self.inbox ≡ inbox.now.id }
         ensures posters { IfOk result (λ r. AreFrom inbox.now.id 1 r.0.items × AreNew r.0.items × (vec_len r.0 ≡ posters)) }
+        ensures of { IfOk result (λ r. AreOf inbox.now.id r.0.items) }
         ensures taker { IfOk result (λ r. r.1 ≡ record { inbox = inbox.now.id; posters = posters; taken = [] }) }
         ensures back { IfErr result (λ root. root ≡ self) }
     {

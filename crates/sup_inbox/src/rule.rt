@@ -8,6 +8,14 @@ use crossbeam_queue::protocol::{Join, Lesson, Outcome, Protocol, Split};
 use crossbeam_queue::{Pass, RuledArrayQueue};
 use std::collections::LinkedList;
 
+/// What a poster posted that was gathered in. No value of it is made.
+pub struct Sent {
+    /// The poster's number.
+    pub poster: u64,
+    /// Its notes.
+    pub notes: LinkedList<Note>,
+}
+
 /// What a pass knows. A poster's has its number and what it posted. The taker's has how many posters were made, what was
 /// taken, and what each poster posted that was gathered in. No value of it is made.
 pub struct View {
@@ -24,7 +32,7 @@ pub struct View {
     /// What was taken.
     pub taken: LinkedList<Note>,
     /// What each poster that was gathered in had posted.
-    pub gathered: LinkedList<LinkedList<Note>>,
+    pub gathered: LinkedList<Sent>,
 }
 
 /// The inbox's rule.
@@ -45,7 +53,7 @@ impl Split<View> for Opens {
     ghost right = { seat };
 }
 
-/// The next poster's notes are gathered in.
+/// What a poster posted is gathered in.
 pub struct Gathers;
 
 impl Join<View> for Gathers {

@@ -1,7 +1,7 @@
 //! The end of an inbox: what each poster posted was taken or is left.
 ghost use Rattle.std.specs.Prelude.{◌≡◌, ◌+◌, ◌≤◌, [], ◌++◌, length, map, All, IfOk, IfErr, IsOk, vec_len, vec_capacity};
 ghost use Rattle.sup_inbox.specs.Delivery.{from, known_by, taker_view, IsSettled};
-ghost use Rattle.sup_inbox.specs.Ends.{AreFrom, posted_of, IsBy};
+ghost use Rattle.sup_inbox.specs.Ends.{AreOf, sent_of, IsBy};
 
 use crate::inbox::{Inbox, Poster, Taker};
 use crate::note::Note;
@@ -19,7 +19,7 @@ pub struct Settled<A: Allocator = Global> {
 /// All that was handed in to be settled, as it was: memory was refused.
 #[derive(Drop)]
 pub struct Unsettled<A: Allocator = Global, B: Allocator = Global, C: Allocator = Global> {
-    /// The posters, in the order of their numbers.
+    /// The posters, as they stood.
     pub posters: Vec<Poster, B>,
     /// The taker.
     pub taker: Taker,
@@ -36,9 +36,9 @@ fn gather<A: Allocator, B: Allocator>(
     posters: Vec<Poster, B>,
 ) -> Place
     requires pass { (pass.table_id ≡ inbox.now.id) × (pass.me.1 ≡ []) × (known_by pass ≡ taker_view (known_by pass).made (known_by pass).taken []) }
-    requires posters { AreFrom inbox.now.id 1 posters.items }
+    requires posters { AreOf inbox.now.id posters.items }
     ensures pass { (result.table_id ≡ inbox.now.id) × (result.me.1 ≡ []) }
-    ensures gathered { known_by result ≡ taker_view (known_by pass).made (known_by pass).taken (map posted_of posters.items) }
+    ensures gathered { known_by result ≡ taker_view (known_by pass).made (known_by pass).taken (map sent_of posters.items) }
 {
     for poster in posters {
         let Poster {
@@ -74,10 +74,11 @@ fn empty<R: Wait, A: Allocator, C: Allocator>(
     left
 }
 
-/// Ends an inbox, once all its posters, in the order of their numbers, and its taker are in one place. The room, which is
-/// empty before, is filled with the notes that are left: for each poster, its notes among those taken and then those left
-/// are what it posted, in its order, and there is no other note. For want of memory all comes back as it was, which cannot
-/// be where the room has space for the inbox's capacity.
+/// Ends an inbox, once all its posters, in any order, and its taker are in one place. No poster can stand there twice, so as
+/// many of the inbox's as were made are all of them. The room, which is empty before, is filled with the notes that are
+/// left: for each poster, its notes among those taken and then those left are what it posted, in its order, and there is no
+/// other note. For want of memory all comes back as it was, which cannot be where the room has space for the inbox's
+/// capacity.
 pub fn settle<R: Wait, A: Allocator, B: Allocator, C: Allocator>(
     rt: &R,
     posters: Vec<Poster, B>,
@@ -85,7 +86,7 @@ pub fn settle<R: Wait, A: Allocator, B: Allocator, C: Allocator>(
     inbox: Inbox<A>,
     room: Vec<Note, C>,
 ) -> Result<Settled<C>, Unsettled<A, B, C>>
-    requires posters { AreFrom inbox.id 1 posters.items × (vec_len posters ≡ taker.posters) }
+    requires posters { AreOf inbox.id posters.items × (vec_len posters ≡ taker.posters) }
     requires taker { taker.inbox ≡ inbox.id }
     requires room { room.items ≡ [] }
     ensures each { IfOk result (λ s. All (λ p. from (taker.taken ++ s.left.items) p.number ≡ p.posted) posters.items) }

@@ -1,4 +1,6 @@
 //! One poster after another, and each growth refused.
+mod crowd;
+
 use super::*;
 use linked_list_allocator::LocalHeap;
 use std::alloc::Allocator;
@@ -34,8 +36,8 @@ fn three_posts<R: Wait + Abort, A: Allocator + Copy>(rt: &R, alloc: A) -> Option
         .err();
     let taken = taker.take(rt, &inbox);
     let _ = second.post(rt, &inbox, 3, text(rt, b"c"), Reason::Normal);
-    posters.push(first).ok()?;
     posters.push(second).ok()?;
+    posters.push(first).ok()?;
     let left = settle(rt, posters, taker, inbox, room).ok()?.left;
     Some(Seen {
         refused,

@@ -1,17 +1,11 @@
-use Rattle.std.proofs.Common.{◌+◌, length, ap, ◌∙◌, subst}
+use Rattle.std.proofs.Common.{ap, ◌∙◌}
 use Rattle.sup_inbox.specs.Delivery.{known_by}
-use Rattle.sup_inbox.specs.Ends.{AreFrom}
 use Rattle.sup_inbox.proofs.Moves.{merges}
 use Rattle.sup_inbox.proofs.Rows.{gathers, next_rows, next_lists}
 use Rattle.sup_inbox.proofs.settling.gather.Goals as goal
 
 pub absorb-requires-clause-rule : goal.absorb-requires-clause-rule
-absorb-requires-clause-rule g c =
-    let i = c.loop-poster.invariant in
-    let p = c.poster.invariant.1 in
-    let steps = c.in-Some.ensures.steps.0 in
-    let rows = subst (AreFrom c.args.inbox.now.id (length (known_by c.loop-poster.pass).gathered + 1)) steps i.rows in
-    merges _ _ _ _ (ap (λ v. v.takes) i.view) (ap (λ v. v.posts) p) (ap (λ v. v.poster) p ∙ ap (λ x. x.number) c.poster.view_is ∙ rows.1)
+absorb-requires-clause-rule g c = merges _ _ _ _ (ap (λ v. v.takes) c.loop-poster.invariant.view) (ap (λ v. v.posts) c.poster.invariant.1)
 
 pub loop-poster-preserved : goal.loop-poster-preserved
 loop-poster-preserved g c =
@@ -20,10 +14,11 @@ loop-poster-preserved g c =
     let v = known_by c.loop-poster.pass in
     let u = known_by c.poster.inside.pass in
     let w = known_by c.absorb.new.pass in
+    let p = c.poster.invariant.1 in
     let steps = c.in-Some.ensures.steps.0 in
     record {
       pass = (a.queue.0 ∙ i.pass.0, a.queue.2 ∙ i.pass.1);
       view = gathers _ _ v u w i.view a.rule;
-      rows = next_rows _ v u w _ _ _ a.rule steps i.rows;
-      lists = next_lists v u w _ _ _ a.rule steps (ap (λ x. x.posted) c.poster.view_is) ∙ i.lists;
+      rows = next_rows _ _ _ _ steps i.rows;
+      lists = next_lists v u w _ _ _ a.rule steps (ap (λ v. v.poster) p ∙ ap (λ x. x.number) c.poster.view_is) (ap (λ x. x.posted) c.poster.view_is) ∙ i.lists;
     }

@@ -1,6 +1,6 @@
 use Rattle.std.proofs.Common.{[], ◌++◌, map, sym, ap, ◌∙◌, subst}
 use Rattle.sup_inbox.specs.Delivery.{taker_view, IsSettled}
-use Rattle.sup_inbox.specs.Ends.{posted_of}
+use Rattle.sup_inbox.specs.Ends.{sent_of}
 use Rattle.sup_inbox.proofs.Rows.{each_settled, others_settled, settled_at}
 use Rattle.sup_inbox.proofs.settling.settle.Goals as goal
 
@@ -9,7 +9,7 @@ returns-clause-each g c =
     let e = c.gather-pass.ensures.gathered in
     let n = ap (λ t. t.posters) c.taker.view_is ∙ sym c.requires.posters.1 in
     let now = settled_at _ _ _ _ _ _ _ e n (ap (λ t. t.taken) c.taker.view_is) c.empty-left.ensures in
-    each_settled _ _ _ c.requires.posters.0 (subst (λ m. IsSettled (taker_view m (c.args.taker.taken ++ c.empty-left.result.items) (map posted_of c.args.posters.items)) []) c.args.posters.ok.0 now)
+    each_settled _ _ (subst (λ m. IsSettled (taker_view m (c.args.taker.taken ++ c.empty-left.result.items) (map sent_of c.args.posters.items)) []) c.args.posters.ok.0 now)
 
 pub returns-clause-others : goal.returns-clause-others
 returns-clause-others g c =

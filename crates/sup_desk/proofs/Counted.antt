@@ -1,0 +1,115 @@
+-- The counts of the handles' entries.
+use Rattle.std.proofs.Common.{◌≡◌, ◌≢◌, ℕ, zero, suc, Bool, true, false, cond, ◌==◌, ◌+◌, ◌<◌, List, [], ◌∷◌, ◌++◌, length, get_or, set, refl, ap, sym, ◌∙◌, subst, arith, length-append, append-nil, take, get_or-set_same, get_or-set_other}
+use Rattle.std.proofs.Math.ListN.{get_or-append}
+use Rattle.std.proofs.Math.Seq.{get_or-append_seam, take-length}
+use mathlib.Core.List.{IsPrefix}
+use Rattle.std.proofs.lemmas.Bool.Decides.{nat_tests}
+use Rattle.std.proofs.lemmas.List.Elements.{All-append}
+use Rattle.std.specs.List.{All}
+use Rattle.sup_types.specs.declared.history.Entry.{Entry}
+use Rattle.sup_log.proofs.Prefixes.{prefix_whole}
+use Rattle.sup_desk.specs.Knowledge.{entries_of}
+use Rattle.sup_desk.specs.Books.{IsMade, IsCounted}
+use Rattle.sup_desk.proofs.Entries.{entries-one, entries-other}
+
+-- the entries are of handles that were made
+abbrev pub AreMade : ℕ → List Entry → Type 0
+AreMade made history = All (λ entry. IsMade made entry.handle) history
+
+first_made : (made : ℕ) (x : Entry) (xs : List Entry) → AreMade made (x ∷ xs) → IsMade made x.handle
+first_made made x xs all = all 0 x (omega arith)
+
+rest_made : (made : ℕ) (x : Entry) (xs : List Entry) → AreMade made (x ∷ xs) → AreMade made xs
+rest_made made x xs all = λ k d within. all (suc k) d (omega arith)
+
+skipped : (b : Bool) (x : Entry) (ys : List Entry) → b ≡ false → ys ≡ [] → cond b (x ∷ ys) ys ≡ []
+skipped true x ys is none = absurd (cc is)
+skipped false x ys is none = none
+
+apart : (m n : ℕ) → ¬ (m ≡ n) → (m == n) ≡ false
+apart m n differ = by_test (m == n) refl
+  where
+    by_test : (b : Bool) → (m == n) ≡ b → (m == n) ≡ false
+    by_test true is = absurd (differ (grind (arith, nat_tests)))
+    by_test false is = is
+
+-- a number that no handle has yet has no entries
+pub entries-none : (made : ℕ) (history : List Entry) (number : ℕ) → AreMade made history → made < number → entries_of history number ≡ []
+entries-none made [] number all past = refl
+entries-none made (x ∷ xs) number all past =
+    let mine = first_made made x xs all in
+    let differ : ¬ (x.handle ≡ number) = λ same. omega (arith, mine.1) in
+    skipped (x.handle == number) x (entries_of xs number) (apart x.handle number differ) (entries-none made xs number (rest_made made x xs all) past)
+
+-- one handle more
+pub counted_more : (made : ℕ) (counts : List ℕ) (history : List Entry) → length counts ≡ made → IsCounted made counts history
+    → IsCounted (made + 1) (counts ++ 0 ∷ []) history
+counted_more made counts history len counted = (
+  λ k within. at k within (k == made) refl,
+  λ k d within. let mine = counted.1 k d within in (mine.0, omega (arith, mine.1)),
+)
+  where
+    at : (k : ℕ) → k < made + 1 → (b : Bool) → (k == made) ≡ b → get_or (counts ++ 0 ∷ []) k 0 ≡ length (entries_of history (k + 1))
+    at k within true is =
+        let here : k ≡ length counts = grind (arith, nat_tests, len) in
+        ap (λ (i : ℕ). get_or (counts ++ 0 ∷ []) i 0) here ∙ get_or-append_seam counts 0 [] 0
+        ∙ sym (ap length (entries-none made history (k + 1) counted.1 (omega (arith, here, len))))
+    at k within false is =
+        let low : k < made = grind (arith, nat_tests) in
+        get_or-append counts (0 ∷ []) 0 k (omega (arith, len)) ∙ counted.0 k low
+
+-- one entry more
+pub counted_push : (made : ℕ) (counts : List ℕ) (history : List Entry) (entry : Entry) (place : ℕ) → length counts ≡ made → IsCounted made counts history
+    → IsMade made entry.handle → entry.handle ≡ place + 1
+    → IsCounted made (set counts place (get_or counts place 0 + 1)) (history ++ entry ∷ [])
+counted_push made counts history entry place len counted mine here = (
+  λ k within. at k within (k == place) refl,
+  All-append (λ (x : Entry). IsMade made x.handle) history (entry ∷ []) counted.1 one,
+)
+  where
+    one : AreMade made (entry ∷ [])
+    one zero d within = mine
+    one (suc k) d within = absurd (omega (arith, within))
+
+    at : (k : ℕ) → k < made → (b : Bool) → (k == place) ≡ b → get_or (set counts place (get_or counts place 0 + 1)) k 0 ≡ length (entries_of (history ++ entry ∷ []) (k + 1))
+    at k within true is =
+        let same : k ≡ place = grind (arith, nat_tests) in
+        let own : entry.handle ≡ k + 1 = omega arith in
+        let low : place < length counts = omega (arith, len) in
+        let count = counted.0 k within in
+        ap (λ (i : ℕ). get_or (set counts place (get_or counts place 0 + 1)) i 0) same
+        ∙ get_or-set_same counts place (get_or counts place 0 + 1) 0 low
+        ∙ ap (λ (i : ℕ). get_or counts i 0 + 1) (sym same)
+        ∙ ap (λ (n : ℕ). n + 1) count
+        ∙ sym (ap length (entries-one (k + 1) history entry own) ∙ length-append (entries_of history (k + 1)) (entry ∷ []))
+    at k within false is =
+        let differ : k ≢ place = λ same. grind (arith, nat_tests) in
+        let other : ¬ (entry.handle ≡ k + 1) = λ same. differ (omega arith) in
+        get_or-set_other counts place k (get_or counts place 0 + 1) 0 differ
+        ∙ counted.0 k within ∙ sym (ap length (entries-other (k + 1) history entry other))
+
+-- a handle that has seen just what is published, and has made as many calls as it has entries
+pub tied_is : (published pending front calls : List Entry) (number made n k : ℕ) → pending ≡ [] → IsPrefix published front → length front ≡ length published
+    → n ≡ number → k ≡ length calls → calls ≡ take (length calls) (entries_of front number)
+    → IsMade made n × (length (entries_of (published ++ pending) n) ≡ k)
+    → (front ≡ published) × (entries_of published number ≡ calls) × IsMade made number
+tied_is published pending front calls number made n k none learnt long num count first (mine, own) =
+    let whole : published ≡ front = prefix_whole published front learnt (omega (arith, long)) in
+    let all : published ++ pending ≡ published = ap (λ l. published ++ l) none ∙ append-nil published in
+    let len : length calls ≡ length (entries_of published number) =
+    sym count ∙ sym own ∙ ap (λ l. length (entries_of l n)) all ∙ ap (λ (i : ℕ). length (entries_of published i)) num in
+    let is : calls ≡ entries_of published number =
+    first ∙ ap (λ l. take (length calls) (entries_of l number)) (sym whole) ∙ ap (λ (i : ℕ). take i (entries_of published number)) len
+    ∙ take-length (entries_of published number) in
+    (sym whole, sym is, subst (IsMade made) num mine)
+
+-- a handle whose calls are not as many as its entries
+pub split_is : (published pending calls : List Entry) (number made n k : ℕ) → pending ≡ [] → n ≡ number → k ≡ length calls
+    → ¬ (IsMade made n × (length (entries_of (published ++ pending) n) ≡ k))
+    → ¬ (IsMade made number × (length (entries_of published number) ≡ length calls))
+split_is published pending calls number made n k none num count differ (mine, own) =
+    let all : published ++ pending ≡ published = ap (λ l. published ++ l) none ∙ append-nil published in
+    differ (
+      subst (IsMade made) (sym num) mine,
+      ap (λ l. length (entries_of l n)) all ∙ ap (λ (i : ℕ). length (entries_of published i)) num ∙ own ∙ sym count,
+    )

@@ -1,0 +1,4 @@
+pub mod Answered
+pub mod After
+pub mod Entries
+pub mod Counted

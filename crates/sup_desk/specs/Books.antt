@@ -1,0 +1,48 @@
+-- What stands under the lock, and when it is consistent.
+use Rattle.std.specs.Prelude.{◌≡◌, ℕ, ◌+◌, List, length, slice_index, ◌<◌, ◌≤◌, ◌⊎◌}
+use Rattle.std.specs.List.{All}
+use Rattle.logbook.specs.Pages.{Book}
+use Rattle.sup_types.specs.declared.template.Template.{Template}
+use Rattle.sup_types.specs.declared.history.Entry.{Entry}
+use Rattle.sup_desk.specs.Knowledge.{Knowledge, entries_of}
+
+-- the name of no press
+abbrev pub no_press : Book
+no_press = record { number = 0; log_name = 0; cells_name = 0 }
+
+-- the press of a ground, its template, and how many handles there may be
+pub record Plot : Type 0 where
+  pub press : Book
+  pub template : Template
+  pub handles : ℕ
+
+-- the published history, how many handles were made, how many there may be, and how many publications there were
+pub record Kept : Type 0 where
+  pub history : List Entry
+  pub made : ℕ
+  pub handles : ℕ
+  pub editions : ℕ
+
+-- the same with entries that are not yet published
+pub record Written : Type 0 where
+  pub published : List Entry
+  pub pending : List Entry
+  pub made : ℕ
+  pub handles : ℕ
+  pub editions : ℕ
+
+-- a handle with this number was made: numbers go from 1
+abbrev pub IsMade : ℕ → ℕ → Type 0
+IsMade made number = (1 ≤ number) × (number ≤ made)
+
+-- the count of each handle is the number of its entries, and each entry is of a handle that was made
+abbrev pub IsCounted : ℕ → List ℕ → List Entry → Type 0
+IsCounted made counts history =
+    ((k : ℕ) → k < made → slice_index counts k ≡ length (entries_of history (k + 1)))
+    × All (λ entry. IsMade made entry.handle) history
+
+-- the handle can't be tied to the book: it has seen more than is published, or its calls are not as many as its entries
+abbrev pub IsSplit : Kept → Knowledge → Type 0
+IsSplit book handle =
+    (length book.history < length handle.front)
+    ⊎ ¬ (IsMade book.made handle.number × (length (entries_of book.history handle.number) ≡ length handle.calls))

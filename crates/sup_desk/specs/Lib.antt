@@ -1,0 +1,4 @@
+pub mod Knowledge
+pub mod Books
+pub mod Faults
+pub mod Asking

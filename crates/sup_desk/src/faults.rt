@@ -1,0 +1,142 @@
+//! What a desk and its handles refuse.
+ghost use Rattle.std.specs.Prelude.{◌≡◌};
+ghost use Rattle.sup_desk.specs.Faults.{update_fault_number, ticket_fault_number, query_fault_number, handle_fault_number, desk_fault_number};
+
+use sup_log::Gone;
+use sup_types::OutOfMemory;
+use thiserror::Error;
+
+/// Why an update was refused.
+#[derive(Clone, Copy, Debug, PartialEq, Eq, Error)]
+pub enum UpdateFault {
+    /// A growth was refused.
+    #[error("out of memory")]
+    OutOfMemory,
+    /// The history has as many entries as the template allows.
+    #[error("the history is full")]
+    HistoryFull,
+    /// What the handle has seen can't be tied to the book.
+    #[error("the handle is split from its desk")]
+    Split,
+    /// The reader could not learn or enter. No update is answered so: each learns without entering.
+    #[error("the press is gone")]
+    Gone,
+}
+
+impl UpdateFault {
+    /// The number of this fault.
+    pub fn number(&self) -> u8
+        ensures { result ≡ update_fault_number self.now }
+    {
+        match self {
+            UpdateFault::OutOfMemory => 1,
+            UpdateFault::HistoryFull => 2,
+            UpdateFault::Split => 3,
+            UpdateFault::Gone => 4,
+        }
+    }
+}
+
+/// Why no ticket was given.
+#[derive(Clone, Copy, Debug, PartialEq, Eq, Error)]
+pub enum TicketFault {
+    /// What the handle has seen can't be tied to the book, or an audit lacked a handle.
+    #[error("the handle is split from its desk")]
+    Split,
+    /// The reader could not learn or enter. No ticket is refused so: the handle learns without entering.
+    #[error("the press is gone")]
+    Gone,
+}
+
+impl TicketFault {
+    /// The number of this fault.
+    pub fn number(&self) -> u8
+        ensures { result ≡ ticket_fault_number self.now }
+    {
+        match self {
+            TicketFault::Split => 3,
+            TicketFault::Gone => 4,
+        }
+    }
+}
+
+/// Why the children were not listed.
+#[derive(Clone, Copy, Debug, PartialEq, Eq, Error)]
+pub enum QueryFault {
+    /// A growth was refused.
+    #[error("out of memory")]
+    OutOfMemory,
+    /// The reader could not enter.
+    #[error("the press is gone")]
+    Gone,
+}
+
+impl QueryFault {
+    /// The number of this fault.
+    pub fn number(&self) -> u8
+        ensures { result ≡ query_fault_number self.now }
+    {
+        match self {
+            QueryFault::OutOfMemory => 1,
+            QueryFault::Gone => 4,
+        }
+    }
+}
+
+impl From<Gone> for QueryFault {
+    fn from(_gone: Gone) -> Self {
+        QueryFault::Gone
+    }
+}
+
+impl From<OutOfMemory> for QueryFault {
+    fn from(_fault: OutOfMemory) -> Self {
+        QueryFault::OutOfMemory
+    }
+}
+
+/// Why no handle was made.
+#[derive(Clone, Copy, Debug, PartialEq, Eq, Error)]
+pub enum HandleFault {
+    /// As many handles were made as the ground said.
+    #[error("all handles were made")]
+    NoHandle,
+    /// The press has no place for a lens, or no memory for one.
+    #[error("no place for a lens is left")]
+    NoPlace,
+}
+
+impl HandleFault {
+    /// The number of this fault.
+    pub fn number(&self) -> u8
+        ensures { result ≡ handle_fault_number self.now }
+    {
+        match self {
+            HandleFault::NoHandle => 5,
+            HandleFault::NoPlace => 6,
+        }
+    }
+}
+
+/// Why no ground was made.
+#[derive(Clone, Copy, Debug, PartialEq, Eq, Error)]
+pub enum DeskFault {
+    /// A growth was refused.
+    #[error("out of memory")]
+    OutOfMemory,
+    /// The number of handles is not from 1 to 1024.
+    #[error("the number of handles is out of range")]
+    BadTemplate,
+}
+
+impl DeskFault {
+    /// The number of this fault.
+    pub fn number(&self) -> u8
+        ensures { result ≡ desk_fault_number self.now }
+    {
+        match self {
+            DeskFault::OutOfMemory => 1,
+            DeskFault::BadTemplate => 7,
+        }
+    }
+}

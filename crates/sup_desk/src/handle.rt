@@ -1,0 +1,242 @@
+//! Handles: the callers of a desk.
+ghost use Rattle.std.specs.Prelude.{◌≡◌, ◌≤◌, [], length, IfOk, IsOk, OnErr, IfErr, true, false};
+ghost use mathlib.Core.List.{IsPrefix};
+ghost use Rattle.sup_core.specs.State.{MatchSeen};
+ghost use Rattle.sup_core.specs.Queries.{which, count, child};
+ghost use Rattle.sup_log.specs.Tokens.{sight};
+ghost use Rattle.sup_desk.specs.Asking.{IsAnswered};
+ghost use Rattle.sup_desk.specs.Knowledge.{entries_of, IsUpdated};
+
+use crate::desk::Desk;
+use crate::faults::{QueryFault, TicketFault, UpdateFault};
+use crate::laws::{Done, enter, give_ticket};
+use crate::name::Name;
+use crate::pass::Pass;
+use std::marker::Model;
+use std::sync::Wait;
+use sup_log::{Gone, Ticket, View};
+use sup_types::{Counts, Operation, Reason, Refusal, Row, Seen, Starter, Text};
+
+/// A caller of the desk from which it is borrowed. It may be moved to one thread.
+#[derive(Drop)]
+pub struct Handle<'d, N: Name, S: Starter + Drop, R: Wait + Drop> {
+    pub(crate) pass: Pass<N>,
+    pub(crate) desk: &'d Desk<N, S, R>,
+}
+
+impl<'d, N: Name, S: Starter + Drop, R: Wait + Drop> Model for Handle<'d, N, S, R> {
+    ghost use Rattle.sup_desk.specs.Knowledge.{Knowledge};
+
+    ghost Value = { Knowledge };
+
+    ghost view = { λ h. h.pass };
+}
+
+/// Updates. Each waits for the lock, learns all that is published, and is entered in the history at once: its reply is
+/// that of a supervisor of one thread after a history that begins with all that the handle had seen, learnt or done.
+/// The start function is asked under the lock. After a refusal the history and every published answer are as before.
+impl<'d, N: Name, S: Starter + Drop, R: Wait + Drop> Handle<'d, N, S, R> {
+    /// Starts a child with this argument, at this moment in seconds.
+    pub fn start_child<W: Wait>(
+        &mut self,
+        rt: &W,
+        moment: u64,
+        arg: Text,
+    ) -> Result<Done, UpdateFault>
+        ensures ok { IfOk result (λ d. IsUpdated S.answer N.template self.old (Operation.Start arg) moment self.new d.reply d.ticket.front) }
+        ensures press { IfOk result (λ d. d.ticket.press ≡ N.press) }
+        ensures front { IsPrefix self.old.front self.new.front }
+        ensures calls { OnErr result ((self.new.calls ≡ self.old.calls) × (self.new.number ≡ self.old.number)) }
+        ensures gone { IfErr result (λ e. e ≡ UpdateFault.Gone → ⊥) }
+        ensures full { IfErr result (λ e. e ≡ UpdateFault.HistoryFull → (length self.new.front ≡ N.template.entries) × (entries_of self.new.front self.new.number ≡ self.new.calls)) }
+        ensures memory { IfErr result (λ e. e ≡ UpdateFault.OutOfMemory → entries_of self.new.front self.new.number ≡ self.new.calls) }
+    {
+        self.update(rt, moment, Operation::Start(arg))
+    }
+
+    /// The child with this number ended.
+    pub fn exit<W: Wait>(
+        &mut self,
+        rt: &W,
+        moment: u64,
+        number: u64,
+        reason: Reason,
+    ) -> Result<Done, UpdateFault>
+        ensures ok { IfOk result (λ d. IsUpdated S.answer N.template self.old (Operation.Exit number reason) moment self.new d.reply d.ticket.front) }
+        ensures press { IfOk result (λ d. d.ticket.press ≡ N.press) }
+        ensures front { IsPrefix self.old.front self.new.front }
+        ensures calls { OnErr result ((self.new.calls ≡ self.old.calls) × (self.new.number ≡ self.old.number)) }
+        ensures gone { IfErr result (λ e. e ≡ UpdateFault.Gone → ⊥) }
+        ensures full { IfErr result (λ e. e ≡ UpdateFault.HistoryFull → (length self.new.front ≡ N.template.entries) × (entries_of self.new.front self.new.number ≡ self.new.calls)) }
+        ensures memory { IfErr result (λ e. e ≡ UpdateFault.OutOfMemory → entries_of self.new.front self.new.number ≡ self.new.calls) }
+    {
+        self.update(rt, moment, Operation::Exit(number, reason))
+    }
+
+    /// Tries the restart of the child with this number again.
+    pub fn retry<W: Wait>(&mut self, rt: &W, moment: u64, number: u64) -> Result<Done, UpdateFault>
+        ensures ok { IfOk result (λ d. IsUpdated S.answer N.template self.old (Operation.Retry number) moment self.new d.reply d.ticket.front) }
+        ensures press { IfOk result (λ d. d.ticket.press ≡ N.press) }
+        ensures front { IsPrefix self.old.front self.new.front }
+        ensures calls { OnErr result ((self.new.calls ≡ self.old.calls) × (self.new.number ≡ self.old.number)) }
+        ensures gone { IfErr result (λ e. e ≡ UpdateFault.Gone → ⊥) }
+        ensures full { IfErr result (λ e. e ≡ UpdateFault.HistoryFull → (length self.new.front ≡ N.template.entries) × (entries_of self.new.front self.new.number ≡ self.new.calls)) }
+        ensures memory { IfErr result (λ e. e ≡ UpdateFault.OutOfMemory → entries_of self.new.front self.new.number ≡ self.new.calls) }
+    {
+        self.update(rt, moment, Operation::Retry(number))
+    }
+
+    /// Ends the child with this number.
+    pub fn terminate_child<W: Wait>(
+        &mut self,
+        rt: &W,
+        moment: u64,
+        number: u64,
+    ) -> Result<Done, UpdateFault>
+        ensures ok { IfOk result (λ d. IsUpdated S.answer N.template self.old (Operation.Terminate number) moment self.new d.reply d.ticket.front) }
+        ensures press { IfOk result (λ d. d.ticket.press ≡ N.press) }
+        ensures front { IsPrefix self.old.front self.new.front }
+        ensures calls { OnErr result ((self.new.calls ≡ self.old.calls) × (self.new.number ≡ self.old.number)) }
+        ensures gone { IfErr result (λ e. e ≡ UpdateFault.Gone → ⊥) }
+        ensures full { IfErr result (λ e. e ≡ UpdateFault.HistoryFull → (length self.new.front ≡ N.template.entries) × (entries_of self.new.front self.new.number ≡ self.new.calls)) }
+        ensures memory { IfErr result (λ e. e ≡ UpdateFault.OutOfMemory → entries_of self.new.front self.new.number ≡ self.new.calls) }
+    {
+        self.update(rt, moment, Operation::Terminate(number))
+    }
+
+    /// Ends all children, and the supervisor.
+    pub fn stop<W: Wait>(&mut self, rt: &W, moment: u64) -> Result<Done, UpdateFault>
+        ensures ok { IfOk result (λ d. IsUpdated S.answer N.template self.old Operation.Stop moment self.new d.reply d.ticket.front) }
+        ensures press { IfOk result (λ d. d.ticket.press ≡ N.press) }
+        ensures front { IsPrefix self.old.front self.new.front }
+        ensures calls { OnErr result ((self.new.calls ≡ self.old.calls) × (self.new.number ≡ self.old.number)) }
+        ensures gone { IfErr result (λ e. e ≡ UpdateFault.Gone → ⊥) }
+        ensures full { IfErr result (λ e. e ≡ UpdateFault.HistoryFull → (length self.new.front ≡ N.template.entries) × (entries_of self.new.front self.new.number ≡ self.new.calls)) }
+        ensures memory { IfErr result (λ e. e ≡ UpdateFault.OutOfMemory → entries_of self.new.front self.new.number ≡ self.new.calls) }
+    {
+        self.update(rt, moment, Operation::Stop)
+    }
+
+    /// Enters this operation.
+    fn update<W: Wait>(
+        &mut self,
+        rt: &W,
+        moment: u64,
+        operation: Operation,
+    ) -> Result<Done, UpdateFault>
+        ensures ok { IfOk result (λ d. IsUpdated S.answer N.template self.old operation moment self.new d.reply d.ticket.front) }
+        ensures press { IfOk result (λ d. d.ticket.press ≡ N.press) }
+        ensures front { IsPrefix self.old.front self.new.front }
+        ensures calls { OnErr result ((self.new.calls ≡ self.old.calls) × (self.new.number ≡ self.old.number)) }
+        ensures gone { IfErr result (λ e. e ≡ UpdateFault.Gone → ⊥) }
+        ensures full { IfErr result (λ e. e ≡ UpdateFault.HistoryFull → (length self.new.front ≡ N.template.entries) × (entries_of self.new.front self.new.number ≡ self.new.calls)) }
+        ensures memory { IfErr result (λ e. e ≡ UpdateFault.OutOfMemory → entries_of self.new.front self.new.number ≡ self.new.calls) }
+    {
+        enter(
+            &mut *self.desk.book.lock(rt),
+            &self.desk.starter,
+            &mut self.pass,
+            moment,
+            operation,
+        )
+    }
+}
+
+/// What takes no lock but for `ticket`.
+impl<'d, N: Name, S: Starter + Drop, R: Wait + Drop> Handle<'d, N, S, R> {
+    /// A ticket for all of the history, which the handle has then seen. Its calls are all that stand there under its
+    /// number. It waits for the lock.
+    pub fn ticket<W: Wait>(&mut self, rt: &W) -> Result<Ticket, TicketFault>
+        ensures ok { IfOk result (λ t. (entries_of self.new.front self.new.number ≡ self.new.calls) × (t.front ≡ self.new.front) × (t.press ≡ N.press)) }
+        ensures front { IsPrefix self.old.front self.new.front }
+        ensures calls { (self.new.calls ≡ self.old.calls) × (self.new.number ≡ self.old.number) }
+        ensures gone { IfErr result (λ e. e ≡ TicketFault.Gone → ⊥) }
+    {
+        give_ticket(&*self.desk.book.lock(rt), &mut self.pass)
+    }
+
+    /// Its number: 1, 2, 3, .. in the order of making.
+    pub fn number(&self) -> u64
+        ensures { result ≡ self.now.number }
+    {
+        self.pass.number()
+    }
+
+    /// The length of its front, in entries. It enters nothing.
+    pub fn front(&self) -> u64
+        ensures { result ≡ length self.now.front }
+    {
+        self.pass.front()
+    }
+
+    /// How many children there are at one front, which begins with all that the handle had seen, learnt or done.
+    pub fn count_children(&mut self) -> Result<Seen<Counts>, Gone>
+        ensures front { IsPrefix self.old.front self.new.front }
+        ensures calls { (self.new.calls ≡ self.old.calls) × (self.new.number ≡ self.old.number) }
+        ensures answer { IfOk result (λ answer. answer ≡ count N.template self.new.front) }
+    {
+        self.pass.count_children()
+    }
+
+    /// The listed child with this number at such a front.
+    pub fn child(&mut self, number: u64) -> Result<Seen<Option<Row>>, Gone>
+        ensures front { IsPrefix self.old.front self.new.front }
+        ensures calls { (self.new.calls ≡ self.old.calls) × (self.new.number ≡ self.old.number) }
+        ensures answer { IfOk result (λ answer. answer ≡ child N.template self.new.front number) }
+    {
+        self.pass.child(number)
+    }
+
+    /// The listed children at such a front, by ascending numbers.
+    pub fn which_children(&mut self) -> Result<Seen<Vec<Row>>, QueryFault>
+        ensures front { IsPrefix self.old.front self.new.front }
+        ensures calls { (self.new.calls ≡ self.old.calls) × (self.new.number ≡ self.old.number) }
+        ensures answer { IfOk result (λ seen. MatchSeen seen (λ rows. which N.template self.new.front ≡ Seen.Up rows.items) (which N.template self.new.front ≡ Seen.Down)) }
+    {
+        self.pass.which_children()
+    }
+
+    /// Calls `f` once on a view at such a front, and not at all where the supervisor is down. `f` may make no update,
+    /// which would wait for this look.
+    pub fn inspect<T, F: FnOnce(&View) -> T>(&mut self, f: F) -> Result<Seen<T>, Gone>
+        requires { F.IsAlwaysCallable f }
+        ensures front { IsPrefix self.old.front self.new.front }
+        ensures calls { (self.new.calls ≡ self.old.calls) × (self.new.number ≡ self.old.number) }
+        ensures answer { let view = sight (record { press = N.press; template = N.template; front = self.new.front })
+            in IfOk result (λ seen. IsAnswered F.FnOnce f view view.standing.down seen) }
+    {
+        self.pass.inspect(f)
+    }
+
+    /// From now on its front begins with the ticket's, which is of the same desk. It enters nothing and always succeeds.
+    pub fn learn(&mut self, ticket: &Ticket) -> Result<(), Gone>
+        requires { ticket.now.press ≡ N.press }
+        ensures answered { IsOk result }
+        ensures front { IsPrefix self.old.front self.new.front }
+        ensures calls { (self.new.calls ≡ self.old.calls) × (self.new.number ≡ self.old.number) }
+        ensures learnt { IsPrefix ticket.now.front self.new.front }
+    {
+        self.pass.learn(ticket)
+    }
+
+    /// A termination names a process and no identifier.
+    pub fn terminate_id(&self, _id: &Text) -> Refusal
+        ensures { result ≡ Refusal.SimpleOneForOne }
+    {
+        Refusal::SimpleOneForOne
+    }
+
+    /// Children of one template have no specifications of their own to delete.
+    pub fn delete_child(&self, _id: &Text) -> Refusal
+        ensures { result ≡ Refusal.SimpleOneForOne }
+    {
+        Refusal::SimpleOneForOne
+    }
+
+    /// Children of one template are not restarted by an identifier.
+    pub fn restart_child(&self, _id: &Text) -> Refusal
+        ensures { result ≡ Refusal.SimpleOneForOne }
+    {
+        Refusal::SimpleOneForOne
+    }
+}
