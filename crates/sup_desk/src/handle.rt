@@ -1,21 +1,44 @@
 //! Handles: the callers of a desk.
-ghost use Rattle.std.specs.Prelude.{◌≡◌, ◌≤◌, [], length, IfOk, IsOk, OnErr, IfErr, true, false};
+ghost use Rattle.std.specs.Prelude.{◌≡◌, ◌≤◌, ◌<◌, [], length, take, drop, IfOk, IsOk, OnOk, OnErr, IfErr, IfSome, IfNone, IsTrue, ◌↔◌, ◌+◌, true, false};
 ghost use mathlib.Core.List.{IsPrefix};
 ghost use Rattle.sup_core.specs.State.{MatchSeen};
 ghost use Rattle.sup_core.specs.Queries.{which, count, child};
 ghost use Rattle.sup_log.specs.Tokens.{sight};
 ghost use Rattle.sup_desk.specs.Asking.{IsAnswered};
 ghost use Rattle.sup_desk.specs.Knowledge.{entries_of, IsUpdated};
+ghost use Rattle.sup_desk.specs.Batches.{IsApplied};
+ghost use Rattle.sup_desk.specs.Books.{IsSplit};
+ghost use Rattle.sup_desk.specs.Audits.{AreNumbered, IsGrown, HasSeenAll};
 
+use crate::book::Book;
 use crate::desk::Desk;
 use crate::faults::{QueryFault, TicketFault, UpdateFault};
-use crate::laws::{Done, enter, give_ticket};
+use crate::laws::{Done, Rest, enter, enter_all, give_ticket};
 use crate::name::Name;
 use crate::pass::Pass;
+use std::alloc::{Allocator, Global};
+use std::collections::VecDeque;
 use std::marker::Model;
 use std::sync::Wait;
 use sup_log::{Gone, Ticket, View};
-use sup_types::{Counts, Operation, Reason, Refusal, Row, Seen, Starter, Text};
+use sup_types::{Counts, Operation, Reason, Refusal, Reply, Row, Seen, Starter, Text};
+
+/// Operations that were entered together: the reply to each, in their order, and a ticket for the history up to and with
+/// the last.
+#[derive(Drop)]
+pub struct Dones<A: Allocator = Global> {
+    pub replies: Vec<Reply, A>,
+    pub ticket: Ticket,
+}
+
+/// Operations of which only the first were entered: the replies to these, a ticket for the history up to and with the
+/// last of them, where there is one, and why the others were not.
+#[derive(Drop)]
+pub struct Part<A: Allocator = Global> {
+    pub replies: Vec<Reply, A>,
+    pub ticket: Option<Ticket>,
+    pub fault: UpdateFault,
+}
 
 /// A caller of the desk from which it is borrowed. It may be moved to one thread.
 #[derive(Drop)]
@@ -140,6 +163,56 @@ impl<'d, N: Name, S: Starter + Drop, R: Wait + Drop> Handle<'d, N, S, R> {
             operation,
         )
     }
+
+    /// Enters the operations of the queue as updates, from its front on and in order, and publishes them in one step. An
+    /// operation that is entered leaves the queue. The room for the replies is made first. After a fault what was entered
+    /// is published, and the queue has the others in order. An empty queue enters nothing.
+    pub fn apply_all<W: Wait, A: Allocator + Copy>(
+        &mut self,
+        rt: &W,
+        alloc: A,
+        moment: u64,
+        operations: &mut VecDeque<Operation>,
+    ) -> Result<Dones<A>, Part<A>>
+        ensures ok { IfOk result (λ d. IsApplied S.answer N.template self.old operations.old.items moment self.new d.replies.items d.ticket.front × (d.ticket.press ≡ N.press)) }
+        ensures all { OnOk result (operations.new.items ≡ []) }
+
+        // What a fault leaves.
+        ensures part { IfErr result (λ p. IfSome p.ticket (λ t. IsApplied S.answer N.template self.old (take (length p.replies.items) operations.old.items) moment self.new p.replies.items t.front × (t.press ≡ N.press) × (0 < length p.replies.items))) }
+        ensures nothing { IfErr result (λ p. IfNone p.ticket ((p.replies.items ≡ []) × (self.new.calls ≡ self.old.calls) × (self.new.number ≡ self.old.number))) }
+        ensures rest { IfErr result (λ p. operations.new.items ≡ drop (length p.replies.items) operations.old.items) }
+        ensures front { IsPrefix self.old.front self.new.front }
+
+        // When a fault comes.
+        ensures gone { IfErr result (λ p. p.fault ≡ UpdateFault.Gone → ⊥) }
+        ensures split { IfErr result (λ p. p.fault ≡ UpdateFault.Split → p.replies.items ≡ []) }
+        ensures full { IfErr result (λ p. p.fault ≡ UpdateFault.HistoryFull → length self.new.front ≡ N.template.entries) }
+    {
+        let Ok(mut replies) = Vec::with_capacity(alloc, operations.len()) else {
+            return Err(Part {
+                replies: Vec::new(alloc),
+                ticket: None,
+                fault: UpdateFault::OutOfMemory,
+            });
+        };
+        let entered = enter_all(
+            &mut *self.desk.book.lock(rt),
+            &self.desk.starter,
+            &mut self.pass,
+            moment,
+            operations,
+            &mut replies,
+        );
+        let (ticket, fault) = match entered {
+            Ok(ticket) => return Ok(Dones { replies, ticket }),
+            Err(Rest { ticket, fault }) => (ticket, fault),
+        };
+        Err(Part {
+            replies,
+            ticket,
+            fault,
+        })
+    }
 }
 
 /// What takes no lock but for `ticket`.
@@ -155,11 +228,32 @@ impl<'d, N: Name, S: Starter + Drop, R: Wait + Drop> Handle<'d, N, S, R> {
         give_ticket(&*self.desk.book.lock(rt), &mut self.pass)
     }
 
+    /// A ticket for all of the history of this book, which the handle has then seen.
+    pub(crate) fn see_all(&mut self, book: &Book<N, R>) -> Result<Ticket, TicketFault>
+        ensures seen { OnOk result (HasSeenAll book.now.history self.new) }
+        ensures split { OnErr result (IsSplit book.now self.new) }
+        ensures grown { IsGrown self.old self.new }
+    {
+        give_ticket(book, &mut self.pass)
+    }
+
     /// Its number: 1, 2, 3, .. in the order of making.
     pub fn number(&self) -> u64
         ensures { result ≡ self.now.number }
     {
         self.pass.number()
+    }
+
+    /// Whether these are handle 1, handle 2, .., in the order of making, as an audit asks for them.
+    pub fn are_in_order(handles: &[Handle<'d, N, S, R>]) -> bool
+        ensures { IsTrue result ↔ AreNumbered handles.now }
+    {
+        for (place, handle) in handles.iter().enumerate() {
+            if handle.number() != place as u64 + 1 {
+                return false;
+            }
+        }
+        true
     }
 
     /// The length of its front, in entries. It enters nothing.

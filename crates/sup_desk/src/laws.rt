@@ -1,17 +1,22 @@
 //! What a call does with the book that is lent to it: the answers and the refusals of the calls of the same kind, and
 //! what the book is afterwards.
-ghost use Rattle.std.specs.Prelude.{◌≡◌, ◌+◌, ◌++◌, ◌∷◌, [], length, ◌<◌, ◌≤◌, ◌↔◌, IfOk, OnOk, OnErr, IfErr, MatchOption, OnSome, IfSome, IfNone, true, false};
+ghost use Rattle.std.specs.Prelude.{◌≡◌, ◌+◌, ◌++◌, ◌∷◌, [], length, take, drop, vec_len, vec_capacity, ◌<◌, ◌≤◌, ◌↔◌, IfOk, OnOk, OnErr, IfErr, MatchOption, OnSome, IfSome, IfNone, true, false};
 ghost use mathlib.Core.List.{IsPrefix};
 ghost use Rattle.sup_log.specs.Tokens.{has_any};
 ghost use Rattle.sup_core.specs.Account.{entry_of, reply_after};
 ghost use Rattle.sup_desk.specs.Knowledge.{entries_of, IsUpdated, next_entry};
 ghost use Rattle.sup_desk.specs.Books.{IsMade, IsSplit};
+ghost use Rattle.sup_desk.specs.Batches.{batch_of, IsApplied};
+ghost use Rattle.std.specs.VecDeque.{deque_len};
 
 use crate::book::Book;
+use crate::copied::operation_copied;
 use crate::faults::{HandleFault, TicketFault, UpdateFault};
 use crate::leaf::Leaf;
 use crate::name::Name;
 use crate::pass::Pass;
+use std::alloc::Allocator;
+use std::collections::VecDeque;
 use std::sync::Wait;
 use sup_log::Ticket;
 use sup_types::{Answer, Entry, Operation, Reply, Starter};
@@ -117,6 +122,129 @@ pub fn enter<N: Name, S: Starter, R: Wait + Drop>(
     let ticket = book.leaf.tell();
     pass.adopt(&ticket);
     Ok(Done { reply, ticket })
+}
+
+/// Writes the operations of the queue one after another, each of which then leaves it, up to the first fault.
+fn write_all<N: Name, S: Starter, R: Wait + Drop, A: Allocator>(
+    leaf: &mut Leaf<N, R>,
+    starter: &S,
+    number: u64,
+    moment: u64,
+    operations: &mut VecDeque<Operation>,
+    replies: &mut Vec<Reply, A>,
+) -> Option<UpdateFault>
+    requires made { IsMade leaf.old.made number }
+    requires none { vec_len replies.old ≡ 0 }
+    requires room { deque_len operations.old ≤ vec_capacity replies.old }
+    ensures written { leaf.new ≡ record leaf.old { pending = leaf.old.pending ++ (batch_of S.answer N.template (leaf.old.published ++ leaf.old.pending) number (length (entries_of (leaf.old.published ++ leaf.old.pending) number)) moment (take (length replies.new.items) operations.old.items)).entries } }
+    ensures replies { replies.new.items ≡ (batch_of S.answer N.template (leaf.old.published ++ leaf.old.pending) number (length (entries_of (leaf.old.published ++ leaf.old.pending) number)) moment (take (length replies.new.items) operations.old.items)).replies }
+    ensures rest { operations.new.items ≡ drop (length replies.new.items) operations.old.items }
+    ensures all { IfNone result (operations.new.items ≡ []) }
+    ensures full { IfSome result (λ e. e ≡ UpdateFault.HistoryFull → length (leaf.new.published ++ leaf.new.pending) ≡ N.template.entries) }
+    ensures faults { IfSome result (λ e. (e ≡ UpdateFault.Gone → ⊥) × (e ≡ UpdateFault.Split → ⊥)) }
+{
+    'queue: while let Some(operation) = operations.front() {
+        let operation = operation_copied(operation);
+        let serial = leaf.serial(number);
+        match write(leaf, starter, number, serial, moment, operation) {
+            Ok(reply) => {
+                replies.push_reserved(reply);
+                let _ = operations.pop_front();
+            }
+            Err(fault) => return Some(fault),
+        }
+    }
+    None
+}
+
+/// The same for a handle that has seen all of the history, with the fault that ended it.
+fn enter_met<N: Name, S: Starter, R: Wait + Drop, A: Allocator>(
+    book: &mut Book<N, R>,
+    starter: &S,
+    pass: &mut Pass<N>,
+    moment: u64,
+    operations: &mut VecDeque<Operation>,
+    replies: &mut Vec<Reply, A>,
+) -> (Ticket, Option<UpdateFault>)
+    requires none { vec_len replies.old ≡ 0 }
+    requires room { deque_len operations.old ≤ vec_capacity replies.old }
+    requires front { pass.old.front ≡ book.old.history }
+    requires whole { entries_of book.old.history pass.old.number ≡ pass.old.calls }
+    requires made { IsMade book.old.made pass.old.number }
+    ensures book { let done = batch_of S.answer N.template book.old.history pass.old.number (length pass.old.calls) moment (take (length replies.new.items) operations.old.items)
+        in book.new ≡ record book.old { history = book.old.history ++ done.entries; editions = book.old.editions + has_any done.entries } }
+    ensures pass { let done = batch_of S.answer N.template book.old.history pass.old.number (length pass.old.calls) moment (take (length replies.new.items) operations.old.items)
+        in pass.new ≡ record { number = pass.old.number; front = book.old.history ++ done.entries; calls = pass.old.calls ++ done.entries } }
+    ensures told { (result.0.front ≡ pass.new.front) × (result.0.press ≡ N.press) }
+    ensures replies { replies.new.items ≡ (batch_of S.answer N.template book.old.history pass.old.number (length pass.old.calls) moment (take (length replies.new.items) operations.old.items)).replies }
+    ensures rest { operations.new.items ≡ drop (length replies.new.items) operations.old.items }
+    ensures all { IfNone result.1 (operations.new.items ≡ []) }
+    ensures full { IfSome result.1 (λ e. e ≡ UpdateFault.HistoryFull → length pass.new.front ≡ N.template.entries) }
+    ensures faults { IfSome result.1 (λ e. (e ≡ UpdateFault.Gone → ⊥) × (e ≡ UpdateFault.Split → ⊥)) }
+{
+    let leaf = &mut book.leaf;
+    let fault = write_all(leaf, starter, pass.number(), moment, operations, replies);
+    leaf.publish();
+    let ticket = leaf.tell();
+    pass.adopt(&ticket);
+    (ticket, fault)
+}
+
+/// Why operations were left in a queue, and a ticket for those that were entered, if there are any.
+#[derive(Drop)]
+pub struct Rest {
+    pub ticket: Option<Ticket>,
+    pub fault: UpdateFault,
+}
+
+/// Enters the operations of a queue as updates of the handle, each of which then leaves it, up to the first fault, and
+/// publishes them in one step. The replies need no memory: their room was made before.
+pub fn enter_all<N: Name, S: Starter, R: Wait + Drop, A: Allocator>(
+    book: &mut Book<N, R>,
+    starter: &S,
+    pass: &mut Pass<N>,
+    moment: u64,
+    operations: &mut VecDeque<Operation>,
+    replies: &mut Vec<Reply, A>,
+) -> Result<Ticket, Rest>
+    requires none { vec_len replies.old ≡ 0 }
+    requires room { deque_len operations.old ≤ vec_capacity replies.old }
+    ensures ok { IfOk result (λ t. IsApplied S.answer N.template pass.old operations.old.items moment pass.new replies.new.items t.front × (t.press ≡ N.press)) }
+    ensures part { IfErr result (λ r. IfSome r.ticket (λ t. IsApplied S.answer N.template pass.old (take (length replies.new.items) operations.old.items) moment pass.new replies.new.items t.front × (t.press ≡ N.press) × (0 < length replies.new.items))) }
+    ensures nothing { IfErr result (λ r. IfNone r.ticket ((replies.new.items ≡ []) × (pass.new.calls ≡ pass.old.calls) × (pass.new.number ≡ pass.old.number) × (book.new ≡ book.old))) }
+    ensures rest { operations.new.items ≡ drop (length replies.new.items) operations.old.items }
+    ensures all { OnOk result (operations.new.items ≡ []) }
+    ensures front { IsPrefix pass.old.front pass.new.front }
+
+    // What the book is then.
+    ensures entered { (book.new.history ≡ book.old.history ++ (batch_of S.answer N.template book.old.history pass.old.number (length pass.old.calls) moment (take (length replies.new.items) operations.old.items)).entries) × (book.new.made ≡ book.old.made) × (book.new.handles ≡ book.old.handles) }
+    ensures edition { book.new.editions ≡ book.old.editions + has_any (batch_of S.answer N.template book.old.history pass.old.number (length pass.old.calls) moment (take (length replies.new.items) operations.old.items)).entries }
+
+    // When each refusal comes.
+    ensures gone { IfErr result (λ r. r.fault ≡ UpdateFault.Gone → ⊥) }
+    ensures split { IfErr result (λ r. r.fault ≡ UpdateFault.Split → (replies.new.items ≡ []) × IsSplit book.old pass.new) }
+    ensures full { IfErr result (λ r. r.fault ≡ UpdateFault.HistoryFull → length pass.new.front ≡ N.template.entries) }
+{
+    if meet(book, pass).is_none() {
+        return Err(Rest {
+            ticket: None,
+            fault: UpdateFault::Split,
+        });
+    }
+    let (ticket, fault) = enter_met(book, starter, pass, moment, operations, replies);
+    let Some(fault) = fault else {
+        return Ok(ticket);
+    };
+    if replies.is_empty() {
+        return Err(Rest {
+            ticket: None,
+            fault,
+        });
+    }
+    Err(Rest {
+        ticket: Some(ticket),
+        fault,
+    })
 }
 
 /// Gives the handle a ticket for all of the history, in which its calls are all that stand under its number.

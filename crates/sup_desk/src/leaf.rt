@@ -1,5 +1,5 @@
 //! What the book holds, with entries that are not yet published.
-ghost use Rattle.std.specs.Prelude.{◌≡◌, ◌+◌, ◌-◌, ◌<◌, ◌≤◌, ◌^◌, slice_index, slice_set, ◌++◌, ◌∷◌, [], length, ◌⊎◌, MatchBool, MatchResult, IfOk, OnErr, true, false, vec_len, vec_capacity};
+ghost use Rattle.std.specs.Prelude.{◌≡◌, ◌+◌, ◌-◌, ◌<◌, ◌≤◌, ◌^◌, slice_index, slice_set, ◌++◌, ◌∷◌, [], length, All, ◌⊎◌, MatchBool, MatchResult, IfOk, OnErr, true, false, vec_len, vec_capacity};
 ghost use mathlib.Core.List.{IsPrefix};
 ghost use Rattle.sup_core.specs.Account.{state_after, reply_after};
 ghost use Rattle.sup_core.specs.Replies.{asked_argument};
@@ -70,7 +70,8 @@ impl<N: Name, R: Wait + Drop> Leaf<N, R> {
 
     /// How many handles were made.
     pub fn made(&self) -> u64
-        ensures { result ≡ self.now.made }
+        ensures made { result ≡ self.now.made }
+        ensures entries { All (λ entry. IsMade self.now.made entry.handle) (self.now.published ++ self.now.pending) }
     {
         self.counts.len() as u64
     }
@@ -124,6 +125,14 @@ impl<N: Name, R: Wait + Drop> Leaf<N, R> {
             return false;
         }
         self.counts[(number - 1) as usize] == calls
+    }
+
+    /// How many entries the handle with this number has made.
+    pub fn serial(&self, number: u64) -> u64
+        requires { IsMade self.now.made number }
+        ensures { result ≡ length (entries_of (self.now.published ++ self.now.pending) number) }
+    {
+        self.counts[(number - 1) as usize]
     }
 
     /// Whether there are all the entries that there may be.

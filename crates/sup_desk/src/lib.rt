@@ -43,8 +43,8 @@ pub use book::Book;
 pub use desk::Desk;
 pub use faults::{DeskFault, HandleFault, QueryFault, TicketFault, UpdateFault};
 pub use ground::Ground;
-pub use handle::Handle;
-pub use laws::Done;
+pub use handle::{Dones, Handle, Part};
+pub use laws::{Done, Rest};
 pub use name::Name;
 pub use pass::Pass;
 

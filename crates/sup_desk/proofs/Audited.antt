@@ -1,0 +1,56 @@
+-- Handles that have seen a whole history, one after another.
+use Rattle.std.proofs.Common.{◌≡◌, ◌≢◌, ℕ, ◌==◌, ◌+◌, ◌<◌, List, length, get_or, set, refl, sym, ◌∙◌, subst, arith, length-set, Bool, true, false, get_or-set_same, get_or-set_other}
+use Rattle.std.proofs.lemmas.List.{get_or_default}
+use Rattle.std.specs.Result.{OnOk, is_err}
+use Rattle.std.specs.declared.result.Result.{Result}
+use Rattle.std.specs.declared.result.Result.TheVariants.{Ok, Err}
+use Rattle.std.proofs.lemmas.Bool.Decides.{nat_tests}
+use Rattle.sup_types.specs.declared.history.Entry.{Entry}
+use Rattle.sup_log.proofs.Prefixes.{prefix_self, prefix_trans}
+use Rattle.sup_desk.specs.Knowledge.{Knowledge}
+use Rattle.sup_desk.specs.Audits.{IsGrown, AreGrown, HasSeenAll, HaveSeenAll}
+
+grown_trans : (x y z : Knowledge) → IsGrown x y → IsGrown y z → IsGrown x z
+grown_trans x y z p q = record { front = prefix_trans x.front y.front z.front p.front q.front; calls = q.calls ∙ p.calls; number = q.number ∙ p.number }
+
+pub grown_self : (handles : List Knowledge) → AreGrown handles handles
+grown_self handles = record { len = refl; each = λ k d within. record { front = prefix_self (get_or handles k d).front; calls = refl; number = refl } }
+
+-- the handle at place i has grown
+pub grown_set : (old now : List Knowledge) (i : ℕ) (was is : Knowledge) → AreGrown old now → i < length now → IsGrown (get_or now i was) is
+    → AreGrown old (set now i is)
+grown_set old now i was is grown within more = record {
+  len = length-set now i is ∙ grown.len;
+  each = λ k d below. at k d below (k == i) refl;
+}
+  where
+    at : (k : ℕ) (d : Knowledge) → k < length old → (b : Bool) → (k == i) ≡ b → IsGrown (get_or old k d) (get_or (set now i is) k d)
+    at k d below true test =
+        let same : k ≡ i = grind (arith, nat_tests) in
+        let there : get_or now k d ≡ get_or now i was = (λ j. get_or now (same j) d) ∙ get_or_default now i d was within in
+        let new : get_or (set now i is) k d ≡ is = (λ j. get_or (set now i is) (same j) d) ∙ get_or-set_same now i is d within in
+        subst (λ (h : Knowledge). IsGrown (get_or old k d) h) (sym new)
+        (grown_trans (get_or old k d) (get_or now i was) is (subst (λ (h : Knowledge). IsGrown (get_or old k d) h) there (grown.each k d below)) more)
+    at k d below false test =
+        let differ : k ≢ i = λ same. grind (arith, nat_tests) in
+        subst (λ (h : Knowledge). IsGrown (get_or old k d) h) (sym (get_or-set_other now i k is d differ)) (grown.each k d below)
+
+-- the handle at place i has seen all, after those before it
+pub seen_set : (front : List Entry) (now : List Knowledge) (i : ℕ) (is : Knowledge) → HaveSeenAll front now i → i < length now → HasSeenAll front is
+    → HaveSeenAll front (set now i is) (i + 1)
+seen_set front now i is seen within mine = λ k d below. at k d below (k == i) refl
+  where
+    at : (k : ℕ) (d : Knowledge) → k < i + 1 → (b : Bool) → (k == i) ≡ b → HasSeenAll front (get_or (set now i is) k d)
+    at k d below true test =
+        let same : k ≡ i = grind (arith, nat_tests) in
+        let new : get_or (set now i is) k d ≡ is = (λ j. get_or (set now i is) (same j) d) ∙ get_or-set_same now i is d within in
+        subst (λ (h : Knowledge). HasSeenAll front h) (sym new) mine
+    at k d below false test =
+        let differ : k ≢ i = λ same. grind (arith, nat_tests) in
+        let low : k < i = omega (arith, differ) in
+        subst (λ (h : Knowledge). HasSeenAll front h) (sym (get_or-set_other now i k is d differ)) (seen k d low)
+
+-- what an answer promises, where it is no error
+pub ok_by : {T E P : Type 0} (r : Result T E) → is_err r ≡ false → OnOk r P → P
+ok_by (Ok x) is p = p
+ok_by (Err e) is p = absurd (cc is)
