@@ -1,8 +1,9 @@
 //! The rows of a supervisor, found by their numbers.
 //!
 //! Numbers only grow, so the order in which children were put in is that of their numbers. A child that is listed no
-//! more leaves its place empty, since the map gives no room back for a removed entry. Where all places are used, the
-//! listed children are taken out and put in again: that gives back the empty places, and needs no memory.
+//! more leaves its place empty, since the map gives no room back for a removed entry. Where all places are used, or more than
+//! half of them are empty, the listed children are taken out and put in again: that gives back the empty places, and needs
+//! no memory.
 ghost use Rattle.std.specs.Prelude.{true, false, ◌≡◌, ◌≤◌, ◌<◌, ◌+◌, ◌*◌, ◌^◌, ℕ, List, [], ◌∷◌, ◌++◌, IfOk, None, Some, map, length, nat_eq, is_some, slice_index_or, MatchBool, MatchOption, IsSome, if◌then◌else◌};
 ghost use Rattle.std.specs.List.{list_any, cons_option, IsDistinct};
 ghost use Rattle.std.specs.Option.{option_copied, option_map, option_map_or};
@@ -22,6 +23,9 @@ use std::marker::Model;
 use sup_types::{Row, Status, Text};
 
 type Places<A> = IndexMap<u64, Option<Child>, BuildHasherDefault<FoldHasher>, A>;
+
+/// So many empty places are not worth giving back.
+const FEW_PLACES: usize = 64;
 
 /// The listed children, of whom there may be so many.
 #[derive(Drop)]
@@ -129,7 +133,12 @@ impl<A: Allocator + Copy> Table<A> {
         ensures number { result ≡ self.old.made + 1 }
         ensures next { self.new ≡ record self.old { rows = self.old.rows ++ running (self.old.made + 1) arg ∷ []; made = self.old.made + 1 } }
     {
-        make_room(&mut self.places, &mut self.scratch, self.max as usize);
+        make_room(
+            &mut self.places,
+            &mut self.scratch,
+            self.max as usize,
+            self.live as usize,
+        );
         self.made += 1;
         self.live += 1;
         self.running += 1;
@@ -321,14 +330,20 @@ fn push_row<A: Allocator>(copy: &mut Vec<Row, A>, number: u64, child: &Option<Ch
     }
 }
 
-/// Makes room for one more place.
-fn make_room<A: Allocator>(places: &mut Places<A>, scratch: &mut Vec<Row, A>, max: usize)
+/// Makes room for one more place. The empty places are given back once they are as many as the listed children and some
+/// more, so that what is read lies close together where the children are few.
+fn make_room<A: Allocator>(
+    places: &mut Places<A>,
+    scratch: &mut Vec<Row, A>,
+    max: usize,
+    live: usize,
+)
     requires unique { IsUnique nat_eq places.old }
     requires fits { length (listed places.old.entries) < max }
     requires places { 2 * max ≤ index_map_len places.old + spare places.old }
     requires empty { scratch.old.items ≡ [] }
     requires scratch { max ≤ vec_capacity scratch.old }
-    requires small { max ≤ 65536 }
+    requires small { (max ≤ 65536) × (live ≤ max) }
     ensures rows { listed places.new.entries ≡ listed places.old.entries }
     ensures absent { (number : ℕ) → get nat_eq places.old number ≡ None → get nat_eq places.new number ≡ None }
     ensures unique { IsUnique nat_eq places.new }
@@ -337,7 +352,8 @@ fn make_room<A: Allocator>(places: &mut Places<A>, scratch: &mut Vec<Row, A>, ma
     ensures empty { scratch.new.items ≡ [] }
     ensures scratch { vec_capacity scratch.old ≤ vec_capacity scratch.new }
 {
-    if places.len() >= 2 * max {
+    let most = (2 * live + FEW_PLACES).min(2 * max);
+    if places.len() >= most {
         compact(places, scratch);
     }
 }
