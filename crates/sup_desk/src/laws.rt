@@ -221,6 +221,7 @@ pub fn enter_all<N: Name, S: Starter, R: Wait + Drop, A: Allocator>(
     ensures edition { book.new.editions ≡ book.old.editions + has_any (batch_of S.answer N.template book.old.history pass.old.number (length pass.old.calls) moment (take (length replies.new.items) operations.old.items)).entries }
 
     // When each refusal comes.
+    ensures learnt { IsPrefix book.old.history pass.new.front }
     ensures gone { IfErr result (λ r. r.fault ≡ UpdateFault.Gone → ⊥) }
     ensures split { IfErr result (λ r. r.fault ≡ UpdateFault.Split → (replies.new.items ≡ []) × IsSplit book.old pass.new) }
     ensures full { IfErr result (λ r. r.fault ≡ UpdateFault.HistoryFull → length pass.new.front ≡ N.template.entries) }

@@ -6,7 +6,8 @@
 //! one front, which begins with all that the handle had seen, learnt or done and has its own calls, each once; its reply
 //! is that of a supervisor of one thread there. A query is answered as by that supervisor at one front, which begins
 //! with all that the handle had seen, learnt or done. A refused update leaves the history and every published answer as
-//! they were.
+//! they were. A queue of operations is entered as a run of updates, by one publication. [`Desk::audit`] shows that the
+//! history is the calls of all handles and nothing else.
 //!
 //! A value behind a lock is known by its type alone. So the desk and its handles carry a type parameter `N: Name`, whose
 //! members are the press and the template. A program makes a [`Ground`], and then calls a function that is generic in

@@ -1,12 +1,18 @@
 //! What no clause says: worked rows, threads, and growth that is refused.
 ghost use Rattle.std.specs.Prelude.{◌≡◌, ◌^◌};
 
+mod batches;
+mod growth;
+mod meanwhile;
 mod rows;
 mod threads;
 
-use crate::{Done, UpdateFault};
+use crate::{Desk, Done, Handle, HandleFault, Name, UpdateFault};
+use std::alloc::{AllocError, Global};
+use std::collections::VecDeque;
 use std::process::Abort;
-use sup_types::{Answer, Kind, Reply, Restart, Starter, Template, Text};
+use std::sync::Wait;
+use sup_types::{Answer, Kind, Operation, Reason, Reply, Restart, Starter, Template, Text};
 
 /// Each start is answered `Running`.
 #[derive(Drop)]
@@ -39,5 +45,35 @@ fn replied(rt: &impl Abort, done: Result<Done, UpdateFault>, reply: Reply) {
     match done {
         Ok(done) => assert_eq!(rt; done.reply, reply),
         Err(_) => panic!(rt; "the update is entered"),
+    }
+}
+
+/// A child is started and ends by itself, the one in its place is ended, and another is started.
+fn four(rt: &impl Abort, alloc: Global) -> Result<VecDeque<Operation>, AllocError> {
+    let mut operations = VecDeque::with_capacity(alloc, 4)?;
+    for operation in [
+        Operation::Start(text(rt, "a")),
+        Operation::Exit(1, Reason::Normal),
+        Operation::Terminate(2),
+        Operation::Start(text(rt, "b")),
+    ] {
+        if operations.push_back(operation).is_err() {
+            return Err(AllocError);
+        }
+    }
+    Ok(operations)
+}
+
+/// A handle. Where it is refused nothing has changed, and the next one is made.
+fn made<'d, 'r, N: Name, R: Wait + Abort>(
+    rt: &'r R,
+    desk: &'d Desk<N, Always, &'r R>,
+) -> Result<Handle<'d, N, Always, &'r R>, HandleFault> {
+    match desk.handle(rt) {
+        Ok(handle) => Ok(handle),
+        Err(fault) => {
+            assert_eq!(rt; fault, HandleFault::NoPlace);
+            desk.handle(rt)
+        }
     }
 }
