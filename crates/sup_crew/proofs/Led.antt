@@ -1,0 +1,162 @@
+-- One step more of a driver.
+use Rattle.std.proofs.Common.{◌≡◌, ℕ, suc, ◌+◌, List, [], ◌∷◌, ◌++◌, length, Option, Some, None, refl, ap, sym, ◌∙◌, subst, arith, append_assoc, append-nil}
+use mathlib.Core.List.{IsPrefix}
+use Rattle.logbook.specs.Pages.{Book}
+use Rattle.sup_types.specs.declared.text.Text.{Text}
+use Rattle.sup_types.specs.declared.template.Template.{Template}
+use Rattle.sup_types.specs.declared.history.Answer.{Answer}
+use Rattle.sup_types.specs.declared.history.Entry.{Entry}
+use Rattle.sup_types.specs.declared.history.Operation.{Operation}
+use Rattle.sup_types.specs.declared.history.Operation.TheVariants.{Start, Exit, Retry, Terminate, Stop}
+use Rattle.sup_types.specs.declared.history.Reply.{Reply}
+use Rattle.sup_types.specs.declared.history.Reply.TheVariants.{Started, Restarted}
+use Rattle.sup_log.specs.Tokens.{Told}
+use Rattle.sup_desk.specs.Knowledge.{Knowledge, entries_of, IsUpdated}
+use Rattle.sup_desk.specs.Batches.{IsApplied}
+use Rattle.sup_inbox.specs.declared.note.Note.{Note}
+use Rattle.sup_crew.specs.declared.job.Child.{Child}
+use Rattle.sup_crew.specs.Jobs.{weigh}
+use Rattle.sup_crew.specs.Calls.{Call, calls_of, answered, exit_of, exits_in, exits, starts_in, start_of, job_made, notes_after, jobs_made, AreDriven, IsDriven}
+use Rattle.std.specs.Option.{option_or}
+use Rattle.sup_crew.specs.Drains.{notes_of, replies_of, IsEntered}
+use Rattle.sup_crew.specs.Leads.{front_of, started_job, restarted_job, restarted_jobs, IsLed}
+use Rattle.sup_crew.proofs.Moves.{weigh-append}
+use Rattle.sup_crew.proofs.DrainLemmas.{exits-append}
+use Rattle.sup_crew.proofs.Called.{applied-calls, applied-own, updated-calls, updated-own}
+
+driven-append : (cs ds : List Call) → AreDriven cs → AreDriven ds → AreDriven (cs ++ ds)
+driven-append [] ds a b = b
+driven-append (c ∷ cs) ds a b = (a.0, driven-append cs ds a.1 b)
+
+starts-append : (cs ds : List Call) → starts_in (cs ++ ds) ≡ starts_in cs ++ starts_in ds
+starts-append [] ds = refl
+starts-append (c ∷ cs) ds = ap (λ l. start_of c.operation ++ l) (starts-append cs ds) ∙ sym (append_assoc (start_of c.operation) (starts_in cs) (starts_in ds))
+
+exits_in-append : (cs ds : List Call) → exits_in (cs ++ ds) ≡ exits_in cs ++ exits_in ds
+exits_in-append [] ds = refl
+exits_in-append (c ∷ cs) ds = ap (λ l. exit_of c.operation ++ l) (exits_in-append cs ds) ∙ sym (append_assoc (exit_of c.operation) (exits_in cs) (exits_in ds))
+
+-- the first note is that of the exit, if the call is one
+front_note : (operation : Operation) (reply : Reply) (rest : List Operation) (notes more : List Note) → exit_of operation ++ rest ≡ exits notes
+    → (job_made operation reply (notes ++ more) ≡ job_made operation reply notes) × (notes_after operation (notes ++ more) ≡ notes_after operation notes ++ more) × (rest ≡ exits (notes_after operation notes))
+front_note (Exit number reason) reply rest [] more e = absurd (cc e)
+front_note (Exit number reason) (Restarted old next) rest (note ∷ notes) more e = (refl, refl, cc e)
+front_note (Exit number reason) _ rest (note ∷ notes) more e = (refl, refl, cc e)
+front_note (Start arg) (Started next) rest notes more e = (refl, refl, e)
+front_note (Start arg) _ rest notes more e = (refl, refl, e)
+front_note (Retry number) _ rest notes more e = (refl, refl, e)
+front_note (Terminate number) _ rest notes more e = (refl, refl, e)
+front_note Stop _ rest notes more e = (refl, refl, e)
+
+jobs_made-append : (cs ds : List Call) (notes more : List Note) → exits_in cs ≡ exits notes → jobs_made (cs ++ ds) (notes ++ more) ≡ jobs_made cs notes ++ jobs_made ds more
+jobs_made-append [] ds [] more e = refl
+jobs_made-append [] ds (note ∷ notes) more e = absurd (cc e)
+jobs_made-append (c ∷ cs) ds notes more e =
+    let f = front_note c.operation c.reply (exits_in cs) notes more e in
+    (λ i. f.0 i ++ jobs_made (cs ++ ds) (f.1 i))
+    ∙ ap (λ l. job_made c.operation c.reply notes ++ l) (jobs_made-append cs ds (notes_after c.operation notes) more f.2)
+    ∙ sym (append_assoc (job_made c.operation c.reply notes) (jobs_made cs (notes_after c.operation notes)) (jobs_made ds more))
+
+-- the exits that these notes tell, with their replies
+driven_exits : (pairs : List (Note × Reply)) → AreDriven (answered (exits (notes_of pairs)) (replies_of pairs))
+driven_exits [] = tt
+driven_exits (p ∷ ps) = (tt, driven_exits ps)
+
+starts_exits : (pairs : List (Note × Reply)) → starts_in (answered (exits (notes_of pairs)) (replies_of pairs)) ≡ []
+starts_exits [] = refl
+starts_exits (p ∷ ps) = starts_exits ps
+
+exits_exits : (pairs : List (Note × Reply)) → exits_in (answered (exits (notes_of pairs)) (replies_of pairs)) ≡ exits (notes_of pairs)
+exits_exits [] = refl
+exits_exits (p ∷ ps) = ap (λ l. Exit p.0.number p.0.reason ∷ l) (exits_exits ps)
+
+job_exit : (note : Note) (notes : List Note) (reply : Reply) → job_made (Exit note.number note.reason) reply (note ∷ notes) ≡ restarted_job note reply
+job_exit note notes (Restarted old number) = refl
+job_exit note notes _ = refl
+
+jobs_exits : (pairs : List (Note × Reply)) → jobs_made (answered (exits (notes_of pairs)) (replies_of pairs)) (notes_of pairs) ≡ restarted_jobs pairs
+jobs_exits [] = refl
+jobs_exits (p ∷ ps) = λ i. job_exit p.0 (notes_of ps) p.1 i ++ jobs_exits ps i
+
+job_start : (arg : Text) (reply : Reply) → job_made (Start arg) reply [] ≡ started_job arg reply
+job_start arg (Started number) = refl
+job_start arg _ = refl
+
+module _ (answer : Text → ℕ → Answer) (template : Template) (press : Book) (before after : Knowledge) (ticket : Option Told) (put left put' left' : List Child) (entered : List Note) (begun : List Text) (led : IsLed template press before ticket put left entered begun) where
+  abbrev cs : List Call
+  cs = calls_of template (front_of ticket) before.number
+
+  -- some calls more, which are all those of the front that is told
+  led-more : (now : Told) (ds : List Call) (notes : List Note) (args : List Text) (jobs : List Child)
+      → now.press ≡ press → now.front ≡ after.front → after.number ≡ before.number → entries_of after.front after.number ≡ after.calls
+      → calls_of template after.front before.number ≡ cs ++ ds → AreDriven ds → starts_in ds ≡ args → exits_in ds ≡ exits notes → jobs_made ds notes ≡ jobs
+      → ((h : Child → ℕ) → weigh h put' + weigh h left' ≡ weigh h put + weigh h left + weigh h jobs)
+      → IsLed template press after (Some now) put' left' (entered ++ notes) (begun ++ args)
+  led-more now ds notes args jobs p f n own calls driven starts exit made account =
+      let all : calls_of template now.front after.number ≡ cs ++ ds = (λ i. calls_of template (f i) (n i)) ∙ calls in
+      record {
+        of_press = p;
+        front = ([], append-nil now.front ∙ f);
+        whole = ap (λ l. entries_of l after.number) f ∙ own;
+        driven = subst AreDriven (sym all) (driven-append cs ds led.driven driven);
+        starts = ap starts_in all ∙ starts-append cs ds ∙ (λ i. led.starts i ++ starts i);
+        exits_are = ap exits_in all ∙ exits_in-append cs ds ∙ (λ i. led.exits_are i ++ exit i) ∙ sym (exits-append entered notes);
+        jobs = λ h.
+            let a = account h in
+            let b = led.jobs h in
+            let c = ap (λ l. weigh h (jobs_made l (entered ++ notes))) all ∙ ap (weigh h) (jobs_made-append cs ds entered notes led.exits_are) ∙ weigh-append h (jobs_made cs entered) (jobs_made ds notes) in
+            let d = ap (weigh h) made in
+            omega (arith, a, b, c, d);
+      }
+
+  pub led-started : (now : Told) (arg : Text) (moment : ℕ) (reply : Reply) → IsUpdated answer template before (Start arg) moment after reply now.front → now.press ≡ press
+      → ((h : Child → ℕ) → weigh h put' + weigh h left' ≡ weigh h put + weigh h left + weigh h (started_job arg reply))
+      → IsLed template press after (Some now) put' left' entered (begun ++ arg ∷ [])
+  led-started now arg moment reply h p account =
+      subst (λ l. IsLed template press after (Some now) put' left' l (begun ++ arg ∷ [])) (append-nil entered)
+      (led-more now (record { operation = Start arg; reply = reply } ∷ []) [] (arg ∷ []) (started_job arg reply)
+      p h.7 h.3 (updated-own answer template before after (front_of ticket) led.front led.whole (Start arg) moment reply now.front h)
+      (updated-calls answer template before after (front_of ticket) led.front led.whole (Start arg) moment reply now.front h)
+      (tt, tt) refl refl (append-nil (job_made (Start arg) reply []) ∙ job_start arg reply) account)
+
+  pub led-drained : (now : Told) (pairs : List (Note × Reply)) (moment : ℕ) → IsApplied answer template before (exits (notes_of pairs)) moment after (replies_of pairs) now.front → now.press ≡ press
+      → ((h : Child → ℕ) → weigh h put' + weigh h left' ≡ weigh h put + weigh h left + weigh h (restarted_jobs pairs))
+      → IsLed template press after (Some now) put' left' (entered ++ notes_of pairs) begun
+  led-drained now pairs moment h p account =
+      subst (λ l. IsLed template press after (Some now) put' left' (entered ++ notes_of pairs) l) (append-nil begun)
+      (led-more now (answered (exits (notes_of pairs)) (replies_of pairs)) (notes_of pairs) [] (restarted_jobs pairs)
+      p h.7 h.3 (applied-own answer template before after (front_of ticket) led.front led.whole (exits (notes_of pairs)) moment (replies_of pairs) now.front h)
+      (applied-calls answer template before after (front_of ticket) led.front led.whole (exits (notes_of pairs)) moment (replies_of pairs) now.front h)
+      (driven_exits pairs) (starts_exits pairs) (exits_exits pairs) (jobs_exits pairs) account)
+
+  -- a refused update, or none
+  pub led-stays : IsPrefix before.front after.front → after.calls ≡ before.calls → after.number ≡ before.number → IsLed template press after ticket put left entered begun
+  led-stays more calls number =
+      let at : (n : ℕ) → n ≡ after.number → IsLed template press (record { number = n; front = after.front; calls = after.calls }) ticket put left entered begun → IsLed template press after ticket put left entered begun = λ n e w. subst (λ (k : ℕ). IsLed template press (record { number = k; front = after.front; calls = after.calls }) ticket put left entered begun) e w in
+      at before.number (sym number) (record {
+        of_press = led.of_press;
+        front = (led.front.0 ++ more.0, sym (append_assoc (front_of ticket) led.front.0 more.0) ∙ ap (λ l. l ++ more.0) led.front.1 ∙ more.1);
+        whole = led.whole ∙ sym calls;
+        driven = led.driven;
+        starts = led.starts;
+        exits_are = led.exits_are;
+        jobs = led.jobs;
+      })
+
+  -- what a drain entered, or nothing
+  pub led-entered : (told : Option Told) (pairs : List (Note × Reply)) (moment : ℕ) → IsPrefix before.front after.front → IsEntered answer template press before after moment pairs told
+      → ((h : Child → ℕ) → weigh h put' + weigh h left' ≡ weigh h put + weigh h left + weigh h (restarted_jobs pairs))
+      → IsLed template press after (option_or told ticket) put' left' (entered ++ notes_of pairs) begun
+  led-entered None pairs moment more h account =
+      let stays = led-stays more h.1 h.2 in
+      let none : entered ++ notes_of pairs ≡ entered = ap (λ l. entered ++ notes_of l) h.0 ∙ append-nil entered in
+      subst (λ l. IsLed template press after ticket put' left' l begun) (sym none) (record {
+        of_press = stays.of_press;
+        front = stays.front;
+        whole = stays.whole;
+        driven = stays.driven;
+        starts = stays.starts;
+        exits_are = stays.exits_are;
+        jobs = λ w. let a = account w in let b = stays.jobs w in let c = ap (λ l. weigh w (restarted_jobs l)) h.0 in omega (arith, a, b, c);
+      })
+  led-entered (Some now) pairs moment more h account = led-drained now pairs moment h.0 h.1 account

@@ -1,0 +1,9 @@
+pub mod Agree
+pub mod Called
+pub mod DrainLemmas
+pub mod Led
+pub mod Moves
+pub mod Right
+pub mod Rows
+pub mod Sums
+pub mod Worked

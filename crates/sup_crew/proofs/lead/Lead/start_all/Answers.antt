@@ -1,0 +1,24 @@
+use Rattle.std.proofs.Common.{◌∷◌, [], ◌++◌, take, ap, sym, ◌∙◌, subst, arith, append_assoc}
+use Rattle.std.specs.Prelude.{vec_items}
+use Rattle.std.proofs.lemmas.List.{take_more}
+use Rattle.sup_crew.specs.Jobs.{share, children_of}
+use Rattle.sup_crew.specs.Leads.{IsLed}
+use Rattle.sup_crew.proofs.lead.Lead.start_all.Goals as goal
+
+pub loop-place-preserved : goal.loop-place-preserved
+loop-place-preserved g c =
+    let i = c.loop-place.invariant in
+    let e = c.in_default.ensures in
+    let new = c.start_one.new.self in
+    let all = c.args.children.now in
+    let n = c.loop-place.place in
+    let arg = c.index-children-place.result in
+    record {
+      hand = e.hand ∙ (λ k. record { queue = c.args.jobs.now; share = share (ap (λ v. v.share.parts) i.hand k) new.hand.share.put (ap (λ v. v.share.taken) i.hand k) });
+      parts = i.parts;
+      ready = e.ready;
+      led = λ entered begun h.
+          subst (λ l. IsLed g.N.Name.template g.N.Name.press new.handle new.ticket new.hand.share.put (children_of (vec_items new.left)) entered l)
+          (append_assoc begun (take n all) (arg ∷ []) ∙ ap (λ l. begun ++ l) (ap (λ a. take n all ++ a ∷ []) c.index-children-place.is ∙ sym (take_more all n arg (omega arith))))
+          (e.ok entered (begun ++ take n all) (i.led entered begun h));
+    }

@@ -1,0 +1,33 @@
+use Rattle.std.proofs.Common.{◌+◌, ◌∷◌, [], ◌++◌, Option, Some, ap, sym, ◌∙◌, subst}
+use Rattle.sup_types.specs.declared.history.Operation.TheVariants.{Start}
+use Rattle.sup_log.specs.Tokens.{Told}
+use Rattle.sup_desk.specs.Knowledge.{Knowledge, IsUpdated}
+use Rattle.sup_crew.specs.Jobs.{weigh, children_of}
+use Rattle.sup_crew.specs.Leads.{IsLed, started_job}
+use Rattle.sup_crew.proofs.Led.{led-started, led-stays}
+use Rattle.sup_crew.proofs.Worked.{on_err-any}
+use Rattle.sup_crew.proofs.lead.Lead.start_one.Goals as goal
+
+pub returns-in_err-done-clause-err : goal.returns-in_err-done-clause-err
+returns-in_err-done-clause-err g c =
+    on_err-any c.from_residual-in_err-done.result _
+    (λ entered begun led.
+    let old = c.args.self.now in
+    let put = old.hand.share.put in
+    let e = c.in_err-done.ensures in
+    subst (λ l. IsLed g.N.Name.template g.N.Name.press c.start_child.new.self old.ticket put (children_of l) entered begun) (sym c.make_room.ensures.same)
+    (led-stays g.S.Starter.answer g.N.Name.template g.N.Name.press old.handle c.start_child.new.self old.ticket put (children_of old.left.items) put (children_of old.left.items) entered begun led e.front e.calls.0 e.calls.1))
+
+pub returns-clause-ok : goal.returns-clause-ok
+returns-clause-ok g c entered begun led =
+    let old = c.args.self.now in
+    let new = c.queue_started.new.self in
+    let q = c.queue_started.ensures in
+    let e = c.in_ok-done.ensures in
+    let done = c.in_ok-done.done in
+    let arg = c.args.arg.now in
+    let updated = subst (λ a. IsUpdated g.S.Starter.answer g.N.Name.template old.handle (Start a) c.args.moment c.start_child.new.self done.reply done.ticket.front) c.copied.ensures e.ok in
+    subst (λ (x : Knowledge × Option Told). IsLed g.N.Name.template g.N.Name.press x.0 x.1 new.hand.share.put (children_of new.left.items) entered (begun ++ arg ∷ [])) (λ i. (sym q.handle i, sym q.ticket i))
+    (led-started g.S.Starter.answer g.N.Name.template g.N.Name.press old.handle c.start_child.new.self old.ticket old.hand.share.put (children_of old.left.items) new.hand.share.put (children_of new.left.items) entered begun led
+    done.ticket arg c.args.moment done.reply updated e.press
+    (λ h. q.account h ∙ ap (λ l. weigh h old.hand.share.put + weigh h (children_of l) + weigh h (started_job arg done.reply)) c.make_room.ensures.same))

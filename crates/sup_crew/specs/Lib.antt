@@ -1,0 +1,7 @@
+pub mod Calls
+pub mod Drains
+pub mod Hands
+pub mod Jobs
+pub mod Joins
+pub mod Leads
+pub mod Work

@@ -1,0 +1,45 @@
+//! Jobs: children to run.
+ghost use Rattle.std.specs.Prelude.{◌≡◌};
+
+use std::marker::PhantomData;
+use sup_desk::Name;
+use sup_log::Ticket;
+use sup_types::Text;
+
+/// A child that was made and is to run, of the desk that N names: its number, the argument with which it was started, and a
+/// ticket of the update that made it.
+#[derive(Drop)]
+pub struct Job<N: Name> {
+    /// The number of the child.
+    pub number: u64,
+    /// Its argument.
+    pub arg: Text,
+    /// The history up to and with its start.
+    pub ticket: Ticket,
+    pub(crate) of: PhantomData<N>,
+    ghost told: { ticket.press ≡ N.press },
+}
+
+impl<N: Name> Job<N> {
+    /// A job of the desk from which the ticket comes.
+    pub fn new(number: u64, arg: Text, ticket: Ticket) -> Job<N>
+        requires { ticket.press ≡ N.press }
+        ensures child { (result.number ≡ number) × (result.arg ≡ arg) }
+        ensures ticket { result.ticket ≡ ticket }
+    {
+        Job {
+            number,
+            arg,
+            ticket,
+            of: PhantomData,
+        }
+    }
+}
+
+/// A child: its number, and the argument with which it was started. No value of it is made.
+pub struct Child {
+    /// Its number.
+    pub number: u64,
+    /// Its argument.
+    pub arg: Text,
+}

@@ -1,0 +1,37 @@
+//! A reader that asks again and again.
+ghost use Rattle.std.specs.Prelude.{◌≡◌, length, IfOk};
+ghost use mathlib.Core.List.{IsPrefix};
+
+use std::sync::Wait;
+use sup_desk::{Handle, Name};
+use sup_log::Gone;
+use sup_types::Starter;
+
+/// What a reader did.
+#[derive(Clone, Copy, Debug, PartialEq, Eq)]
+pub struct Reads {
+    /// How many questions were answered.
+    pub answered: u64,
+    /// The length of the handle's front after the last.
+    pub last: u64,
+}
+
+/// Asks so many times how many children there are. It takes no lock and no memory.
+pub fn read_turns<N: Name, S: Starter + Drop, R: Wait + Drop>(
+    handle: &mut Handle<'_, N, S, R>,
+    turns: u64,
+) -> Result<Reads, Gone>
+    ensures reads { IfOk result (λ reads. (reads.answered ≡ turns) × (reads.last ≡ length handle.new.front)) }
+    ensures front { IsPrefix handle.old.front handle.new.front }
+    ensures calls { (handle.new.calls ≡ handle.old.calls) × (handle.new.number ≡ handle.old.number) }
+{
+    let mut answered = 0;
+    for turn in 0..turns {
+        handle.count_children()?;
+        answered = turn + 1;
+    }
+    Ok(Reads {
+        answered,
+        last: handle.front(),
+    })
+}
