@@ -24,8 +24,13 @@ use sup_types::{Row, Status, Text};
 
 type Places<A> = IndexMap<u64, Option<Child>, BuildHasherDefault<FoldHasher>, A>;
 
-/// So many empty places are not worth giving back.
-const FEW_PLACES: usize = 64;
+/// So few empty places are not worth giving back: it clears the whole map, whose size goes with the greatest number of rows.
+fn few_places(max: usize) -> usize
+    requires { max ≤ 65536 }
+    ensures { result ≤ 8256 }
+{
+    64 + max / 8
+}
 
 /// The listed children, of whom there may be so many.
 #[derive(Drop)]
@@ -352,7 +357,7 @@ fn make_room<A: Allocator>(
     ensures empty { scratch.new.items ≡ [] }
     ensures scratch { vec_capacity scratch.old ≤ vec_capacity scratch.new }
 {
-    let most = (2 * live + FEW_PLACES).min(2 * max);
+    let most = (2 * live + few_places(max)).min(2 * max);
     if places.len() >= most {
         compact(places, scratch);
     }
