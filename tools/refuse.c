@@ -1,0 +1,42 @@
+// Refuses one allocation of a process: the one whose number the variable REFUSE gives, counted from 1. It is preloaded
+// before the C library by the script `refusals` beside it, and is no part of the program.
+#define _GNU_SOURCE
+#include <dlfcn.h>
+#include <errno.h>
+#include <stdatomic.h>
+#include <stdlib.h>
+
+static _Atomic long made;
+static long refused = -1;
+
+static int is_refused(void) {
+    if (refused < 0) {
+        const char *number = getenv("REFUSE");
+        refused = number ? atol(number) : 0;
+    }
+    if (++made != refused)
+        return 0;
+    errno = ENOMEM;
+    return 1;
+}
+
+void *malloc(size_t size) {
+    static __typeof__(&malloc) real;
+    if (!real)
+        real = (__typeof__(&malloc))dlsym(RTLD_NEXT, "malloc");
+    return is_refused() ? NULL : real(size);
+}
+
+void *aligned_alloc(size_t align, size_t size) {
+    static __typeof__(&aligned_alloc) real;
+    if (!real)
+        real = (__typeof__(&aligned_alloc))dlsym(RTLD_NEXT, "aligned_alloc");
+    return is_refused() ? NULL : real(align, size);
+}
+
+void *realloc(void *old, size_t size) {
+    static __typeof__(&realloc) real;
+    if (!real)
+        real = (__typeof__(&realloc))dlsym(RTLD_NEXT, "realloc");
+    return is_refused() ? NULL : real(old, size);
+}
