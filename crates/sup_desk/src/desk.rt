@@ -1,14 +1,14 @@
 //! Desks: what threads share.
-ghost use Rattle.std.specs.Prelude.{◌≡◌, ◌≤◌, [], length, All, IfOk, IfErr, OnErr, ◌⊎◌};
+ghost use Rattle.std.specs.Prelude.{◌≡◌, ◌≤◌, [], length, All, IfOk, IfErr};
 ghost use Rattle.sup_desk.specs.Knowledge.{entries_of};
 ghost use Rattle.sup_desk.specs.Books.{IsMade};
-ghost use Rattle.sup_desk.specs.Audits.{AreNumbered, AreGrown, HaveSeenAll, IsAnySplit};
+ghost use Rattle.sup_desk.specs.Audits.{AreNumbered, AreGrown, HaveSeenAll};
 
 use crate::book::Book;
 use crate::faults::{HandleFault, TicketFault};
 use crate::ground::Ground;
 use crate::handle::Handle;
-use crate::laws::add_handle;
+use crate::laws::{add_handle, audit};
 use crate::name::Name;
 use std::sync::{Mutex, Wait};
 use sup_log::Ticket;
@@ -43,7 +43,7 @@ impl<N: Name, S: Starter + Drop, R: Wait + Drop> Desk<N, S, R> {
 
     /// Shows that the history is the calls of these handles and nothing else: they are all that were made, in the order
     /// of making (see `Handle::are_in_order`), and have then seen all of it. A ticket for it. It waits for the lock.
-    /// After a refusal the handles may have seen more.
+    /// Split where a handle is missing (see `laws::audit`). After a refusal the handles may have seen more.
     pub fn audit<W: Wait>(
         &self,
         rt: &W,
@@ -55,29 +55,6 @@ impl<N: Name, S: Starter + Drop, R: Wait + Drop> Desk<N, S, R> {
         ensures grown { AreGrown handles.old handles.new }
         ensures gone { IfErr result (λ e. e ≡ TicketFault.Gone → ⊥) }
     {
-        see_all(&*self.book.lock(rt), handles)
+        audit(&*self.book.lock(rt), handles)
     }
-}
-
-/// The same for the book that is lent.
-fn see_all<N: Name, S: Starter + Drop, R: Wait + Drop>(
-    book: &Book<N, R>,
-    handles: &mut [Handle<'_, N, S, R>],
-) -> Result<Ticket, TicketFault>
-    requires { AreNumbered handles.old }
-    ensures ok { IfOk result (λ t. HaveSeenAll book.now.history handles.new (length handles.new) × (t.front ≡ book.now.history) × (t.press ≡ N.press)) }
-    ensures whole { IfOk result (λ t. All (λ entry. IsMade (length handles.new) entry.handle) t.front) }
-    ensures grown { AreGrown handles.old handles.new }
-    ensures gone { IfErr result (λ e. e ≡ TicketFault.Gone → ⊥) }
-    ensures split { OnErr result (¬ (length handles.new ≡ book.now.made) ⊎ IsAnySplit book.now handles.new) }
-{
-    if handles.len() as u64 != book.leaf.made() {
-        return Err(TicketFault::Split);
-    }
-    for handle in handles.iter_mut() {
-        if handle.see_all(book).is_err() {
-            return Err(TicketFault::Split);
-        }
-    }
-    Ok(book.leaf.tell())
 }

@@ -1,17 +1,19 @@
 //! What a call does with the book that is lent to it: the answers and the refusals of the calls of the same kind, and
 //! what the book is afterwards.
-ghost use Rattle.std.specs.Prelude.{◌≡◌, ◌+◌, ◌++◌, ◌∷◌, [], length, take, drop, vec_len, vec_capacity, ◌<◌, ◌≤◌, ◌↔◌, IfOk, OnOk, OnErr, IfErr, MatchOption, OnSome, IfSome, IfNone, true, false};
+ghost use Rattle.std.specs.Prelude.{◌≡◌, ◌+◌, ◌++◌, ◌∷◌, [], length, take, drop, vec_len, vec_capacity, All, ◌<◌, ◌≤◌, ◌↔◌, ◌⊎◌, IfOk, OnOk, OnErr, IfErr, MatchOption, OnSome, IfSome, IfNone, true, false};
 ghost use mathlib.Core.List.{IsPrefix};
 ghost use Rattle.sup_log.specs.Tokens.{has_any};
 ghost use Rattle.sup_core.specs.Account.{entry_of, reply_after};
 ghost use Rattle.sup_desk.specs.Knowledge.{entries_of, IsUpdated, next_entry};
 ghost use Rattle.sup_desk.specs.Books.{IsMade, IsSplit};
+ghost use Rattle.sup_desk.specs.Audits.{AreNumbered, AreGrown, HaveSeenAll, IsAnySplit};
 ghost use Rattle.sup_desk.specs.Batches.{batch_of, IsApplied};
 ghost use Rattle.std.specs.VecDeque.{deque_len};
 
 use crate::book::Book;
 use crate::copied::operation_copied;
 use crate::faults::{HandleFault, TicketFault, UpdateFault};
+use crate::handle::Handle;
 use crate::leaf::Leaf;
 use crate::name::Name;
 use crate::pass::Pass;
@@ -278,4 +280,29 @@ pub fn add_handle<N: Name, R: Wait + Drop>(book: &mut Book<N, R>) -> Result<Pass
         Ok(lens) => Ok(Pass::begin(number, lens)),
         Err(_) => Err(HandleFault::NoPlace),
     }
+}
+
+/// Lets the handles see all of the history, and shows that it is their calls and nothing else: they are as many as were
+/// made, in the order of making. After a refusal they may have seen more.
+pub fn audit<N: Name, S: Starter + Drop, R: Wait + Drop>(
+    book: &Book<N, R>,
+    handles: &mut [Handle<'_, N, S, R>],
+) -> Result<Ticket, TicketFault>
+    requires { AreNumbered handles.old }
+    ensures all { OnOk result (length handles.new ≡ book.now.made) }
+    ensures ok { IfOk result (λ t. HaveSeenAll book.now.history handles.new (length handles.new) × (t.front ≡ book.now.history) × (t.press ≡ N.press)) }
+    ensures whole { IfOk result (λ t. All (λ entry. IsMade (length handles.new) entry.handle) t.front) }
+    ensures grown { AreGrown handles.old handles.new }
+    ensures gone { IfErr result (λ e. e ≡ TicketFault.Gone → ⊥) }
+    ensures split { OnErr result (¬ (length handles.new ≡ book.now.made) ⊎ IsAnySplit book.now handles.new) }
+{
+    if handles.len() as u64 != book.leaf.made() {
+        return Err(TicketFault::Split);
+    }
+    for handle in handles.iter_mut() {
+        if handle.see_all(book).is_err() {
+            return Err(TicketFault::Split);
+        }
+    }
+    Ok(book.leaf.tell())
 }

@@ -1,6 +1,6 @@
 use Rattle.std.proofs.Common.{◌<◌, length, sym, ◌∙◌, arith}
 use Rattle.sup_desk.proofs.Audited.{grown_set, seen_set, ok_by}
-use Rattle.sup_desk.proofs.desk.see_all.Goals as goal
+use Rattle.sup_desk.proofs.laws.audit.Goals as goal
 
 pub returns-then-is_err-clause-grown : goal.returns-then-is_err-clause-grown
 returns-then-is_err-clause-grown g c =

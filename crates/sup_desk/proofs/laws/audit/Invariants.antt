@@ -1,5 +1,5 @@
 use Rattle.sup_desk.specs.Audits.{AreGrown, HaveSeenAll}
-use Rattle.sup_desk.proofs.desk.see_all.Given as goal
+use Rattle.sup_desk.proofs.laws.audit.Given as goal
 
 -- the handles so far have seen all of the history
 abbrev pub invariant-loop-handle : goal.invariant-loop-handle
