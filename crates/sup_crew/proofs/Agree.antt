@@ -57,16 +57,16 @@ both-same true x = refl
 both-same false x = refl
 
 -- a child below m whose argument is not the account's
-abbrev bad : List Item → ℕ → Child → ℕ
+abbrev pub bad : List Item → ℕ → Child → ℕ
 bad items m c = cond (nat_lt c.number m) (flag (same c.arg (argument_of items c.number))) 0
 
-bad-right : (items : List Item) (m : ℕ) (c : Child) → c.arg ≡ argument_of items c.number → bad items m c ≡ 0
+pub bad-right : (items : List Item) (m : ℕ) (c : Child) → c.arg ≡ argument_of items c.number → bad items m c ≡ 0
 bad-right items m c e = ap (λ b. cond (nat_lt c.number m) (flag b) 0) (same-is c.arg (argument_of items c.number) e) ∙ both-same (nat_lt c.number m) 0
 
 bad-past : (items : List Item) (m : ℕ) (c : Child) → m ≤ c.number → bad items m c ≡ 0
 bad-past items m c h = ap (λ b. cond b (flag (same c.arg (argument_of items c.number))) 0) (le-ltb c.number m h)
 
-right-of : (items : List Item) (m : ℕ) (c : Child) → c.number < m → bad items m c ≡ 0 → c.arg ≡ argument_of items c.number
+pub right-of : (items : List Item) (m : ℕ) (c : Child) → c.number < m → bad items m c ≡ 0 → c.arg ≡ argument_of items c.number
 right-of items m c h e =
     is-same c.arg (argument_of items c.number)
     (set-flag (same c.arg (argument_of items c.number)) (sym (ap (λ b. cond b (flag (same c.arg (argument_of items c.number))) 0) (lt-ltb c.number m h)) ∙ e))
@@ -76,12 +76,12 @@ none-below items [] = refl
 none-below items (c ∷ cs) = let a = bad-past items 0 c (omega arith) in let b = none-below items cs in omega (arith, a, b)
 
 -- an exit is that of the first note
-abbrev IsTold : Operation → List Note → Type 0
+abbrev pub IsTold : Operation → List Note → Type 0
 IsTold (Exit number reason) [] = ⊥
 IsTold (Exit number reason) (note ∷ notes) = number ≡ note.number
 IsTold _ notes = Unit {0}
 
-told-parts : (operation : Operation) (rest : List Operation) (notes : List Note) → exit_of operation ++ rest ≡ exits notes → IsTold operation notes × (rest ≡ exits (notes_after operation notes))
+pub told-parts : (operation : Operation) (rest : List Operation) (notes : List Note) → exit_of operation ++ rest ≡ exits notes → IsTold operation notes × (rest ≡ exits (notes_after operation notes))
 told-parts (Exit number reason) rest [] e = absurd (cc e)
 told-parts (Exit number reason) rest (note ∷ notes) e = (cc e, cc e)
 told-parts (Start arg) rest notes e = (tt, e)

@@ -16,7 +16,11 @@ use Rattle.sup_desk.specs.Batches.{IsApplied}
 use Rattle.sup_inbox.specs.declared.note.Note.{Note}
 use Rattle.sup_crew.specs.declared.job.Child.{Child}
 use Rattle.sup_crew.specs.Jobs.{weigh}
+use Rattle.sup_crew.specs.declared.tally.Tally.{Tally}
+use Rattle.sup_crew.specs.Tallies.{tally_of, with_start, with_exits}
+use Rattle.sup_crew.proofs.Tallied.{tally-start, tally-exits}
 use Rattle.sup_crew.specs.Calls.{Call, calls_of, answered, exit_of, exits_in, exits, starts_in, start_of, job_made, notes_after, jobs_made, AreDriven, IsDriven}
+use Rattle.std.specs.Prelude.{IsSome, IfNone}
 use Rattle.std.specs.Option.{option_or}
 use Rattle.sup_crew.specs.Drains.{notes_of, replies_of, IsEntered}
 use Rattle.sup_crew.specs.Leads.{front_of, started_job, restarted_job, restarted_jobs, IsLed}
@@ -82,7 +86,7 @@ job_start : (arg : Text) (reply : Reply) → job_made (Start arg) reply [] ≡ s
 job_start arg (Started number) = refl
 job_start arg _ = refl
 
-module _ (answer : Text → ℕ → Answer) (template : Template) (press : Book) (before after : Knowledge) (ticket : Option Told) (put left put' left' : List Child) (entered : List Note) (begun : List Text) (led : IsLed template press before ticket put left entered begun) where
+module _ (answer : Text → ℕ → Answer) (template : Template) (press : Book) (before after : Knowledge) (ticket : Option Told) (tally tally' : Tally) (put left put' left' : List Child) (entered : List Note) (begun : List Text) (led : IsLed template press before ticket tally put left entered begun) where
   abbrev cs : List Call
   cs = calls_of template (front_of ticket) before.number
 
@@ -90,9 +94,10 @@ module _ (answer : Text → ℕ → Answer) (template : Template) (press : Book)
   led-more : (now : Told) (ds : List Call) (notes : List Note) (args : List Text) (jobs : List Child)
       → now.press ≡ press → now.front ≡ after.front → after.number ≡ before.number → entries_of after.front after.number ≡ after.calls
       → calls_of template after.front before.number ≡ cs ++ ds → AreDriven ds → starts_in ds ≡ args → exits_in ds ≡ exits notes → jobs_made ds notes ≡ jobs
+      → (tally ≡ tally_of cs → tally' ≡ tally_of (cs ++ ds))
       → ((h : Child → ℕ) → weigh h put' + weigh h left' ≡ weigh h put + weigh h left + weigh h jobs)
-      → IsLed template press after (Some now) put' left' (entered ++ notes) (begun ++ args)
-  led-more now ds notes args jobs p f n own calls driven starts exit made account =
+      → IsLed template press after (Some now) tally' put' left' (entered ++ notes) (begun ++ args)
+  led-more now ds notes args jobs p f n own calls driven starts exit made count account =
       let all : calls_of template now.front after.number ≡ cs ++ ds = (λ i. calls_of template (f i) (n i)) ∙ calls in
       record {
         of_press = p;
@@ -101,6 +106,7 @@ module _ (answer : Text → ℕ → Answer) (template : Template) (press : Book)
         driven = subst AreDriven (sym all) (driven-append cs ds led.driven driven);
         starts = ap starts_in all ∙ starts-append cs ds ∙ (λ i. led.starts i ++ starts i);
         exits_are = ap exits_in all ∙ exits_in-append cs ds ∙ (λ i. led.exits_are i ++ exit i) ∙ sym (exits-append entered notes);
+        counts = count led.counts ∙ ap tally_of (sym all);
         jobs = λ h.
             let a = account h in
             let b = led.jobs h in
@@ -109,30 +115,31 @@ module _ (answer : Text → ℕ → Answer) (template : Template) (press : Book)
             omega (arith, a, b, c, d);
       }
 
-  pub led-started : (now : Told) (arg : Text) (moment : ℕ) (reply : Reply) → IsUpdated answer template before (Start arg) moment after reply now.front → now.press ≡ press
+  pub led-started : (now : Told) (arg : Text) (moment : ℕ) (reply : Reply) → IsUpdated answer template before (Start arg) moment after reply now.front → now.press ≡ press → tally' ≡ with_start tally reply
       → ((h : Child → ℕ) → weigh h put' + weigh h left' ≡ weigh h put + weigh h left + weigh h (started_job arg reply))
-      → IsLed template press after (Some now) put' left' entered (begun ++ arg ∷ [])
-  led-started now arg moment reply h p account =
-      subst (λ l. IsLed template press after (Some now) put' left' l (begun ++ arg ∷ [])) (append-nil entered)
+      → IsLed template press after (Some now) tally' put' left' entered (begun ++ arg ∷ [])
+  led-started now arg moment reply h p t account =
+      subst (λ l. IsLed template press after (Some now) tally' put' left' l (begun ++ arg ∷ [])) (append-nil entered)
       (led-more now (record { operation = Start arg; reply = reply } ∷ []) [] (arg ∷ []) (started_job arg reply)
       p h.7 h.3 (updated-own answer template before after (front_of ticket) led.front led.whole (Start arg) moment reply now.front h)
       (updated-calls answer template before after (front_of ticket) led.front led.whole (Start arg) moment reply now.front h)
-      (tt, tt) refl refl (append-nil (job_made (Start arg) reply []) ∙ job_start arg reply) account)
+      (tt, tt) refl refl (append-nil (job_made (Start arg) reply []) ∙ job_start arg reply)
+      (λ e. t ∙ ap (λ u. with_start u reply) e ∙ sym (tally-start cs arg reply)) account)
 
-  pub led-drained : (now : Told) (pairs : List (Note × Reply)) (moment : ℕ) → IsApplied answer template before (exits (notes_of pairs)) moment after (replies_of pairs) now.front → now.press ≡ press
+  pub led-drained : (now : Told) (pairs : List (Note × Reply)) (moment : ℕ) → IsApplied answer template before (exits (notes_of pairs)) moment after (replies_of pairs) now.front → now.press ≡ press → tally' ≡ with_exits tally (replies_of pairs)
       → ((h : Child → ℕ) → weigh h put' + weigh h left' ≡ weigh h put + weigh h left + weigh h (restarted_jobs pairs))
-      → IsLed template press after (Some now) put' left' (entered ++ notes_of pairs) begun
-  led-drained now pairs moment h p account =
-      subst (λ l. IsLed template press after (Some now) put' left' (entered ++ notes_of pairs) l) (append-nil begun)
+      → IsLed template press after (Some now) tally' put' left' (entered ++ notes_of pairs) begun
+  led-drained now pairs moment h p t account =
+      subst (λ l. IsLed template press after (Some now) tally' put' left' (entered ++ notes_of pairs) l) (append-nil begun)
       (led-more now (answered (exits (notes_of pairs)) (replies_of pairs)) (notes_of pairs) [] (restarted_jobs pairs)
       p h.7 h.3 (applied-own answer template before after (front_of ticket) led.front led.whole (exits (notes_of pairs)) moment (replies_of pairs) now.front h)
       (applied-calls answer template before after (front_of ticket) led.front led.whole (exits (notes_of pairs)) moment (replies_of pairs) now.front h)
-      (driven_exits pairs) (starts_exits pairs) (exits_exits pairs) (jobs_exits pairs) account)
+      (driven_exits pairs) (starts_exits pairs) (exits_exits pairs) (jobs_exits pairs) (λ e. t ∙ tally-exits tally cs pairs e) account)
 
   -- a refused update, or none
-  pub led-stays : IsPrefix before.front after.front → after.calls ≡ before.calls → after.number ≡ before.number → IsLed template press after ticket put left entered begun
+  pub led-stays : IsPrefix before.front after.front → after.calls ≡ before.calls → after.number ≡ before.number → IsLed template press after ticket tally put left entered begun
   led-stays more calls number =
-      let at : (n : ℕ) → n ≡ after.number → IsLed template press (record { number = n; front = after.front; calls = after.calls }) ticket put left entered begun → IsLed template press after ticket put left entered begun = λ n e w. subst (λ (k : ℕ). IsLed template press (record { number = k; front = after.front; calls = after.calls }) ticket put left entered begun) e w in
+      let at : (n : ℕ) → n ≡ after.number → IsLed template press (record { number = n; front = after.front; calls = after.calls }) ticket tally put left entered begun → IsLed template press after ticket tally put left entered begun = λ n e w. subst (λ (k : ℕ). IsLed template press (record { number = k; front = after.front; calls = after.calls }) ticket tally put left entered begun) e w in
       at before.number (sym number) (record {
         of_press = led.of_press;
         front = (led.front.0 ++ more.0, sym (append_assoc (front_of ticket) led.front.0 more.0) ∙ ap (λ l. l ++ more.0) led.front.1 ∙ more.1);
@@ -140,23 +147,46 @@ module _ (answer : Text → ℕ → Answer) (template : Template) (press : Book)
         driven = led.driven;
         starts = led.starts;
         exits_are = led.exits_are;
+        counts = led.counts;
         jobs = led.jobs;
       })
 
   -- what a drain entered, or nothing
-  pub led-entered : (told : Option Told) (pairs : List (Note × Reply)) (moment : ℕ) → IsPrefix before.front after.front → IsEntered answer template press before after moment pairs told
+  pub led-entered : (told : Option Told) (pairs : List (Note × Reply)) (moment : ℕ) → IsPrefix before.front after.front → IsEntered answer template press before after moment pairs told → tally' ≡ with_exits tally (replies_of pairs)
       → ((h : Child → ℕ) → weigh h put' + weigh h left' ≡ weigh h put + weigh h left + weigh h (restarted_jobs pairs))
-      → IsLed template press after (option_or told ticket) put' left' (entered ++ notes_of pairs) begun
-  led-entered None pairs moment more h account =
+      → IsLed template press after (option_or told ticket) tally' put' left' (entered ++ notes_of pairs) begun
+  led-entered None pairs moment more h t account =
       let stays = led-stays more h.1 h.2 in
       let none : entered ++ notes_of pairs ≡ entered = ap (λ l. entered ++ notes_of l) h.0 ∙ append-nil entered in
-      subst (λ l. IsLed template press after ticket put' left' l begun) (sym none) (record {
+      let same : tally' ≡ tally = t ∙ ap (λ l. with_exits tally (replies_of l)) h.0 in
+      subst (λ l. IsLed template press after ticket tally' put' left' l begun) (sym none) (record {
         of_press = stays.of_press;
         front = stays.front;
         whole = stays.whole;
         driven = stays.driven;
         starts = stays.starts;
         exits_are = stays.exits_are;
+        counts = same ∙ stays.counts;
         jobs = λ w. let a = account w in let b = stays.jobs w in let c = ap (λ l. weigh w (restarted_jobs l)) h.0 in omega (arith, a, b, c);
       })
-  led-entered (Some now) pairs moment more h account = led-drained now pairs moment h.0 h.1 account
+  led-entered (Some now) pairs moment more h t account = led-drained now pairs moment h.0 h.1 t account
+
+-- a driver that entered nothing
+pub led_begins : (template : Template) (press : Book) (knows : Knowledge) → knows.calls ≡ [] → IsLed template press knows None (tally_of []) [] [] [] []
+led_begins template press knows none = record {
+  of_press = tt;
+  front = (knows.front, refl);
+  whole = sym none;
+  driven = tt;
+  starts = refl;
+  exits_are = refl;
+  counts = refl;
+  jobs = λ h. refl;
+}
+
+-- a fault stays one
+pub none_before : {F : Type 0} (a b : Option F) (P : Type 0) → (IsSome a → IsSome b) → IfNone a P → IfNone b P
+none_before None None P stays h = h
+none_before None (Some y) P stays h = tt
+none_before (Some x) None P stays h = absurd (cc (stays refl))
+none_before (Some x) (Some y) P stays h = tt

@@ -3,7 +3,9 @@ pub mod Called
 pub mod DrainLemmas
 pub mod Led
 pub mod Moves
+pub mod Reported
 pub mod Right
 pub mod Rows
 pub mod Sums
+pub mod Tallied
 pub mod Worked

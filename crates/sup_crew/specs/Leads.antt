@@ -13,6 +13,8 @@ use Rattle.sup_inbox.specs.declared.note.Note.{Note}
 use Rattle.sup_crew.specs.declared.job.Child.{Child}
 use Rattle.sup_crew.specs.Jobs.{weigh}
 use Rattle.sup_crew.specs.Hands.{HandView}
+use Rattle.sup_crew.specs.declared.tally.Tally.{Tally}
+use Rattle.sup_crew.specs.Tallies.{tally_of}
 use Rattle.sup_crew.specs.Calls.{calls_of, exits_in, exits, starts_in, jobs_made, AreDriven}
 
 -- the history up to and with the last update
@@ -33,15 +35,16 @@ abbrev pub restarted_jobs : List (Note × Reply) → List Child
 restarted_jobs [] = []
 restarted_jobs (p ∷ ps) = restarted_job p.0 p.1 ++ restarted_jobs ps
 
--- the driver's updates are the starts of these arguments and the exits of these notes, and it queued or kept a job for each child
--- that they made
-pub record IsLed (template : Template) (press : Book) (knows : Knowledge) (ticket : Option Told) (put left : List Child) (entered : List Note) (begun : List Text) : Type 0 where
+-- the driver's updates are the starts of these arguments and the exits of these notes, it counted them, and it queued or kept a job
+-- for each child that they made
+pub record IsLed (template : Template) (press : Book) (knows : Knowledge) (ticket : Option Told) (tally : Tally) (put left : List Child) (entered : List Note) (begun : List Text) : Type 0 where
   pub of_press : IfSome ticket (λ told. told.press ≡ press)
   pub front : IsPrefix (front_of ticket) knows.front
   pub whole : entries_of (front_of ticket) knows.number ≡ knows.calls
   pub driven : AreDriven (calls_of template (front_of ticket) knows.number)
   pub starts : starts_in (calls_of template (front_of ticket) knows.number) ≡ begun
   pub exits_are : exits_in (calls_of template (front_of ticket) knows.number) ≡ exits entered
+  pub counts : tally ≡ tally_of (calls_of template (front_of ticket) knows.number)
   pub jobs : (h : Child → ℕ) → weigh h put + weigh h left ≡ weigh h (jobs_made (calls_of template (front_of ticket) knows.number) entered)
 
 -- the driver's hand queued so many jobs, and there is room for them beside those that are kept

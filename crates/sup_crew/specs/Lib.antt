@@ -1,7 +1,11 @@
 pub mod Calls
 pub mod Drains
+pub mod Faults
 pub mod Hands
 pub mod Jobs
 pub mod Joins
 pub mod Leads
+pub mod Reports
+pub mod Runs
+pub mod Tallies
 pub mod Work

@@ -1,14 +1,18 @@
 //! The driver's side of a run: what it entered, and the jobs that it queued or kept.
-ghost use Rattle.std.specs.Prelude.{◌≡◌, List, ◌+◌, ◌<◌, ◌≤◌, [], ◌∷◌, ◌++◌, length, take, IfOk, IfErr, OnErr, IfNone, MatchOption, vec_len, vec_capacity};
+ghost use Rattle.std.specs.Prelude.{◌≡◌, List, ◌+◌, ◌<◌, ◌≤◌, [], ◌∷◌, ◌++◌, length, take, IfOk, IfErr, OnErr, IfNone, IsSome, MatchOption, vec_len, vec_capacity};
 ghost use Rattle.std.specs.Option.{option_or};
+ghost use Rattle.sup_crew.specs.Drains.{replies_of};
 ghost use Rattle.sup_crew.specs.Jobs.{weigh, share, child_of, children_of};
 ghost use Rattle.sup_crew.specs.Leads.{IsLed, IsReady, started_job, restarted_jobs};
+ghost use Rattle.sup_crew.specs.Tallies.{with_start, with_exits};
 
 use crate::drain::{Drain, DrainFault, Drained, HELD};
 use crate::job::Job;
 use crate::queue::{Hand, Jobs};
+use crate::tally::Tally;
 use std::alloc::Global;
 use std::sync::Wait;
+use std::thread;
 use sup_desk::{Done, Handle, Name, UpdateFault};
 use sup_inbox::Inbox;
 use sup_log::Ticket;
@@ -27,6 +31,8 @@ pub struct Lead<'d, N: Name, S: Starter + Drop, P: Wait + Drop> {
     pub left: Vec<Job<N>>,
     /// The ticket of its last update.
     pub ticket: Option<Ticket>,
+    /// How many updates of each kind it made.
+    pub tally: Tally,
 }
 
 /// Queues a job, or keeps it among those that are left.
@@ -80,8 +86,8 @@ impl<'d, N: Name, S: Starter + Drop, P: Wait + Drop> Lead<'d, N, S, P> {
         requires ready { IsReady self.old.hand self.old.queued (vec_len self.old.left) (vec_capacity self.old.left) }
         ensures hand { self.new.hand ≡ record { queue = jobs.now; share = share self.old.hand.share.parts self.new.hand.share.put self.old.hand.share.taken } }
         ensures ready { IsReady self.new.hand self.new.queued (vec_len self.new.left) (vec_capacity self.new.left) }
-        ensures ok { IfOk result (λ _. (entered : _) (begun : _) → IsLed N.template N.press self.old.handle self.old.ticket self.old.hand.share.put (children_of self.old.left.items) entered begun → IsLed N.template N.press self.new.handle self.new.ticket self.new.hand.share.put (children_of self.new.left.items) entered (begun ++ arg.now ∷ [])) }
-        ensures err { OnErr result ((entered : _) (begun : _) → IsLed N.template N.press self.old.handle self.old.ticket self.old.hand.share.put (children_of self.old.left.items) entered begun → IsLed N.template N.press self.new.handle self.new.ticket self.new.hand.share.put (children_of self.new.left.items) entered begun) }
+        ensures ok { IfOk result (λ _. (entered : _) (begun : _) → IsLed N.template N.press self.old.handle self.old.ticket self.old.tally self.old.hand.share.put (children_of self.old.left.items) entered begun → IsLed N.template N.press self.new.handle self.new.ticket self.new.tally self.new.hand.share.put (children_of self.new.left.items) entered (begun ++ arg.now ∷ [])) }
+        ensures err { OnErr result ((entered : _) (begun : _) → IsLed N.template N.press self.old.handle self.old.ticket self.old.tally self.old.hand.share.put (children_of self.old.left.items) entered begun → IsLed N.template N.press self.new.handle self.new.ticket self.new.tally self.new.hand.share.put (children_of self.new.left.items) entered begun) }
     {
         make_room(&mut self.left, self.queued, 1)?;
         let done = self.handle.start_child(rt, moment, arg.copied())?;
@@ -98,9 +104,11 @@ impl<'d, N: Name, S: Starter + Drop, P: Wait + Drop> Lead<'d, N, S, P> {
         ensures hand { self.new.hand ≡ record { queue = jobs.now; share = share self.old.hand.share.parts self.new.hand.share.put self.old.hand.share.taken } }
         ensures ready { IsReady self.new.hand self.new.queued (vec_len self.new.left) (vec_capacity self.new.left) }
         ensures ticket { self.new.ticket ≡ Some done.ticket }
+        ensures tally { self.new.tally ≡ with_start self.old.tally done.reply }
         ensures account { (h : _) → weigh h self.new.hand.share.put + weigh h (children_of self.new.left.items) ≡ weigh h self.old.hand.share.put + weigh h (children_of self.old.left.items) + weigh h (started_job arg.now done.reply) }
     {
         let Done { reply, ticket } = done;
+        self.tally = self.tally.started(rt, &reply);
         if let Reply::Started(number) = reply {
             let job = Job::new(number, arg.copied(), ticket.copied());
             put_or_keep(
@@ -127,8 +135,9 @@ impl<'d, N: Name, S: Starter + Drop, P: Wait + Drop> Lead<'d, N, S, P> {
         requires ready { IsReady self.old.hand self.old.queued (vec_len self.old.left) (vec_capacity self.old.left) }
         ensures hand { self.new.hand ≡ record { queue = jobs.now; share = share self.old.hand.share.parts self.new.hand.share.put self.old.hand.share.taken } }
         ensures ready { IsReady self.new.hand self.new.queued (vec_len self.new.left) (vec_capacity self.new.left) }
-        ensures led { (entered : _) (begun : _) → IsLed N.template N.press self.old.handle self.old.ticket self.old.hand.share.put (children_of self.old.left.items) entered begun → IsLed N.template N.press self.new.handle self.new.ticket self.new.hand.share.put (children_of self.new.left.items) entered (begun ++ take result.0 children.now) }
+        ensures led { (entered : _) (begun : _) → IsLed N.template N.press self.old.handle self.old.ticket self.old.tally self.old.hand.share.put (children_of self.old.left.items) entered begun → IsLed N.template N.press self.new.handle self.new.ticket self.new.tally self.new.hand.share.put (children_of self.new.left.items) entered (begun ++ take result.0 children.now) }
         ensures all { IfNone result.1 (result.0 ≡ length children.now) }
+        ensures few { result.0 ≤ length children.now }
     {
         for place in 0..children.len() {
             if let Err(fault) = self.start_one(rt, jobs, moment, &children[place]) {
@@ -147,10 +156,12 @@ impl<'d, N: Name, S: Starter + Drop, P: Wait + Drop> Lead<'d, N, S, P> {
         ensures hand { self.new.hand ≡ record { queue = jobs.now; share = share self.old.hand.share.parts self.new.hand.share.put self.old.hand.share.taken } }
         ensures ready { IsReady self.new.hand self.new.queued (vec_len self.new.left) (vec_capacity self.new.left) }
         ensures ticket { self.new.ticket ≡ option_or done.ticket self.old.ticket }
+        ensures tally { self.new.tally ≡ with_exits self.old.tally (replies_of done.pairs.items) }
         ensures account { (h : _) → weigh h self.new.hand.share.put + weigh h (children_of self.new.left.items) ≡ weigh h self.old.hand.share.put + weigh h (children_of self.old.left.items) + weigh h (restarted_jobs done.pairs.items) }
     {
         let Drained { pairs, ticket } = done;
         let count = pairs.len();
+        self.tally = self.tally.drained(rt, &pairs);
         let Some(ticket) = ticket else {
             return count;
         };
@@ -187,7 +198,7 @@ impl<'d, N: Name, S: Starter + Drop, P: Wait + Drop> Lead<'d, N, S, P> {
         ensures hand { self.new.hand ≡ record { queue = jobs.now; share = share self.old.hand.share.parts self.new.hand.share.put self.old.hand.share.taken } }
         ensures ready { IsReady self.new.hand self.new.queued (vec_len self.new.left) (vec_capacity self.new.left) }
         ensures drain { (drain.new.inbox ≡ drain.old.inbox) × (drain.new.posters ≡ drain.old.posters) }
-        ensures led { (begun : _) → IsLed N.template N.press self.old.handle self.old.ticket self.old.hand.share.put (children_of self.old.left.items) drain.old.entered begun → IsLed N.template N.press self.new.handle self.new.ticket self.new.hand.share.put (children_of self.new.left.items) drain.new.entered begun }
+        ensures led { (begun : _) → IsLed N.template N.press self.old.handle self.old.ticket self.old.tally self.old.hand.share.put (children_of self.old.left.items) drain.old.entered begun → IsLed N.template N.press self.new.handle self.new.ticket self.new.tally self.new.hand.share.put (children_of self.new.left.items) drain.new.entered begun }
     {
         if let Err(fault) = make_room(&mut self.left, self.queued, HELD) {
             return (0, Some(fault));
@@ -198,5 +209,108 @@ impl<'d, N: Name, S: Starter + Drop, P: Wait + Drop> Lead<'d, N, S, P> {
                 (self.queue_restarted(rt, jobs, done), Some(fault))
             }
         }
+    }
+
+    /// Starts the children in order, and then drains until the note of each queued job was taken or `turns` turns in a row
+    /// took none. How many children were started, and the fault that stopped it.
+    pub fn start_and_drain<R: Wait>(
+        &mut self,
+        rt: &R,
+        alloc: Global,
+        jobs: &Jobs<N>,
+        inbox: &Inbox,
+        drain: &mut Drain,
+        moment: u64,
+        turns: u64,
+        children: &[Text],
+    ) -> (usize, Option<UpdateFault>)
+        requires hand { (self.old.hand.queue ≡ jobs.now) × (0 < self.old.hand.share.parts) }
+        requires ready { IsReady self.old.hand self.old.queued (vec_len self.old.left) (vec_capacity self.old.left) }
+        requires drain { drain.old.inbox ≡ inbox.now.id }
+        ensures hand { self.new.hand ≡ record { queue = jobs.now; share = share self.old.hand.share.parts self.new.hand.share.put self.old.hand.share.taken } }
+        ensures ready { IsReady self.new.hand self.new.queued (vec_len self.new.left) (vec_capacity self.new.left) }
+        ensures drain { (drain.new.inbox ≡ drain.old.inbox) × (drain.new.posters ≡ drain.old.posters) }
+        ensures led { (begun : _) → IsLed N.template N.press self.old.handle self.old.ticket self.old.tally self.old.hand.share.put (children_of self.old.left.items) drain.old.entered begun → IsLed N.template N.press self.new.handle self.new.ticket self.new.tally self.new.hand.share.put (children_of self.new.left.items) drain.new.entered (begun ++ take result.0 children.now) }
+        ensures all { IfNone result.1 (result.0 ≡ length children.now) }
+        ensures few { result.0 ≤ length children.now }
+    {
+        let (started, fault) = self.start_all(rt, jobs, moment, children);
+        if fault.is_some() {
+            return (started, fault);
+        }
+        let fault = self.drain_all(rt, alloc, jobs, inbox, drain, moment, turns);
+        (started, fault)
+    }
+
+    /// Drains until the note of each queued job was taken, a fault comes, or `turns` turns in a row took none.
+    pub fn drain_all<R: Wait>(
+        &mut self,
+        rt: &R,
+        alloc: Global,
+        jobs: &Jobs<N>,
+        inbox: &Inbox,
+        drain: &mut Drain,
+        moment: u64,
+        turns: u64,
+    ) -> Option<UpdateFault>
+        requires hand { (self.old.hand.queue ≡ jobs.now) × (0 < self.old.hand.share.parts) }
+        requires ready { IsReady self.old.hand self.old.queued (vec_len self.old.left) (vec_capacity self.old.left) }
+        requires drain { drain.old.inbox ≡ inbox.now.id }
+        ensures hand { self.new.hand ≡ record { queue = jobs.now; share = share self.old.hand.share.parts self.new.hand.share.put self.old.hand.share.taken } }
+        ensures ready { IsReady self.new.hand self.new.queued (vec_len self.new.left) (vec_capacity self.new.left) }
+        ensures drain { (drain.new.inbox ≡ drain.old.inbox) × (drain.new.posters ≡ drain.old.posters) }
+        ensures led { (begun : _) → IsLed N.template N.press self.old.handle self.old.ticket self.old.tally self.old.hand.share.put (children_of self.old.left.items) drain.old.entered begun → IsLed N.template N.press self.new.handle self.new.ticket self.new.tally self.new.hand.share.put (children_of self.new.left.items) drain.new.entered begun }
+    {
+        let mut taken = 0usize;
+        let mut idle = 0u64;
+        for _ in rt.forever() {
+            if taken >= self.queued || idle >= turns {
+                return None;
+            }
+            let (count, fault) = self.drain_once(rt, alloc, jobs, inbox, drain, moment);
+            if fault.is_some() {
+                return fault;
+            }
+            if count == 0 {
+                idle += 1;
+                thread::yield_now();
+            } else {
+                idle = 0;
+                taken = taken.saturating_add(count);
+            }
+        }
+        unreachable!()
+    }
+
+    /// Drains until no note is left or a fault comes, unless there is a fault already.
+    pub fn drain_rest<R: Wait>(
+        &mut self,
+        rt: &R,
+        alloc: Global,
+        jobs: &Jobs<N>,
+        inbox: &Inbox,
+        drain: &mut Drain,
+        moment: u64,
+        fault: Option<UpdateFault>,
+    ) -> Option<UpdateFault>
+        requires hand { (self.old.hand.queue ≡ jobs.now) × (0 < self.old.hand.share.parts) }
+        requires ready { IsReady self.old.hand self.old.queued (vec_len self.old.left) (vec_capacity self.old.left) }
+        requires drain { drain.old.inbox ≡ inbox.now.id }
+        ensures hand { self.new.hand ≡ record { queue = jobs.now; share = share self.old.hand.share.parts self.new.hand.share.put self.old.hand.share.taken } }
+        ensures ready { IsReady self.new.hand self.new.queued (vec_len self.new.left) (vec_capacity self.new.left) }
+        ensures drain { (drain.new.inbox ≡ drain.old.inbox) × (drain.new.posters ≡ drain.old.posters) }
+        ensures stays { IsSome fault → IsSome result }
+        ensures led { (begun : _) → IsLed N.template N.press self.old.handle self.old.ticket self.old.tally self.old.hand.share.put (children_of self.old.left.items) drain.old.entered begun → IsLed N.template N.press self.new.handle self.new.ticket self.new.tally self.new.hand.share.put (children_of self.new.left.items) drain.new.entered begun }
+    {
+        if fault.is_some() {
+            return fault;
+        }
+        for _ in rt.forever() {
+            let (count, fault) = self.drain_once(rt, alloc, jobs, inbox, drain, moment);
+            if count == 0 || fault.is_some() {
+                return fault;
+            }
+        }
+        unreachable!()
     }
 }

@@ -16,9 +16,9 @@ returns-in-Ok-clause-led g c begun led =
     let done = c.in-Ok.done in
     let q = c.queue_restarted.ensures in
     let new = c.queue_restarted.new.self in
-    subst (λ (x : Knowledge × Option Told × List Note). IsLed g.N.Name.template g.N.Name.press x.0 x.1 new.hand.share.put (children_of new.left.items) x.2 begun) (λ i. (sym q.handle i, sym q.ticket i, sym e.entered i))
-    (led-entered g.S.Starter.answer g.N.Name.template g.N.Name.press old.handle c.drain.new.handle old.ticket old.hand.share.put (children_of old.left.items) new.hand.share.put (children_of new.left.items) c.args.drain.now.entered begun led
-    done.ticket done.pairs.items c.args.moment e.front e.ok
+    subst (λ (x : Knowledge × Option Told × List Note). IsLed g.N.Name.template g.N.Name.press x.0 x.1 new.tally new.hand.share.put (children_of new.left.items) x.2 begun) (λ i. (sym q.handle i, sym q.ticket i, sym e.entered i))
+    (led-entered g.S.Starter.answer g.N.Name.template g.N.Name.press old.handle c.drain.new.handle old.ticket old.tally new.tally old.hand.share.put (children_of old.left.items) new.hand.share.put (children_of new.left.items) c.args.drain.now.entered begun led
+    done.ticket done.pairs.items c.args.moment e.front e.ok q.tally
     (λ h. q.account h ∙ ap (λ l. weigh h old.hand.share.put + weigh h (children_of l) + weigh h (restarted_jobs done.pairs.items)) c.make_room.ensures.same))
 
 pub returns-in-Err-drain-clause-led : goal.returns-in-Err-drain-clause-led
@@ -28,7 +28,7 @@ returns-in-Err-drain-clause-led g c begun led =
     let done = c.in-Err-drain.field-0.done in
     let q = c.queue_restarted-in-Err-drain.ensures in
     let new = c.queue_restarted-in-Err-drain.new.self in
-    subst (λ (x : Knowledge × Option Told × List Note). IsLed g.N.Name.template g.N.Name.press x.0 x.1 new.hand.share.put (children_of new.left.items) x.2 begun) (λ i. (sym q.handle i, sym q.ticket i, sym e.part i))
-    (led-entered g.S.Starter.answer g.N.Name.template g.N.Name.press old.handle c.drain.new.handle old.ticket old.hand.share.put (children_of old.left.items) new.hand.share.put (children_of new.left.items) c.args.drain.now.entered begun led
-    done.ticket done.pairs.items c.args.moment e.front e.err
+    subst (λ (x : Knowledge × Option Told × List Note). IsLed g.N.Name.template g.N.Name.press x.0 x.1 new.tally new.hand.share.put (children_of new.left.items) x.2 begun) (λ i. (sym q.handle i, sym q.ticket i, sym e.part i))
+    (led-entered g.S.Starter.answer g.N.Name.template g.N.Name.press old.handle c.drain.new.handle old.ticket old.tally new.tally old.hand.share.put (children_of old.left.items) new.hand.share.put (children_of new.left.items) c.args.drain.now.entered begun led
+    done.ticket done.pairs.items c.args.moment e.front e.err q.tally
     (λ h. q.account h ∙ ap (λ l. weigh h old.hand.share.put + weigh h (children_of l) + weigh h (restarted_jobs done.pairs.items)) c.make_room.ensures.same))

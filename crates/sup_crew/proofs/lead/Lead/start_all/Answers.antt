@@ -18,7 +18,11 @@ loop-place-preserved g c =
       parts = i.parts;
       ready = e.ready;
       led = λ entered begun h.
-          subst (λ l. IsLed g.N.Name.template g.N.Name.press new.handle new.ticket new.hand.share.put (children_of (vec_items new.left)) entered l)
+          subst (λ l. IsLed g.N.Name.template g.N.Name.press new.handle new.ticket new.tally new.hand.share.put (children_of (vec_items new.left)) entered l)
           (append_assoc begun (take n all) (arg ∷ []) ∙ ap (λ l. begun ++ l) (ap (λ a. take n all ++ a ∷ []) c.index-children-place.is ∙ sym (take_more all n arg (omega arith))))
           (e.ok entered (begun ++ take n all) (i.led entered begun h));
     }
+
+pub returns-in-Err-clause-led : goal.returns-in-Err-clause-led
+returns-in-Err-clause-led g c entered begun led =
+    c.in-Err.ensures.err entered (begun ++ take c.loop-place.place c.args.children.now) (c.loop-place.invariant.led entered begun led)

@@ -13,6 +13,6 @@ invariant-loop-place g l = record {
   parts : 0 < l.fn.self.hand.share.parts;
   ready : IsReady l.self.hand l.self.queued (vec_len l.self.left) (vec_capacity l.self.left);
   led : (entered : List Note) (begun : List Text)
-      → IsLed g.N.Name.template g.N.Name.press l.fn.self.handle l.fn.self.ticket l.fn.self.hand.share.put (children_of (vec_items l.fn.self.left)) entered begun
-      → IsLed g.N.Name.template g.N.Name.press l.self.handle l.self.ticket l.self.hand.share.put (children_of (vec_items l.self.left)) entered (begun ++ take l.place l.children);
+      → IsLed g.N.Name.template g.N.Name.press l.fn.self.handle l.fn.self.ticket l.fn.self.tally l.fn.self.hand.share.put (children_of (vec_items l.fn.self.left)) entered begun
+      → IsLed g.N.Name.template g.N.Name.press l.self.handle l.self.ticket l.self.tally l.self.hand.share.put (children_of (vec_items l.self.left)) entered (begun ++ take l.place l.children);
 }

@@ -15,8 +15,8 @@ returns-in_err-done-clause-err g c =
     let old = c.args.self.now in
     let put = old.hand.share.put in
     let e = c.in_err-done.ensures in
-    subst (λ l. IsLed g.N.Name.template g.N.Name.press c.start_child.new.self old.ticket put (children_of l) entered begun) (sym c.make_room.ensures.same)
-    (led-stays g.S.Starter.answer g.N.Name.template g.N.Name.press old.handle c.start_child.new.self old.ticket put (children_of old.left.items) put (children_of old.left.items) entered begun led e.front e.calls.0 e.calls.1))
+    subst (λ l. IsLed g.N.Name.template g.N.Name.press c.start_child.new.self old.ticket old.tally put (children_of l) entered begun) (sym c.make_room.ensures.same)
+    (led-stays g.S.Starter.answer g.N.Name.template g.N.Name.press old.handle c.start_child.new.self old.ticket old.tally old.tally put (children_of old.left.items) put (children_of old.left.items) entered begun led e.front e.calls.0 e.calls.1))
 
 pub returns-clause-ok : goal.returns-clause-ok
 returns-clause-ok g c entered begun led =
@@ -27,7 +27,7 @@ returns-clause-ok g c entered begun led =
     let done = c.in_ok-done.done in
     let arg = c.args.arg.now in
     let updated = subst (λ a. IsUpdated g.S.Starter.answer g.N.Name.template old.handle (Start a) c.args.moment c.start_child.new.self done.reply done.ticket.front) c.copied.ensures e.ok in
-    subst (λ (x : Knowledge × Option Told). IsLed g.N.Name.template g.N.Name.press x.0 x.1 new.hand.share.put (children_of new.left.items) entered (begun ++ arg ∷ [])) (λ i. (sym q.handle i, sym q.ticket i))
-    (led-started g.S.Starter.answer g.N.Name.template g.N.Name.press old.handle c.start_child.new.self old.ticket old.hand.share.put (children_of old.left.items) new.hand.share.put (children_of new.left.items) entered begun led
-    done.ticket arg c.args.moment done.reply updated e.press
+    subst (λ (x : Knowledge × Option Told). IsLed g.N.Name.template g.N.Name.press x.0 x.1 new.tally new.hand.share.put (children_of new.left.items) entered (begun ++ arg ∷ [])) (λ i. (sym q.handle i, sym q.ticket i))
+    (led-started g.S.Starter.answer g.N.Name.template g.N.Name.press old.handle c.start_child.new.self old.ticket old.tally new.tally old.hand.share.put (children_of old.left.items) new.hand.share.put (children_of new.left.items) entered begun led
+    done.ticket arg c.args.moment done.reply updated e.press q.tally
     (λ h. q.account h ∙ ap (λ l. weigh h old.hand.share.put + weigh h (children_of l) + weigh h (started_job arg done.reply)) c.make_room.ensures.same))

@@ -1,0 +1,79 @@
+-- What a run did: the calls of its driver, and what became of each child that they made.
+use Rattle.std.specs.Prelude.{◌≡◌, ℕ, ◌+◌, List, [], ◌∷◌, ◌++◌, IfSome, IfNone}
+use Rattle.logbook.specs.Pages.{Book}
+use Rattle.sup_types.specs.declared.text.Text.{Text}
+use Rattle.sup_types.specs.declared.reason.Reason.{Reason}
+use Rattle.sup_types.specs.declared.template.Template.{Template}
+use Rattle.sup_types.specs.declared.history.Operation.{Operation}
+use Rattle.sup_types.specs.declared.history.Operation.TheVariants.{Exit}
+use Rattle.sup_core.specs.Account.{Item, account, argument_of}
+use Rattle.sup_desk.specs.declared.name.Name.{Ghosts}
+use Rattle.sup_inbox.specs.declared.note.Note.{Note}
+use Rattle.sup_crew.specs.declared.job.Child.{Child}
+use Rattle.sup_crew.specs.declared.report.Report.{Report}
+use Rattle.sup_crew.specs.declared.tally.Tally.{Tally}
+use Rattle.sup_crew.specs.Calls.{Call, calls_of, children_made, starts_in, AreDriven}
+use Rattle.sup_crew.specs.Jobs.{weigh, children_of}
+use Rattle.sup_crew.specs.Leads.{front_of}
+use Rattle.sup_crew.specs.Tallies.{tally_of}
+use Rattle.sup_crew.specs.Work.{ended, AreEnds}
+
+-- the children whose exits were entered, with the arguments that the account gives them
+abbrev pub child_ended : List Item → Operation → List Child
+child_ended items (Exit number reason) = record { number = number; arg = argument_of items number } ∷ []
+child_ended items _ = []
+
+abbrev pub children_ended : List Item → List Call → List Child
+children_ended items [] = []
+children_ended items (c ∷ cs) = child_ended items c.operation ++ children_ended items cs
+
+-- an exit has a reason for which its child may end
+abbrev pub IsNamed : (ℕ → Text → Reason → Type 0) → List Item → Operation → Type 0
+IsNamed may_end items (Exit number reason) = may_end number (argument_of items number) reason
+IsNamed may_end items _ = Unit {0}
+
+abbrev pub AreNamed : (ℕ → Text → Reason → Type 0) → List Item → List Call → Type 0
+AreNamed may_end items [] = Unit {0}
+AreNamed may_end items (c ∷ cs) = IsNamed may_end items c.operation × AreNamed may_end items cs
+
+-- each of these children has the argument that the account gives it
+abbrev pub AreOwn : List Item → List Child → Type 0
+AreOwn items [] = Unit {0}
+AreOwn items (c ∷ cs) = (c.arg ≡ argument_of items c.number) × AreOwn items cs
+
+module _ {N : Type 0} {G : Ghosts N} where
+  abbrev pub items_of_run : Template → Report N G → List Item
+  items_of_run template r = account template (front_of r.ticket)
+
+  abbrev pub calls_of_run : Template → Report N G → List Call
+  calls_of_run template r = calls_of template (front_of r.ticket) r.driver
+
+  abbrev pub counts_of_run : Report N G → Tally
+  counts_of_run r =
+      record {
+        made = r.made;
+        exits = r.exits;
+        strays = r.strays;
+        downs = r.downs;
+        restarts = r.restarts;
+        given_up = r.given_up;
+        refused = r.refused;
+      }
+
+  -- the notes whose exits were not entered
+  abbrev pub notes_of_run : Report N G → List Note
+  notes_of_run r = r.held.items ++ r.inbox.items ++ r.unposted.items
+
+  -- the driver started the first of the plan and ended children for the reasons of the body, and no more; each child that it made ended by
+  -- one of its exits, or a note tells its end, or its job is left; and the counts are those of its calls by reply
+  pub record IsRun (may_end : ℕ → Text → Reason → Type 0) (template : Template) (press : Book) (plan : List Text) (r : Report N G) : Type 0 where
+    pub of_press : IfSome r.ticket (λ told. told.press ≡ press)
+    pub driven : AreDriven (calls_of_run template r)
+    pub starts : starts_in (calls_of_run template r) ++ r.unstarted.items ≡ plan
+    pub all : IfNone r.fault (r.unstarted.items ≡ [])
+    pub named : AreNamed may_end (items_of_run template r) (calls_of_run template r)
+    pub agree : (h : Child → ℕ) → weigh h (children_made (items_of_run template r) (calls_of_run template r))
+        ≡ weigh h (children_ended (items_of_run template r) (calls_of_run template r)) + weigh h (ended (notes_of_run r)) + weigh h (children_of r.left.items)
+    pub own : AreOwn (items_of_run template r) (ended (notes_of_run r)) × AreOwn (items_of_run template r) (children_of r.left.items)
+    pub ends : AreEnds may_end (notes_of_run r)
+    pub counts : counts_of_run r ≡ tally_of (calls_of_run template r)

@@ -1,0 +1,41 @@
+//! What a run hands back.
+use crate::job::Job;
+use sup_desk::{Name, UpdateFault};
+use sup_inbox::Note;
+use sup_log::Ticket;
+use sup_types::Text;
+
+/// A run of a crew.
+#[derive(Drop)]
+pub struct Report<N: Name> {
+    /// The number of the driver's handle, by which all updates were made.
+    pub driver: u64,
+    /// The ticket of its last update.
+    pub ticket: Option<Ticket>,
+    /// How many children its updates made.
+    pub made: u64,
+    /// How many exits it entered.
+    pub exits: u64,
+    /// How many exits were answered Stray.
+    pub strays: u64,
+    /// How many exits were answered Down.
+    pub downs: u64,
+    /// How many exits were answered Restarted.
+    pub restarts: u64,
+    /// How many exits were answered GaveUp.
+    pub given_up: u64,
+    /// How many starts made no child.
+    pub refused: u64,
+    /// The arguments that were not started.
+    pub unstarted: Vec<Text>,
+    /// The notes that were taken and not entered.
+    pub held: Vec<Note>,
+    /// The notes that were left in the inbox.
+    pub inbox: Vec<Note>,
+    /// The notes that the workers could not post.
+    pub unposted: Vec<Note>,
+    /// The jobs that were not run.
+    pub left: Vec<Job<N>>,
+    /// The fault that stopped the run.
+    pub fault: Option<UpdateFault>,
+}
