@@ -1,13 +1,23 @@
 // Refuses one allocation of a process: the one whose number the variable REFUSE gives, counted from 1. It is preloaded
-// before the C library by the script `refusals` beside it, and is no part of the program.
+// before the C library by the script `refusals` beside it, and is no part of the program. Once it is refused, the file that
+// REFUSE_TOLD names is made: without it, the process has made fewer allocations.
 #define _GNU_SOURCE
 #include <dlfcn.h>
 #include <errno.h>
+#include <fcntl.h>
 #include <stdatomic.h>
 #include <stdlib.h>
+#include <unistd.h>
 
 static _Atomic long made;
 static long refused = -1;
+
+static void tell(void) {
+    const char *path = getenv("REFUSE_TOLD");
+    int file = path ? open(path, O_CREAT | O_WRONLY, 0600) : -1;
+    if (file >= 0)
+        close(file);
+}
 
 static int is_refused(void) {
     if (refused < 0) {
@@ -16,6 +26,7 @@ static int is_refused(void) {
     }
     if (++made != refused)
         return 0;
+    tell();
     errno = ENOMEM;
     return 1;
 }

@@ -10,7 +10,10 @@ use std::marker::Brand;
 use std::process::Abort;
 use std::sync::Wait;
 use std::test::*;
-use sup_types::{Operation, Reason, Reply, Restart};
+use sup_types::{Counts, Operation, Reason, Reply, Restart, Seen};
+
+/// How many children are listed after each update of the row.
+const LISTED: [Option<usize>; 5] = [Some(1), Some(1), Some(1), Some(0), None];
 
 /// The update of this place in a row of five, and its reply.
 fn update<N: Name, R: Wait + Abort>(
@@ -30,18 +33,42 @@ fn update<N: Name, R: Wait + Abort>(
     }
 }
 
-/// An update that is refused leaves what is answered and seen, and is entered the second time.
-fn update_all<N: Name, R: Wait + Abort>(rt: &R, handle: &mut Handle<'_, N, Always, &R>) {
-    for place in 0..5 {
-        let before = (handle.count_children().ok(), handle.front());
-        let (done, reply) = update(rt, handle, place);
-        if done.is_ok() {
-            replied(rt, done, reply);
-            continue;
-        }
-        assert_eq!(rt; done.err(), Some(UpdateFault::OutOfMemory));
-        assert_eq!(rt; (handle.count_children().ok(), handle.front()), before);
-        replied(rt, update(rt, handle, place).0, reply);
+/// What is answered and seen.
+fn seen<N: Name, R: Wait>(handle: &mut Handle<'_, N, Always, &R>) -> (Option<Seen<Counts>>, u64) {
+    (handle.count_children().ok(), handle.front())
+}
+
+/// An update that is refused leaves what is answered and seen, and is made a second time.
+fn update_twice<N: Name, R: Wait + Abort>(
+    rt: &R,
+    handle: &mut Handle<'_, N, Always, &R>,
+    place: u64,
+) -> (Result<Done, UpdateFault>, Reply) {
+    let before = seen(handle);
+    let (done, reply) = update(rt, handle, place);
+    if done.is_ok() {
+        return (done, reply);
+    }
+    assert_eq!(rt; done.err(), Some(UpdateFault::OutOfMemory));
+    assert_eq!(rt; seen(handle), before);
+    update(rt, handle, place)
+}
+
+/// How many children are listed, where it is up. A list that is refused leaves what is seen, and is made a second time.
+fn listed<N: Name, R: Wait + Abort>(
+    rt: &R,
+    handle: &mut Handle<'_, N, Always, &R>,
+) -> Option<usize> {
+    let front = handle.front();
+    let mut rows = handle.which_children();
+    if let Err(fault) = rows {
+        assert_eq!(rt; (fault, handle.front()), (QueryFault::OutOfMemory, front));
+        rows = handle.which_children();
+    }
+    match rows {
+        Ok(Seen::Up(rows)) => Some(rows.len()),
+        Ok(Seen::Down) => None,
+        Err(_) => panic!(rt; "the children are listed"),
     }
 }
 
@@ -52,11 +79,12 @@ fn bear_updates<N: Name, R: Wait + Abort>(rt: &R, ground: Ground<&R>)
     let Ok(mut handle) = made(rt, &desk) else {
         panic!(rt; "a handle");
     };
-    let front = handle.front();
-    if let Err(fault) = handle.which_children() {
-        assert_eq!(rt; (fault, handle.front()), (QueryFault::OutOfMemory, front));
+    for place in 0..5u64 {
+        let (done, reply) = update_twice(rt, &mut handle, place);
+        replied(rt, done, reply);
+        assert_eq!(rt; listed(rt, &mut handle), LISTED[place as usize]);
     }
-    update_all(rt, &mut handle);
+    assert_eq!(rt; (handle.number(), handle.front()), (1, 5));
 }
 
 #[test]
