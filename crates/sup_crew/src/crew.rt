@@ -101,22 +101,13 @@ where
     over.store(true, Ordering::SeqCst);
     let finished = join_all(rt, jobs, inbox, body, workers, finished);
     let fault = lead.drain_rest(rt, alloc, jobs, inbox, &mut drain, moment, fault);
-    let Lead {
-        handle,
-        hand,
-        queued,
-        left,
-        ticket,
-        tally,
-    } = lead;
-    let driver = handle.number();
     Ok(Joined {
-        driver,
-        ticket,
-        tally,
-        hand,
-        queued,
-        left,
+        driver: lead.handle.number(),
+        ticket: lead.ticket,
+        tally: lead.tally,
+        hand: lead.hand,
+        queued: lead.queued,
+        left: lead.left,
         drain,
         started,
         fault,

@@ -25,7 +25,7 @@ returns-clause-joined g c =
     in
     record {
       knows = c.drain_rest-fault.new.self.handle;
-      number = sym c.number-driver.ensures;
+      number = sym c.number.ensures;
       of_queue = (
         ap (λ v. v.queue) d.hand,
         (let p = ap (λ v. v.share.parts) d.hand in let q = ap (λ v. v.share.parts) s.hand in let r = h.hand.1 in omega (arith, p, q, r)),
