@@ -2,6 +2,7 @@
 ghost use Rattle.std.specs.Prelude.{◌≡◌};
 
 mod drains;
+mod runs;
 
 use crate::{Reads, read_turns};
 use std::marker::Brand;
