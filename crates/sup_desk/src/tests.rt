@@ -1,4 +1,5 @@
-//! What no clause says: worked rows, threads, and growth that is refused.
+//! What no clause says: worked rows, threads, and growth that is refused. Each function looks at little: what a check
+//! of a test costs grows faster than its length.
 ghost use Rattle.std.specs.Prelude.{◌≡◌, ◌^◌};
 
 mod batches;
@@ -48,9 +49,32 @@ fn replied(rt: &impl Abort, done: Result<Done, UpdateFault>, reply: Reply) {
     }
 }
 
-/// A child is started and ends by itself, the one in its place is ended, and another is started.
+/// The call of this operation.
+fn call<N: Name, S: Starter + Drop, R: Wait>(
+    rt: &R,
+    handle: &mut Handle<'_, N, S, &R>,
+    moment: u64,
+    operation: Operation,
+) -> Result<Done, UpdateFault> {
+    match operation {
+        Operation::Start(arg) => handle.start_child(rt, moment, arg),
+        Operation::Exit(number, reason) => handle.exit(rt, moment, number, reason),
+        Operation::Retry(number) => handle.retry(rt, moment, number),
+        Operation::Terminate(number) => handle.terminate_child(rt, moment, number),
+        Operation::Stop => handle.stop(rt, moment),
+    }
+}
+
+/// A child is started, and this is its number.
+fn start<N: Name, R: Wait + Abort>(rt: &R, handle: &mut Handle<'_, N, Always, &R>, number: u64) {
+    let done = handle.start_child(rt, 0, text(rt, "a"));
+    replied(rt, done, Reply::Started(number));
+}
+
+/// A child is started and ends by itself, the one in its place is ended, and another is started. There is room for one
+/// operation more.
 fn four(rt: &impl Abort, alloc: Global) -> Result<VecDeque<Operation>, AllocError> {
-    let mut operations = VecDeque::with_capacity(alloc, 4)?;
+    let mut operations = VecDeque::with_capacity(alloc, 5)?;
     for operation in [
         Operation::Start(text(rt, "a")),
         Operation::Exit(1, Reason::Normal),
@@ -65,15 +89,17 @@ fn four(rt: &impl Abort, alloc: Global) -> Result<VecDeque<Operation>, AllocErro
 }
 
 /// A handle. Where it is refused nothing has changed, and the next one is made.
-fn made<'d, 'r, N: Name, R: Wait + Abort>(
+fn made<'d, 'r, N: Name, S: Starter + Drop, R: Wait + Abort>(
     rt: &'r R,
-    desk: &'d Desk<N, Always, &'r R>,
-) -> Result<Handle<'d, N, Always, &'r R>, HandleFault> {
-    match desk.handle(rt) {
-        Ok(handle) => Ok(handle),
-        Err(fault) => {
-            assert_eq!(rt; fault, HandleFault::NoPlace);
-            desk.handle(rt)
-        }
+    desk: &'d Desk<N, S, &'r R>,
+) -> Handle<'d, N, S, &'r R> {
+    let mut made = desk.handle(rt);
+    if let Err(fault) = made {
+        assert_eq!(rt; fault, HandleFault::NoPlace);
+        made = desk.handle(rt);
+    }
+    match made {
+        Ok(handle) => handle,
+        Err(_) => panic!(rt; "a handle"),
     }
 }

@@ -1,10 +1,10 @@
 //! Many operations by one publication.
 ghost use Rattle.std.specs.Prelude.{◌≡◌};
 
-use super::{Always, four, template};
-use crate::{Desk, Ground, Name, UpdateFault};
+use super::{Always, four, made, template};
+use crate::{Desk, Dones, Ground, Name, Part, UpdateFault};
 use linked_list_allocator::LocalHeap;
-use std::alloc::Global;
+use std::alloc::{Allocator, Global};
 use std::collections::VecDeque;
 use std::marker::Brand;
 use std::process::Abort;
@@ -19,11 +19,43 @@ const REPLIES: [Reply; 4] = [
     Reply::Started(3),
 ];
 
+/// All were entered, with these replies, up to this stamp.
+fn are_entered<A: Allocator>(
+    rt: &impl Abort,
+    applied: Result<Dones<A>, Part<A>>,
+    replies: &[Reply],
+    stamp: u64,
+) {
+    let Ok(done) = applied else {
+        panic!(rt; "all are entered");
+    };
+    assert_eq!(rt; done.replies.as_slice(), replies);
+    assert_eq!(rt; done.ticket.stamp(), stamp);
+}
+
+/// The first were entered, with these replies, up to this stamp, where there are any.
+fn are_parted<A: Allocator>(
+    rt: &impl Abort,
+    applied: Result<Dones<A>, Part<A>>,
+    replies: &[Reply],
+    stamp: Option<u64>,
+    fault: UpdateFault,
+) {
+    let Err(part) = applied else {
+        panic!(rt; "not all are entered");
+    };
+    assert_eq!(rt; part.replies.as_slice(), replies);
+    assert_eq!(rt; part.ticket.map(|ticket| ticket.stamp()), stamp);
+    assert_eq!(rt; part.fault, fault);
+}
+
 #[test]
 fn a_batch_ends_where_the_history_is_full(rt: HostRuntime) -> Result<(), Fail> {
     let template = template(&rt, Restart::Permanent, 10, 3);
     let ground = Ground::new(rt.alloc(), &rt, template, 1)?;
-    apply_three::<Brand, HostRuntime>(&rt, rt.alloc(), ground, four(&rt, rt.alloc())?)
+    let operations = four(&rt, rt.alloc())?;
+    apply_three::<Brand, HostRuntime>(&rt, rt.alloc(), ground, operations);
+    Ok(())
 }
 
 fn apply_three<N: Name, R: Wait + Abort>(
@@ -31,32 +63,40 @@ fn apply_three<N: Name, R: Wait + Abort>(
     alloc: Global,
     ground: Ground<&R>,
     operations: VecDeque<Operation>,
-) -> Result<(), Fail>
+)
     requires { (ground.press ≡ N.press) × (ground.template ≡ N.template) }
 {
     let desk: Desk<N, Always, &R> = Desk::new(ground, Always);
-    let mut handle = desk.handle(rt).ok().ok_or("a handle")?;
+    let mut handle = made(rt, &desk);
     let mut operations = operations;
-    let Err(part) = handle.apply_all(rt, alloc, 0, &mut operations) else {
-        panic!(rt; "the history is full");
-    };
-    assert_eq!(rt; part.replies.as_slice(), &REPLIES[..3]);
-    assert_eq!(rt; part.fault, UpdateFault::HistoryFull);
-    assert_eq!(rt; part.ticket.map(|ticket| ticket.stamp()), Some(3));
+    let applied = handle.apply_all(rt, alloc, 0, &mut operations);
+    are_parted(
+        rt,
+        applied,
+        &REPLIES[..3],
+        Some(3),
+        UpdateFault::HistoryFull,
+    );
+    is_last_start(rt, &mut operations);
+}
+
+/// The last start of the four is left.
+fn is_last_start(rt: &impl Abort, operations: &mut VecDeque<Operation>) {
     let Some(Operation::Start(arg)) = operations.pop_front() else {
-        panic!(rt; "the last start is left");
+        panic!(rt; "a start is left");
     };
     assert_eq!(rt; arg.bytes(), b"b".as_slice());
     assert!(rt; operations.is_empty());
-    Ok(())
 }
 
 #[test]
 fn a_batch_is_entered_whole_or_not_at_all_without_room(rt: HostRuntime) -> Result<(), Fail> {
     let template = template(&rt, Restart::Permanent, 10, 10);
     let ground = Ground::new(rt.alloc(), &rt, template, 1)?;
+    let operations = four(&rt, rt.alloc())?;
     let small = LocalHeap::new(rt.alloc(), 64)?;
-    apply_four::<Brand, HostRuntime>(&rt, rt.alloc(), ground, &small, four(&rt, rt.alloc())?)
+    apply_four::<Brand, HostRuntime>(&rt, rt.alloc(), ground, &small, operations);
+    Ok(())
 }
 
 fn apply_four<N: Name, R: Wait + Abort>(
@@ -65,27 +105,18 @@ fn apply_four<N: Name, R: Wait + Abort>(
     ground: Ground<&R>,
     small: &LocalHeap,
     operations: VecDeque<Operation>,
-) -> Result<(), Fail>
+)
     requires { (ground.press ≡ N.press) × (ground.template ≡ N.template) }
 {
     let desk: Desk<N, Always, &R> = Desk::new(ground, Always);
-    let mut handle = desk.handle(rt).ok().ok_or("a handle")?;
+    let mut handle = made(rt, &desk);
     let mut operations = operations;
-    let Err(part) = handle.apply_all(rt, small, 0, &mut operations) else {
-        panic!(rt; "there is no room for the replies");
-    };
-    assert!(rt; part.replies.is_empty() && part.ticket.is_none());
-    assert_eq!(rt; part.fault, UpdateFault::OutOfMemory);
+    let refused = handle.apply_all(rt, small, 0, &mut operations);
+    are_parted(rt, refused, &[], None, UpdateFault::OutOfMemory);
     assert_eq!(rt; (operations.len(), handle.front()), (4, 0));
-    let Ok(done) = handle.apply_all(rt, alloc, 0, &mut operations) else {
-        panic!(rt; "all are entered");
-    };
-    assert_eq!(rt; done.replies.as_slice(), REPLIES.as_slice());
-    assert_eq!(rt; (done.ticket.stamp(), operations.len()), (4, 0));
-    let Ok(none) = handle.apply_all(rt, alloc, 0, &mut operations) else {
-        panic!(rt; "nothing is entered");
-    };
-    assert_eq!(rt; (none.replies.len(), none.ticket.stamp()), (0, 4));
-    assert_eq!(rt; handle.front(), 4);
-    Ok(())
+    let entered = handle.apply_all(rt, alloc, 0, &mut operations);
+    are_entered(rt, entered, REPLIES.as_slice(), 4);
+    let none = handle.apply_all(rt, alloc, 0, &mut operations);
+    are_entered(rt, none, &[], 4);
+    assert_eq!(rt; (operations.len(), handle.front()), (0, 4));
 }

@@ -2,8 +2,8 @@
 //! refused, and looks at what a refusal leaves.
 ghost use Rattle.std.specs.Prelude.{◌≡◌};
 
-use super::{Always, four, made, replied, template, text};
-use crate::{Desk, DeskFault, Done, Ground, Handle, Name, QueryFault, UpdateFault};
+use super::{Always, call, four, made, replied, template, text};
+use crate::{Desk, DeskFault, Done, Dones, Ground, Handle, Name, Part, QueryFault, UpdateFault};
 use std::alloc::Global;
 use std::collections::VecDeque;
 use std::marker::Brand;
@@ -12,24 +12,25 @@ use std::sync::Wait;
 use std::test::*;
 use sup_types::{Counts, Operation, Reason, Reply, Restart, Seen};
 
-/// How many children are listed after each update of the row.
+/// How many children are listed after each update of the row of five.
 const LISTED: [Option<usize>; 5] = [Some(1), Some(1), Some(1), Some(0), None];
 
-/// The update of this place in a row of five, and its reply.
-fn update<N: Name, R: Wait + Abort>(
-    rt: &R,
-    handle: &mut Handle<'_, N, Always, &R>,
-    place: u64,
-) -> (Result<Done, UpdateFault>, Reply) {
+const REPLIES: [Reply; 5] = [
+    Reply::Started(1),
+    Reply::Restarted(1, 2),
+    Reply::NotFound,
+    Reply::Ended,
+    Reply::Stopped,
+];
+
+/// The update of this place in a row of five.
+fn operation(rt: &impl Abort, place: usize) -> Operation {
     match place {
-        0 => (handle.start_child(rt, 0, text(rt, "a")), Reply::Started(1)),
-        1 => (
-            handle.exit(rt, 1, 1, Reason::Normal),
-            Reply::Restarted(1, 2),
-        ),
-        2 => (handle.retry(rt, 1, 2), Reply::NotFound),
-        3 => (handle.terminate_child(rt, 2, 2), Reply::Ended),
-        _ => (handle.stop(rt, 3), Reply::Stopped),
+        0 => Operation::Start(text(rt, "a")),
+        1 => Operation::Exit(1, Reason::Normal),
+        2 => Operation::Retry(2),
+        3 => Operation::Terminate(2),
+        _ => Operation::Stop,
     }
 }
 
@@ -39,19 +40,19 @@ fn seen<N: Name, R: Wait>(handle: &mut Handle<'_, N, Always, &R>) -> (Option<See
 }
 
 /// An update that is refused leaves what is answered and seen, and is made a second time.
-fn update_twice<N: Name, R: Wait + Abort>(
+fn update<N: Name, R: Wait + Abort>(
     rt: &R,
     handle: &mut Handle<'_, N, Always, &R>,
-    place: u64,
-) -> (Result<Done, UpdateFault>, Reply) {
+    place: usize,
+) -> Result<Done, UpdateFault> {
     let before = seen(handle);
-    let (done, reply) = update(rt, handle, place);
+    let done = call(rt, handle, 0, operation(rt, place));
     if done.is_ok() {
-        return (done, reply);
+        return done;
     }
     assert_eq!(rt; done.err(), Some(UpdateFault::OutOfMemory));
     assert_eq!(rt; seen(handle), before);
-    update(rt, handle, place)
+    call(rt, handle, 0, operation(rt, place))
 }
 
 /// How many children are listed, where it is up. A list that is refused leaves what is seen, and is made a second time.
@@ -76,13 +77,11 @@ fn bear_updates<N: Name, R: Wait + Abort>(rt: &R, ground: Ground<&R>)
     requires { (ground.press ≡ N.press) × (ground.template ≡ N.template) }
 {
     let desk: Desk<N, Always, &R> = Desk::new(ground, Always);
-    let Ok(mut handle) = made(rt, &desk) else {
-        panic!(rt; "a handle");
-    };
-    for place in 0..5u64 {
-        let (done, reply) = update_twice(rt, &mut handle, place);
-        replied(rt, done, reply);
-        assert_eq!(rt; listed(rt, &mut handle), LISTED[place as usize]);
+    let mut handle = made(rt, &desk);
+    for place in 0..5 {
+        let done = update(rt, &mut handle, place);
+        replied(rt, done, REPLIES[place]);
+        assert_eq!(rt; listed(rt, &mut handle), LISTED[place]);
     }
     assert_eq!(rt; (handle.number(), handle.front()), (1, 5));
 }
@@ -97,6 +96,18 @@ fn a_refused_update_is_entered_the_next_time(rt: HostRuntime) -> Result<(), Fail
     Ok(())
 }
 
+/// How many were entered. Where some were not, it was for want of memory.
+fn entered(rt: &impl Abort, applied: Result<Dones, Part>) -> usize {
+    match applied {
+        Ok(done) => done.replies.len(),
+        Err(part) => {
+            assert_eq!(rt; part.fault, UpdateFault::OutOfMemory);
+            part.replies.len()
+        }
+    }
+}
+
+/// Four operations and a stop. The list of what is not yet published grows at the first and at the fifth.
 fn bear_batch<N: Name, R: Wait + Abort>(
     rt: &R,
     alloc: Global,
@@ -106,34 +117,27 @@ fn bear_batch<N: Name, R: Wait + Abort>(
     requires { (ground.press ≡ N.press) × (ground.template ≡ N.template) }
 {
     let desk: Desk<N, Always, &R> = Desk::new(ground, Always);
-    let Ok(mut handle) = made(rt, &desk) else {
-        panic!(rt; "a handle");
-    };
+    let mut handle = made(rt, &desk);
     let mut operations = operations;
-    let (entered, fault) = match handle.apply_all(rt, alloc, 0, &mut operations) {
-        Ok(done) => (done.replies.len(), None),
-        Err(part) => (part.replies.len(), Some(part.fault)),
-    };
+    let first = entered(rt, handle.apply_all(rt, alloc, 0, &mut operations));
     let left = operations.len();
-    if left > 0 {
-        assert_eq!(rt; fault, Some(UpdateFault::OutOfMemory));
-    }
     assert_eq!(rt;
         (handle.front(), Some(left)),
-        (entered as u64, 4usize.checked_sub(entered))
+        (first as u64, 5usize.checked_sub(first))
     );
-    let Ok(rest) = handle.apply_all(rt, alloc, 0, &mut operations) else {
-        panic!(rt; "the others are entered");
-    };
-    assert_eq!(rt; (rest.replies.len(), handle.front()), (left, 4));
+    let others = entered(rt, handle.apply_all(rt, alloc, 0, &mut operations));
+    assert_eq!(rt; (others, handle.front()), (left, 5));
 }
 
 #[test]
 fn a_batch_leaves_in_its_queue_what_is_refused(rt: HostRuntime) -> Result<(), Fail> {
     let template = template(&rt, Restart::Permanent, 10, 10);
-    let Ok(operations) = four(&rt, rt.alloc()) else {
+    let Ok(mut operations) = four(&rt, rt.alloc()) else {
         return Ok(());
     };
+    if operations.push_back(Operation::Stop).is_err() {
+        return Ok(());
+    }
     match Ground::new(rt.alloc(), &rt, template, 1) {
         Ok(ground) => bear_batch::<Brand, HostRuntime>(&rt, rt.alloc(), ground, operations),
         Err(fault) => assert_eq!(rt; fault, DeskFault::OutOfMemory),

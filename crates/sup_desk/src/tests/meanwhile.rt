@@ -1,7 +1,7 @@
 //! A query while an update is under way, and what tickets carry.
 ghost use Rattle.std.specs.Prelude.{◌≡◌, IfOk};
 
-use super::{template, text};
+use super::{made, template, text};
 use crate::{Desk, Done, Ground, Handle, Name, UpdateFault};
 use std::marker::Brand;
 use std::process::Abort;
@@ -9,7 +9,7 @@ use std::sync::Wait;
 use std::sync::atomic::{AtomicBool, Ordering};
 use std::test::*;
 use std::thread::{Threads, join, yield_now};
-use sup_log::Gone;
+use sup_log::{Gone, Ticket};
 use sup_types::{Answer, Counts, Reply, Restart, Seen, Starter, Text};
 
 /// How often a mark is looked for at most.
@@ -91,19 +91,20 @@ fn a_query_is_answered_while_an_update_has_the_lock(rt: HostRuntime) -> Result<(
         asked: AtomicBool::new(false),
         was_asked: AtomicBool::new(false),
     };
-    ask_meanwhile::<Brand, HostRuntime>(&rt, ground, &marks)
+    ask_meanwhile::<Brand, HostRuntime>(&rt, ground, &marks);
+    Ok(())
 }
 
 fn ask_meanwhile<N: Name + Send + Sync, R: Threads + Wait + Abort + Sync>(
     rt: &R,
     ground: Ground<&R>,
     marks: &Marks,
-) -> Result<(), Fail>
+)
     requires { (ground.press ≡ N.press) × (ground.template ≡ N.template) }
 {
     let desk: Desk<N, Waiting, &R> = Desk::new(ground, Waiting { marks });
-    let mut first = desk.handle(rt).ok().ok_or("a handle")?;
-    let mut second = desk.handle(rt).ok().ok_or("a handle")?;
+    let mut first = made(rt, &desk);
+    let mut second = made(rt, &desk);
     let arg = text(rt, "a");
     let (done, counts) = start_and_count(rt, &mut first, &mut second, &arg, marks);
     assert!(rt; marks.was_asked.load(Ordering::SeqCst));
@@ -112,16 +113,25 @@ fn ask_meanwhile<N: Name + Send + Sync, R: Threads + Wait + Abort + Sync>(
         panic!(rt; "the start is entered");
     };
     assert_eq!(rt; done.reply, Reply::Started(1));
-    assert!(rt; second.learn(&done.ticket).is_ok());
+    learn_both(rt, &mut first, &mut second, &done.ticket);
+}
+
+/// One handle learns of a start and of the termination by the other.
+fn learn_both<'m, N: Name, R: Wait + Abort>(
+    rt: &R,
+    first: &mut Handle<'_, N, Waiting<'m>, &R>,
+    second: &mut Handle<'_, N, Waiting<'m>, &R>,
+    started: &Ticket,
+)
+    requires { started.now.press ≡ N.press }
+{
+    assert!(rt; second.learn(started).is_ok());
     assert!(rt; matches!(second.child(1), Ok(Seen::Up(Some(row))) if row.is_running()));
     let Ok(ended) = first.terminate_child(rt, 1, 1) else {
         panic!(rt; "the termination is entered");
     };
     assert!(rt; second.learn(&ended.ticket).is_ok());
     assert!(rt; matches!(second.child(1), Ok(Seen::Up(None))));
-    assert_eq!(rt;
-        second.ticket(rt).ok().map(|ticket| ticket.stamp()),
-        Some(2)
-    );
-    Ok(())
+    let ticket = second.ticket(rt);
+    assert_eq!(rt; ticket.ok().map(|ticket| ticket.stamp()), Some(2));
 }

@@ -60,43 +60,43 @@ fn start_both<N: Name + Send + Sync, R: Threads + Wait + Sync>(
 fn crowd<'d, 'r, N: Name + Send + Sync, R: Threads + Wait + Abort + Sync>(
     rt: &'r R,
     desk: &'d Desk<N, Always, &'r R>,
-) -> Result<(), Fail> {
+) {
     let arg = text(rt, "a");
-    let mut first = made(rt, desk)?;
-    let mut second = made(rt, desk)?;
+    let mut first = made(rt, desk);
+    let mut second = made(rt, desk);
     let started = start_both(rt, &mut first, &mut second, &arg, 100);
     assert_eq!(rt; started, (100, 100));
     let mut handles = [first, second];
     let alone = audited(rt, desk, &mut handles[..1]);
     assert_eq!(rt; alone, Some(Err(TicketFault::Split)));
     assert_eq!(rt; audited(rt, desk, &mut handles), Some(Ok(200)));
-    let Ok(Seen::Up(rows)) = handles[1].which_children() else {
-        panic!(rt; "it is up");
-    };
-    assert!(rt;
-        rows.iter()
-            .zip(1..201)
-            .all(|(row, number)| row.number == number)
-    );
-    assert_eq!(rt; rows.len(), 200);
-    Ok(())
+    lists_all(rt, &mut handles[1]);
 }
 
-fn crowd_on<N: Name + Send + Sync, R: Threads + Wait + Abort + Sync>(
-    rt: &R,
-    ground: Ground<&R>,
-) -> Result<(), Fail>
+/// The children 1 to 200 are listed, in this order.
+fn lists_all<N: Name, R: Wait + Abort>(rt: &R, handle: &mut Handle<'_, N, Always, &R>) {
+    let Ok(Seen::Up(rows)) = handle.which_children() else {
+        panic!(rt; "it is up");
+    };
+    assert_eq!(rt; rows.len(), 200);
+    for (row, number) in rows.iter().zip(1..201) {
+        assert_eq!(rt; row.number, number);
+    }
+}
+
+fn crowd_on<N: Name + Send + Sync, R: Threads + Wait + Abort + Sync>(rt: &R, ground: Ground<&R>)
     requires { (ground.press ≡ N.press) × (ground.template ≡ N.template) }
 {
     let desk: Desk<N, Always, &R> = Desk::new(ground, Always);
-    crowd(rt, &desk)
+    crowd(rt, &desk);
 }
 
 #[test]
 fn two_handles_start_children_at_once(rt: HostRuntime) -> Result<(), Fail> {
     let template = template(&rt, Restart::Permanent, 200, 1 << 62);
     let ground = Ground::new(rt.alloc(), &rt, template, 2)?;
-    crowd_on::<Brand, HostRuntime>(&rt, ground)
+    crowd_on::<Brand, HostRuntime>(&rt, ground);
+    Ok(())
 }
 
 /// A ticket of the desk that N names.
@@ -154,12 +154,13 @@ fn swap<N: Name, R: Wait>(
 fn exchange_all<'d, 'r, N: Name + Send + Sync, R: Threads + Wait + Abort + Sync>(
     rt: &'r R,
     desk: &'d Desk<N, Always, &'r R>,
-) -> Result<(), Fail> {
-    let first = made(rt, desk)?;
-    let second = made(rt, desk)?;
-    let third = made(rt, desk)?;
-    let fourth = made(rt, desk)?;
-    let mut handles = [first, second, third, fourth];
+) {
+    let mut handles = [
+        made(rt, desk),
+        made(rt, desk),
+        made(rt, desk),
+        made(rt, desk),
+    ];
     let passed = Mutex::new(None);
     for_each_mut(
         rt,
@@ -169,22 +170,19 @@ fn exchange_all<'d, 'r, N: Name + Send + Sync, R: Threads + Wait + Abort + Sync>
     );
     assert_eq!(rt; audited(rt, desk, &mut handles), Some(Ok(40_000)));
     assert!(rt; matches!(handles[3].count_children(), Ok(Seen::Up(counts)) if counts.workers == 0));
-    Ok(())
 }
 
-fn exchange_on<N: Name + Send + Sync, R: Threads + Wait + Abort + Sync>(
-    rt: &R,
-    ground: Ground<&R>,
-) -> Result<(), Fail>
+fn exchange_on<N: Name + Send + Sync, R: Threads + Wait + Abort + Sync>(rt: &R, ground: Ground<&R>)
     requires { (ground.press ≡ N.press) × (ground.template ≡ N.template) }
 {
     let desk: Desk<N, Always, &R> = Desk::new(ground, Always);
-    exchange_all(rt, &desk)
+    exchange_all(rt, &desk);
 }
 
 #[test]
 fn four_handles_exchange_tickets(rt: HostRuntime) -> Result<(), Fail> {
     let template = template(&rt, Restart::Permanent, 4, 1 << 62);
     let ground = Ground::new(rt.alloc(), &rt, template, 4)?;
-    exchange_on::<Brand, HostRuntime>(&rt, ground)
+    exchange_on::<Brand, HostRuntime>(&rt, ground);
+    Ok(())
 }
