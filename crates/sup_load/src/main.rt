@@ -1,9 +1,12 @@
-//! `supload`: a supervisor at the command line. It answers a script or replays a history on standard input.
+//! `supload`: a supervisor at the command line. It answers a script or replays a history on standard input, or runs a
+//! crew beside readers.
 //!
 //! The whole program is [`program::run_words`], over any reader and writers; `main` only collects the words and the
 //! three streams.
 #![tactic(auto)]
 
+mod fault;
+mod load;
 mod program;
 #[cfg(test)]
 mod tests;
@@ -16,12 +19,19 @@ use std::{env, io};
 
 fn main(rt: HostRuntime) -> ExitCode {
     let Ok(words) = words_given(&rt) else {
-        return ExitCode::from(Status::OutOfMemory.number());
+        return ExitCode::from(Status::OtherFault.number());
     };
     let mut input = rt.stdin();
     let mut out = rt.stdout();
     let mut err = rt.stderr();
-    let status = run_words(rt.alloc(), words.as_slice(), &mut input, &mut out, &mut err);
+    let status = run_words(
+        &rt,
+        rt.alloc(),
+        words.as_slice(),
+        &mut input,
+        &mut out,
+        &mut err,
+    );
     ExitCode::from(status)
 }
 

@@ -5,13 +5,17 @@ ghost use Rattle.sup_script.specs.Runs.{IsRun};
 ghost use Rattle.sup_script.specs.Replays.{IsReplay};
 ghost use Rattle.sup_script.specs.Starter.{script_answer};
 ghost use Rattle.sup_script.specs.declared.fault.ScriptFault.{ScriptFault};
-ghost use Rattle.sup_load.specs.Statuses.{status_of};
+ghost use Rattle.sup_load.specs.Statuses.{status_of, status_of_load};
 
+use crate::fault::LoadFault;
+use crate::load::{Load, run_load};
 use crate::words::{Order, read_words};
 use clap::error::{Error, ErrorKind};
 use std::alloc::Global;
 use std::convert::AsStr;
 use std::io::{Read, Write};
+use std::sync::Wait;
+use std::thread::Threads;
 use sup_script::{Fault, ScriptFault, ScriptStarter, replay, run};
 
 /// How the program ended.
@@ -23,12 +27,12 @@ pub enum Status {
     BadInput,
     /// Reading or writing failed.
     Failed,
-    /// Memory was refused.
-    OutOfMemory,
+    /// Any other fault, as want of memory.
+    OtherFault,
 }
 
 impl Status {
-    ghost use Rattle.sup_load.specs.Statuses.{status_number, status_of_fault};
+    ghost use Rattle.sup_load.specs.Statuses.{status_number, status_of_fault, status_of_load_fault};
 
     /// The exit status of the process: 0, 2, 3 or 4, in the order of the variants.
     pub fn number(self) -> u8
@@ -38,7 +42,7 @@ impl Status {
             Status::Done => 0,
             Status::BadInput => 2,
             Status::Failed => 3,
-            Status::OutOfMemory => 4,
+            Status::OtherFault => 4,
         }
     }
 
@@ -49,7 +53,18 @@ impl Status {
         match fault {
             Fault::BadTemplate | Fault::BadLine | Fault::TooLong => Status::BadInput,
             Fault::ReadFault | Fault::WriteFault => Status::Failed,
-            Fault::OutOfMemory => Status::OutOfMemory,
+            Fault::OutOfMemory => Status::OtherFault,
+        }
+    }
+
+    /// The status of a load that stopped with this fault.
+    fn of_load(fault: LoadFault) -> Status
+        ensures { result ≡ status_of_load_fault fault }
+    {
+        match fault {
+            LoadFault::BadTemplate => Status::BadInput,
+            LoadFault::WriteFault => Status::Failed,
+            _ => Status::OtherFault,
         }
     }
 }
@@ -57,7 +72,10 @@ impl Status {
 /// Does what the words ask for, of which the first is the program's name, and answers the exit status. The replies, or
 /// a help text, go to `out`; the line of a fault, and words that are refused, go to `err`. A failed write to `err`
 /// changes nothing.
-pub fn run_words<S: AsStr, R: Read, W: Write, E: Write>(
+///
+/// It waits, for a load's threads and locks alone.
+pub fn run_words<T: Threads + Wait + Sync, S: AsStr, R: Read, W: Write, E: Write>(
+    rt: &T,
     alloc: Global,
     words: &[S],
     reader: &mut R,
@@ -67,6 +85,7 @@ pub fn run_words<S: AsStr, R: Read, W: Write, E: Write>(
     let status = match read_words(alloc, words) {
         Ok(Order::Script) => answer_script(alloc, reader, out, err),
         Ok(Order::Replay) => answer_history(alloc, reader, out, err),
+        Ok(Order::Load(load)) => answer_load(rt, alloc, load, out, err),
         Err(error) => show(&error, out, err),
     };
     status.number()
@@ -113,6 +132,30 @@ fn told<E: Write>(outcome: Result<(), ScriptFault>, err: &mut E) -> Status
     }
 }
 
+/// Runs a load. The fault that stopped it, if there is one, is a line on standard error.
+fn answer_load<T: Threads + Wait + Sync, W: Write, E: Write>(
+    rt: &T,
+    alloc: Global,
+    load: Load,
+    out: &mut W,
+    err: &mut E,
+) -> Status {
+    told_load(run_load(rt, alloc, load, out), err)
+}
+
+/// Tells the fault of a load, if there is one, by a line on standard error.
+fn told_load<E: Write>(outcome: Result<(), LoadFault>, err: &mut E) -> Status
+    ensures { result ≡ status_of_load outcome }
+{
+    match outcome {
+        Ok(()) => Status::Done,
+        Err(fault) => {
+            let _ = writeln!(err, "{fault}");
+            Status::of_load(fault)
+        }
+    }
+}
+
 /// Writes the text of words that are no order: a help text, or why they are refused.
 fn show<W: Write, E: Write>(error: &Error, out: &mut W, err: &mut E) -> Status {
     if !error.use_stderr() {
@@ -123,7 +166,7 @@ fn show<W: Write, E: Write>(error: &Error, out: &mut W, err: &mut E) -> Status {
     }
     let _ = write!(err, "{error}");
     if error.kind() == ErrorKind::OutOfMemory {
-        Status::OutOfMemory
+        Status::OtherFault
     } else {
         Status::BadInput
     }

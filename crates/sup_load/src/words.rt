@@ -1,7 +1,9 @@
 //! The words of the command line.
 
-use clap::Command;
+use crate::load::Load;
+use clap::builder::ValueParser;
 use clap::error::{Error, ErrorKind};
+use clap::{Arg, ArgAction, ArgMatches, Command};
 use std::alloc::{AllocError, Global};
 use std::convert::AsStr;
 
@@ -12,6 +14,8 @@ pub enum Order {
     Script,
     /// To replay a history text.
     Replay,
+    /// To run a crew beside readers.
+    Load(Load),
 }
 
 const ABOUT: &str =
@@ -58,12 +62,24 @@ Each further line is an entry: HANDLE SERIAL MOMENT OPERATION ANSWER. The operat
 Example:
   printf 'history 1 permanent worker 1 5 10\\n1 0 0 start a running\\n' | supload replay";
 
+const LOAD: &str = "Runs a crew beside readers, and writes what it came to";
+
+const LOAD_HELP: &str =
+    "Starts N children, whose bodies end at once in W threads, while R threads ask T times each how many there are.
+
+Writes two lines: `made A exits B strays C restarts D gave_up E left F held G`, the numbers of children that were
+made, of exits that were entered, of those answered stray, restarted and gave_up, of children that were left without a
+run and of exits that were held back; and `reads Q`, the number of questions that were answered.
+
+Example:
+  supload load --workers 4 --children 100 --readers 2 --turns 50";
+
 const STATUSES: &str = "Exit status:
   0  all was answered
   2  the words or a line are wrong, or the input is too long
   3  reading or writing failed
   4  any other fault, as want of memory
-A fault in the input is one line on standard error: `fault N line L`.";
+A fault in the input is one line on standard error: `fault N line L`; a fault of a load is `fault N`.";
 
 /// Reads the words of the command line, of which the first is the program's name. A help text and words that are
 /// refused are an error of `clap`, which says where it is to be written.
@@ -73,11 +89,80 @@ pub fn read_words<S: AsStr>(alloc: Global, words: &[S]) -> Result<Order, Error> 
     match matches.subcommand() {
         Some(("script", _)) => Ok(Order::Script),
         Some(("replay", _)) => Ok(Order::Replay),
-        _ => {
-            let mut command = Command::new(alloc, "supload");
-            Err(command.error(ErrorKind::InvalidSubcommand, "there is no such command")?)
-        }
+        Some(("load", words)) => match read_load(words) {
+            Some(load) => Ok(Order::Load(load)),
+            None => refused(alloc, ErrorKind::ValueValidation, "a number is missing"),
+        },
+        _ => refused(
+            alloc,
+            ErrorKind::InvalidSubcommand,
+            "there is no such command",
+        ),
     }
+}
+
+fn refused(alloc: Global, kind: ErrorKind, text: &str) -> Result<Order, Error> {
+    let mut command = Command::new(alloc, "supload");
+    Err(command.error(kind, text)?)
+}
+
+/// The numbers of a load. `clap` has read them within their ranges.
+fn read_load(words: &ArgMatches) -> Option<Load> {
+    let workers = words.get_one("workers")?;
+    let children = words.get_one("children")?;
+    let readers = words.get_one("readers")?;
+    let turns = words.get_one("turns")?;
+    Load::new(workers, children, readers, turns)
+}
+
+/// An argument that takes a number of this range.
+fn number<'a>(
+    alloc: Global,
+    name: &'a str,
+    value: &'a str,
+    help: &'a str,
+    range: (u64, u64),
+) -> Arg<'a> {
+    Arg::new(alloc, name)
+        .long(name)
+        .value_name(value)
+        .help(help)
+        .required(true)
+        .action(ArgAction::Set)
+        .value_parser(ValueParser::unsigned(range.0, range.1))
+}
+
+fn load_command<'a>(alloc: Global) -> Result<Command<'a>, AllocError> {
+    let workers = number(
+        alloc,
+        "workers",
+        "W",
+        "Threads that run bodies: 1 to 64",
+        (1, 64),
+    );
+    let children = number(
+        alloc,
+        "children",
+        "N",
+        "Children to start: 1 to 65536",
+        (1, 65_536),
+    );
+    let readers = number(alloc, "readers", "R", "Threads that ask: 0 to 64", (0, 64));
+    let turns = number(
+        alloc,
+        "turns",
+        "T",
+        "Questions of each: 1 to 1000000",
+        (1, 1_000_000),
+    );
+    Command::new(alloc, "load")
+        .about(LOAD)
+        .long_about(LOAD_HELP)
+        .after_help(STATUSES)
+        .arg(workers)?
+        .arg(children)?
+        .arg(readers)?
+        .arg(turns)
 }
 
 fn command<'a>(alloc: Global) -> Result<Command<'a>, AllocError> {
@@ -95,5 +180,6 @@ fn command<'a>(alloc: Global) -> Result<Command<'a>, AllocError> {
         .after_help(STATUSES)
         .subcommand_required(true)
         .subcommand(script)?
-        .subcommand(replay)
+        .subcommand(replay)?
+        .subcommand(load_command(alloc)?)
 }

@@ -1,4 +1,5 @@
 //! Input that is refused, and readers and writers that fail.
+use super::loads::load_words;
 use super::*;
 use std::io;
 use std::io::{ErrorKind, Read, Write};
@@ -126,7 +127,7 @@ fn a_failed_read_is_told(rt: HostRuntime) {
     let mut out = Vec::new(rt.alloc());
     let mut err = Vec::new(rt.alloc());
     let words = ["supload", "script"];
-    let status = run_words(rt.alloc(), &words, &mut reader, &mut out, &mut err);
+    let status = run_words(&rt, rt.alloc(), &words, &mut reader, &mut out, &mut err);
     assert_eq!(rt; out.as_slice(), b"ok 1\n".as_slice());
     assert_eq!(rt; err.as_slice(), b"fault 10 line 3\n".as_slice());
     assert_eq!(rt; status, 3);
@@ -137,7 +138,7 @@ fn a_failed_write_is_told(rt: HostRuntime) {
     let mut reader = START.as_bytes();
     let mut err = Vec::new(rt.alloc());
     let words = ["supload", "script"];
-    let status = run_words(rt.alloc(), &words, &mut reader, &mut Closed, &mut err);
+    let status = run_words(&rt, rt.alloc(), &words, &mut reader, &mut Closed, &mut err);
     assert_eq!(rt; err.as_slice(), b"fault 11 line 2\n".as_slice());
     assert_eq!(rt; status, 3);
 }
@@ -147,7 +148,23 @@ fn a_failed_write_to_standard_error_changes_nothing(rt: HostRuntime) {
     let mut reader = b"x\n".as_slice();
     let mut out = Vec::new(rt.alloc());
     let words = ["supload", "script"];
-    let status = run_words(rt.alloc(), &words, &mut reader, &mut out, &mut Closed);
+    let status = run_words(&rt, rt.alloc(), &words, &mut reader, &mut out, &mut Closed);
     assert_eq!(rt; out.len(), 0);
     assert_eq!(rt; status, 2);
+}
+
+#[test]
+fn a_load_whose_lines_are_refused_is_told(rt: HostRuntime) {
+    let mut err = Vec::new(rt.alloc());
+    let words = load_words("1", "1", "0", "1");
+    let status = run_words(
+        &rt,
+        rt.alloc(),
+        &words,
+        &mut b"".as_slice(),
+        &mut Closed,
+        &mut err,
+    );
+    assert_eq!(rt; err.as_slice(), b"fault 11\n".as_slice());
+    assert_eq!(rt; status, 3);
 }

@@ -5,7 +5,13 @@ const HISTORY: &str =
     "history 1 permanent worker 1 5 10\n1 0 0 start a running\n2 0 3 exit 1 x ignore\n1 1 4 terminate 1 ignore\n";
 
 /// Compares what a history text leaves with the replies and the line on standard error that are wanted.
-fn replays<R: Abort + AllocGlobal>(rt: &R, status: u8, text: &str, replies: &str, fault: &str) {
+fn replays<R: Abort + Threads + Wait + Sync + AllocGlobal>(
+    rt: &R,
+    status: u8,
+    text: &str,
+    replies: &str,
+    fault: &str,
+) {
     let outcome = outcome_of(rt, &["supload", "replay"], text.as_bytes());
     assert_eq!(rt;
         outcome.out.as_slice(),

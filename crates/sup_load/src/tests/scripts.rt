@@ -4,7 +4,7 @@ use super::*;
 const STANDARD: &str = "sup permanent worker 1 5 10\n";
 
 /// Each script is answered whole.
-fn each_is_answered<R: Abort + AllocGlobal>(
+fn each_is_answered<R: Abort + Threads + Wait + Sync + AllocGlobal>(
     rt: &R,
     scripts: &[(&str, &str, &str)],
 ) -> Result<(), Fail> {

@@ -25,6 +25,17 @@ fn refused_words_are_told_on_standard_error(rt: HostRuntime) {
         &["supload", "script", "file"],
         &["supload", "replay", "file"],
         &["supload", "script", "--fast"],
+        &["supload", "load"],
+        &[
+            "supload",
+            "load",
+            "--workers",
+            "1",
+            "--children",
+            "1",
+            "--readers",
+            "1",
+        ],
     ] {
         let outcome = outcome_of(&rt, words, b"");
         assert_eq!(rt; outcome.status, 2);
@@ -41,6 +52,7 @@ fn help_goes_to_standard_output(rt: HostRuntime) {
         (&["supload", "script", "--help"], "gap:A:B"),
         (&["supload", "replay", "--help"], "history 2"),
         (&["supload", "help", "script"], "gap:A:B"),
+        (&["supload", "load", "--help"], "--readers <R>"),
     ] {
         let outcome = outcome_of(&rt, words, b"");
         assert_eq!(rt; outcome.status, 0);
