@@ -1,5 +1,5 @@
 -- The calls of a handle, as its front grows.
-use Rattle.std.proofs.Common.{◌≡◌, ◌≢◌, ℕ, zero, suc, Bool, true, false, cond, ◌==◌, eq-eqb, ne_eqb, ◌+◌, ◌≤◌, List, [], ◌∷◌, ◌++◌, length, length-append, map, fold, refl, ap, sym, ◌∙◌, subst, arith, append_assoc, append-nil}
+use Rattle.std.proofs.Common.{◌≡◌, ◌≢◌, ℕ, Bool, cond, ◌==◌, eq-eqb, ne_eqb, ◌+◌, List, [], ◌∷◌, ◌++◌, length, length-append, map, fold, refl, ap, sym, ◌∙◌, subst, arith, append_assoc, append-nil}
 use Rattle.std.specs.Prelude.{filter}
 use Rattle.std.proofs.lemmas.List.Elements.{filter-append}
 use native.Mathlib.Decide.{ℕ_discrete}
@@ -18,7 +18,7 @@ use Rattle.sup_desk.specs.Batches.{Batch, with_operation, batch_of, IsApplied}
 use Rattle.sup_desk.proofs.Batched.{batch_of-own}
 use Rattle.sup_desk.proofs.Entries.{entries-append, entries-one, entries-other, entries_prefix}
 use Rattle.sup_log.proofs.Prefixes.{prefix_length}
-use Rattle.sup_crew.specs.Calls.{Call, call_of, calls_of, answered}
+use Rattle.sup_crew.specs.Calls.{call_of, calls_of, answered}
 
 map-append : {X Y : Type 0} (f : X → Y) (xs ys : List X) → map f (xs ++ ys) ≡ map f xs ++ map f ys
 map-append f [] ys = refl

@@ -1,11 +1,10 @@
 -- One step more of a driver.
-use Rattle.std.proofs.Common.{◌≡◌, ℕ, suc, ◌+◌, List, [], ◌∷◌, ◌++◌, length, Option, Some, None, refl, ap, sym, ◌∙◌, subst, arith, append_assoc, append-nil}
+use Rattle.std.proofs.Common.{◌≡◌, ℕ, ◌+◌, List, [], ◌∷◌, ◌++◌, Option, Some, None, refl, ap, sym, ◌∙◌, subst, arith, append_assoc, append-nil}
 use mathlib.Core.List.{IsPrefix}
 use Rattle.logbook.specs.Pages.{Book}
 use Rattle.sup_types.specs.declared.text.Text.{Text}
 use Rattle.sup_types.specs.declared.template.Template.{Template}
 use Rattle.sup_types.specs.declared.history.Answer.{Answer}
-use Rattle.sup_types.specs.declared.history.Entry.{Entry}
 use Rattle.sup_types.specs.declared.history.Operation.{Operation}
 use Rattle.sup_types.specs.declared.history.Operation.TheVariants.{Start, Exit, Retry, Terminate, Stop}
 use Rattle.sup_types.specs.declared.history.Reply.{Reply}
@@ -19,7 +18,7 @@ use Rattle.sup_crew.specs.Jobs.{weigh}
 use Rattle.sup_crew.specs.declared.tally.Tally.{Tally}
 use Rattle.sup_crew.specs.Tallies.{tally_of, with_start, with_exits}
 use Rattle.sup_crew.proofs.Tallied.{tally-start, tally-exits}
-use Rattle.sup_crew.specs.Calls.{Call, calls_of, answered, exit_of, exits_in, exits, starts_in, start_of, job_made, notes_after, jobs_made, AreDriven, IsDriven}
+use Rattle.sup_crew.specs.Calls.{Call, calls_of, answered, exit_of, exits_in, exits, starts_in, start_of, job_made, notes_after, jobs_made, AreDriven}
 use Rattle.std.specs.Prelude.{IsSome, IfNone}
 use Rattle.std.specs.Option.{option_or}
 use Rattle.sup_crew.specs.Drains.{notes_of, replies_of, IsEntered}

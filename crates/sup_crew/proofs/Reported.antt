@@ -16,7 +16,7 @@ use Rattle.sup_crew.specs.declared.job.Child.{Child}
 use Rattle.sup_crew.specs.Calls.{Call, calls_of, child_made, children_made, exit_of, exits_in, exits, notes_after, jobs_made, AreDriven}
 use Rattle.sup_crew.specs.Jobs.{weigh}
 use Rattle.sup_crew.specs.Reports.{child_ended, children_ended, IsNamed, AreNamed, AreOwn}
-use Rattle.sup_crew.specs.Work.{ended, ended_of, AreEnds}
+use Rattle.sup_crew.specs.Work.{ended, AreEnds}
 use Rattle.sup_crew.proofs.Agree.{bad, bad-right, right-of, told-parts, agrees}
 use Rattle.sup_crew.proofs.Moves.{weigh-append}
 

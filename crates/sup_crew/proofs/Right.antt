@@ -1,5 +1,5 @@
 -- What a reply says of the numbers and arguments of children.
-use Rattle.std.proofs.Common.{◌≡◌, ℕ, zero, suc, ◌+◌, ◌-◌, ◌<◌, ◌≤◌, Bool, true, false, cond, List, [], ◌∷◌, ◌++◌, length, length-append, map, get_or, fold, refl, ap, sym, ◌∙◌, subst, arith}
+use Rattle.std.proofs.Common.{◌≡◌, ℕ, zero, suc, ◌+◌, ◌-◌, ◌<◌, ◌≤◌, Bool, true, false, cond, List, [], ◌∷◌, ◌++◌, length, map, get_or, fold, refl, ap, sym, ◌∙◌, arith}
 use Rattle.std.specs.Prelude.{◌==◌, filter, if◌then◌else◌}
 use Rattle.std.specs.List.{list_any}
 use Rattle.std.proofs.lemmas.Bool.{cond_both}
@@ -12,8 +12,8 @@ use Rattle.sup_types.specs.declared.history.Answer.{Answer}
 use Rattle.sup_types.specs.declared.history.Answer.TheVariants.{Running, Ignore, Failed}
 use Rattle.sup_types.specs.declared.history.Entry.{Entry}
 use Rattle.sup_types.specs.declared.history.Reply.{Reply}
-use Rattle.sup_types.specs.declared.history.Reply.TheVariants.{Started, Undefined, StartFailed, Full, Removed, ShutDown, Restarted, Restarting, Ignored, Stray, NotFound, Ended, Stopped, GaveUp, Down}
-use Rattle.sup_core.specs.Rows.{has_number, runs_as, waits_as, without}
+use Rattle.sup_types.specs.declared.history.Reply.TheVariants.{Started, Full, Removed, ShutDown, Restarted, Stray, GaveUp, Down}
+use Rattle.sup_core.specs.Rows.{runs_as, without}
 use Rattle.sup_core.specs.State.{State, arrived}
 use Rattle.sup_core.specs.Replies.{bears, is_full, started, restarted, attempted, shuts_down, let_go, reply_up, reply_to}
 use Rattle.sup_core.specs.Changes.{makes_child, start_argument}

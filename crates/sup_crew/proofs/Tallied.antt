@@ -1,5 +1,5 @@
 -- The tally of one call more.
-use Rattle.std.proofs.Common.{◌≡◌, ℕ, ◌+◌, Bool, true, false, cond, List, [], ◌∷◌, ◌++◌, refl, ap, sym, ◌∙◌, append_assoc, append-nil, arith}
+use Rattle.std.proofs.Common.{◌≡◌, ◌+◌, Bool, true, false, cond, List, [], ◌∷◌, ◌++◌, refl, ap, sym, ◌∙◌, append_assoc, append-nil, arith}
 use Rattle.std.specs.Prelude.{not, ◌&&◌, count_by}
 use Rattle.std.proofs.lemmas.List.Sums.{fold_push}
 use Rattle.sup_types.specs.declared.text.Text.{Text}

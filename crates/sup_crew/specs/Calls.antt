@@ -1,5 +1,5 @@
 -- The calls of one handle in a history, each with its reply, and the children that they made.
-use Rattle.std.specs.Prelude.{◌≡◌, ℕ, ◌==◌, List, [], ◌∷◌, ◌++◌, map, filter}
+use Rattle.std.specs.Prelude.{ℕ, ◌==◌, List, [], ◌∷◌, ◌++◌, map, filter}
 use Rattle.sup_types.specs.declared.text.Text.{Text}
 use Rattle.sup_types.specs.declared.template.Template.{Template}
 use Rattle.sup_types.specs.declared.history.Operation.{Operation}

@@ -1,12 +1,11 @@
-use Rattle.std.proofs.Common.{◌≡◌, ℕ, ◌+◌, List, ◌++◌, length, drop, sym, ap, ◌∙◌, subst, arith, take-append-drop}
-use Rattle.std.specs.Prelude.{IfNone}
+use Rattle.std.proofs.Common.{◌≡◌, ℕ, ◌+◌, List, ◌++◌, length, sym, ap, ◌∙◌, subst, arith, take-append-drop}
 use Rattle.sup_inbox.specs.declared.note.Note.{Note}
 use Rattle.sup_inbox.specs.Ends.{AreOf}
 use Rattle.sup_inbox.proofs.Rows.{are_of}
 use Rattle.sup_crew.specs.declared.job.Child.{Child}
-use Rattle.sup_crew.specs.Calls.{Call, calls_of, exits_in, exits, starts_in, jobs_made, AreDriven}
+use Rattle.sup_crew.specs.Calls.{calls_of, exits_in, starts_in, jobs_made, AreDriven}
 use Rattle.sup_crew.specs.Jobs.{weigh, children_of}
-use Rattle.sup_crew.specs.Joins.{taken_of, unposted_of}
+use Rattle.sup_crew.specs.Joins.{taken_of}
 use Rattle.sup_crew.specs.Leads.{front_of}
 use Rattle.sup_crew.specs.Tallies.{tally_of}
 use Rattle.sup_crew.specs.Work.{ended, AreEnds}

@@ -1,4 +1,4 @@
-use Rattle.std.proofs.Common.{refl, sym, ap, ◌∙◌, subst}
+use Rattle.std.proofs.Common.{sym, ap, ◌∙◌, subst}
 use Rattle.sup_inbox.specs.declared.inbox.InboxFull.{InboxFull}
 use Rattle.sup_crew.specs.declared.job.Child.{Child}
 use Rattle.sup_crew.specs.Jobs.{share}

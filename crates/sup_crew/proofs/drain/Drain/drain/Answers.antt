@@ -1,4 +1,4 @@
-use Rattle.std.proofs.Common.{◌≡◌, ℕ, [], ◌++◌, ◌⊎◌, length, min, ap, sym, ◌∙◌, subst}
+use Rattle.std.proofs.Common.{◌≡◌, ℕ, [], ◌++◌, ◌⊎◌, min, ap, sym, ◌∙◌, subst}
 use Rattle.std.proofs.lemmas.Result.{err_from_is_err_and}
 use Rattle.sup_crew.specs.Drains.{entered_of, notes_of}
 use Rattle.sup_crew.proofs.DrainLemmas.{entered-is, keeps, entered-more, all-or-none}

@@ -1,5 +1,4 @@
-use Rattle.std.proofs.Common.{◌+◌, ◌++◌, Option, ap, sym, ◌∙◌, subst}
-use Rattle.std.specs.Option.{option_or}
+use Rattle.std.proofs.Common.{◌+◌, Option, ap, sym, ◌∙◌, subst}
 use Rattle.sup_inbox.specs.declared.note.Note.{Note}
 use Rattle.std.proofs.Common.{List}
 use Rattle.sup_log.specs.Tokens.{Told}

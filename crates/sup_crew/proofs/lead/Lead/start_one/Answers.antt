@@ -1,4 +1,4 @@
-use Rattle.std.proofs.Common.{◌+◌, ◌∷◌, [], ◌++◌, Option, Some, ap, sym, ◌∙◌, subst}
+use Rattle.std.proofs.Common.{◌+◌, ◌∷◌, [], ◌++◌, Option, ap, sym, ◌∙◌, subst}
 use Rattle.sup_types.specs.declared.history.Operation.TheVariants.{Start}
 use Rattle.sup_log.specs.Tokens.{Told}
 use Rattle.sup_desk.specs.Knowledge.{Knowledge, IsUpdated}
