@@ -2,6 +2,7 @@
 ghost use Rattle.std.specs.Prelude.{◌≡◌};
 
 mod drains;
+mod hard_runs;
 mod runs;
 
 use crate::{Reads, read_turns};

@@ -1,5 +1,5 @@
 //! Whole runs: what their reports say, that a desk with too few handles begins none, and that workers run at the same time.
-ghost use Rattle.std.specs.Prelude.{◌≡◌, ◌≤◌, ◌^◌, IfOk};
+ghost use Rattle.std.specs.Prelude.{◌≡◌, ◌≤◌, ◌^◌, IfSome};
 
 use super::{Always, text};
 use crate::{Asker, Body, CrewFault, Plan, Report, run_crew};
@@ -16,7 +16,7 @@ use sup_types::{AutoShutdown, Kind, Reason, Restart, Seen, Starter, Template, Te
 
 /// Each body ends at once, but for that of child 1 where it is to wait until that of child 2 has begun.
 #[derive(Drop)]
-struct Ends {
+pub struct Ends {
     waits: bool,
     second: AtomicBool,
     met: AtomicBool,
@@ -50,7 +50,7 @@ impl Body for Ends {
 }
 
 impl Ends {
-    fn new(waits: bool) -> Ends {
+    pub fn new(waits: bool) -> Ends {
         Ends {
             waits,
             second: AtomicBool::new(false),
@@ -61,26 +61,26 @@ impl Ends {
 
 /// A run, and what its report is to say.
 #[derive(Clone, Copy)]
-struct Row {
-    restart: Restart,
-    intensity: u64,
-    max: u64,
-    entries: u64,
-    shutdown: AutoShutdown,
-    children: usize,
-    workers: usize,
-    inbox: usize,
-    turns: u64,
+pub struct Row {
+    pub restart: Restart,
+    pub intensity: u64,
+    pub max: u64,
+    pub entries: u64,
+    pub shutdown: AutoShutdown,
+    pub children: usize,
+    pub workers: usize,
+    pub inbox: usize,
+    pub turns: u64,
     // made, strays, downs, restarts, given_up, refused
-    counts: [u64; 6],
-    exits: Option<u64>,
-    fault: Option<UpdateFault>,
-    down: bool,
-    waits: bool,
+    pub counts: [u64; 6],
+    pub exits: Option<u64>,
+    pub fault: Option<UpdateFault>,
+    pub down: bool,
+    pub waits: bool,
 }
 
 /// Two workers and an inbox of eight places for temporary children, of which each ends.
-const USUAL: Row = Row {
+pub const USUAL: Row = Row {
     restart: Restart::Temporary,
     intensity: 0,
     max: 1000,
@@ -97,7 +97,7 @@ const USUAL: Row = Row {
     waits: false,
 };
 
-fn template(rt: &impl Abort, row: Row) -> Template {
+pub fn template(rt: &impl Abort, row: Row) -> Template {
     let made = Template::new(
         row.restart,
         Kind::Worker,
@@ -113,22 +113,22 @@ fn template(rt: &impl Abort, row: Row) -> Template {
     }
 }
 
-fn plan(rt: &impl Abort, alloc: Global, row: Row) -> Result<Plan, Fail>
-    ensures workers { IfOk result (λ p. (1 ≤ p.workers) × (p.workers ≤ 64)) }
-    ensures inbox { IfOk result (λ p. (1 ≤ p.inbox) × (p.inbox ≤ 65536)) }
-    ensures turns { IfOk result (λ p. (1 ≤ p.turns) × (p.turns ≤ 2 ^ 62)) }
+pub fn plan(rt: &impl Abort, alloc: Global, row: Row) -> Option<Plan>
+    ensures workers { IfSome result (λ p. (1 ≤ p.workers) × (p.workers ≤ 64)) }
+    ensures inbox { IfSome result (λ p. (1 ≤ p.inbox) × (p.inbox ≤ 65536)) }
+    ensures turns { IfSome result (λ p. (1 ≤ p.turns) × (p.turns ≤ 2 ^ 62)) }
 {
     if row.workers == 0 || row.workers > 64 || row.inbox == 0 || row.inbox > 65536 {
-        return Err(Fail::from("a plan"));
+        return None;
     }
     if row.turns == 0 || row.turns > 1 << 62 {
-        return Err(Fail::from("a plan"));
+        return None;
     }
     let mut children = Vec::new(alloc);
     for _ in 0..row.children {
-        children.push(text(rt, "a"))?;
+        children.push(text(rt, "a")).ok()?;
     }
-    Ok(Plan {
+    Some(Plan {
         children,
         workers: row.workers,
         inbox: row.inbox,
@@ -154,11 +154,16 @@ fn assert_report<N: Name>(rt: &impl Abort, row: Row, report: &Report<N>) -> u64 
     if let Some(exits) = row.exits {
         assert_eq!(rt; report.exits, exits);
     }
-    let noted = report.held.len().wrapping_add(report.inbox.len());
-    let kept = report.unposted.len().wrapping_add(report.left.len());
-    let listed = noted.wrapping_add(kept) as u64;
+    let listed = listed(report);
     assert_eq!(rt; report.exits.wrapping_add(listed), report.made);
     listed
+}
+
+/// How many children stand in the report's lists.
+pub fn listed<N: Name>(report: &Report<N>) -> u64 {
+    let noted = report.held.len().wrapping_add(report.inbox.len());
+    let kept = report.unposted.len().wrapping_add(report.left.len());
+    noted.wrapping_add(kept) as u64
 }
 
 /// Runs a crew on a desk with one handle more, which is made afterwards: it has seen each update, and lists the children that
@@ -173,7 +178,10 @@ fn run_row<N: Name + Send + Sync, R: Threads + Wait + Abort + Sync>(
 {
     let desk: Desk<N, Always, &R> = Desk::new(ground, Always);
     let body = Ends::new(row.waits);
-    let Ok(report) = run_crew(rt, alloc, &desk, &body, plan(rt, alloc, row)?) else {
+    let Some(plan) = plan(rt, alloc, row) else {
+        return Err(Fail::from("a plan"));
+    };
+    let Ok(report) = run_crew(rt, alloc, &desk, &body, plan) else {
         return Err(Fail::from("a report"));
     };
     let listed = assert_report(rt, row, &report);
@@ -275,7 +283,10 @@ fn run_on_two<N: Name + Send + Sync, R: Threads + Wait + Abort + Sync>(
 {
     let desk: Desk<N, Always, &R> = Desk::new(ground, Always);
     let mut first = desk.handle(rt)?;
-    let report = run_crew(rt, alloc, &desk, &Ends::new(false), plan(rt, alloc, USUAL)?);
+    let Some(plan) = plan(rt, alloc, USUAL) else {
+        return Err(Fail::from("a plan"));
+    };
+    let report = run_crew(rt, alloc, &desk, &Ends::new(false), plan);
     assert_eq!(rt; report.err(), Some(CrewFault::NoHandle));
     let ticket = first.ticket(rt);
     assert_eq!(rt; ticket.ok().map(|ticket| ticket.stamp()), Some(0));
