@@ -1,6 +1,7 @@
 //! What a desk and its handles refuse.
 ghost use Rattle.std.specs.Prelude.{◌≡◌};
 ghost use Rattle.sup_desk.specs.Faults.{update_fault_number, ticket_fault_number, query_fault_number, handle_fault_number, desk_fault_number};
+ghost use Rattle.sup_desk.specs.declared.faults.QueryFault.TheVariants as query;
 
 use sup_log::Gone;
 use sup_types::OutOfMemory;
@@ -84,14 +85,18 @@ impl QueryFault {
 }
 
 impl From<Gone> for QueryFault {
+    ghost from_gives = { λ _ f. f ≡ query.Gone };
+
     fn from(_gone: Gone) -> Self {
-        QueryFault::Gone
+        Self::Gone
     }
 }
 
 impl From<OutOfMemory> for QueryFault {
+    ghost from_gives = { λ _ f. f ≡ query.OutOfMemory };
+
     fn from(_fault: OutOfMemory) -> Self {
-        QueryFault::OutOfMemory
+        Self::OutOfMemory
     }
 }
 
