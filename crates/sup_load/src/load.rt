@@ -1,6 +1,6 @@
 //! The load: a crew over a desk, and readers that ask meanwhile.
 
-ghost use Rattle.std.specs.Prelude.{◌≡◌, ◌≤◌, ◌⊎◌, Err, IfOk, MatchResult};
+ghost use Rattle.std.specs.Prelude.{◌≡◌, ◌≤◌, ◌⊎◌, Err, IfOk, MatchResult, vec_len};
 ghost use Rattle.sup_load.specs.Loads.{end_of};
 ghost use Rattle.sup_load.specs.declared.fault.LoadFault.TheVariants.{WriteFault};
 
@@ -239,7 +239,11 @@ fn join_readers<R: Threads>(
 }
 
 /// The first fault is the run's, else a reader's.
-fn sums_of<N: Name>(report: &Report<N>, asked: (u64, Result<(), Gone>)) -> Sums {
+fn sums_of<N: Name>(report: &Report<N>, asked: (u64, Result<(), Gone>)) -> Sums
+    ensures made { (result.made ≡ report.now.made) × (result.exits ≡ report.now.exits) × (result.strays ≡ report.now.strays) }
+    ensures ended { (result.restarts ≡ report.now.restarts) × (result.given_up ≡ report.now.given_up) }
+    ensures kept { (result.left ≡ vec_len report.now.left) × (result.held ≡ vec_len report.now.held) × (result.reads ≡ asked.0) }
+{
     let (reads, outcome) = asked;
     let fault = match (report.fault, outcome) {
         (Some(fault), _) => Some(LoadFault::from(fault)),
