@@ -5,3 +5,4 @@ pub mod Changes
 pub mod Account
 pub mod Queries
 pub mod Children
+pub mod Near

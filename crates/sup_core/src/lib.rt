@@ -15,6 +15,7 @@ ghost use Rattle.sup_core.specs.Account.{IsAfter, reply_after, state_after, acco
 ghost use Rattle.sup_core.specs.Queries.{which, count, child};
 
 mod child;
+mod near;
 mod table;
 #[cfg(test)]
 mod tests;

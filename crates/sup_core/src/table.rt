@@ -2,9 +2,9 @@
 //!
 //! Numbers only grow, so the order in which children were put in is that of their numbers. A child that is listed no
 //! more leaves its place empty, since the map gives no room back for a removed entry. Where all places are used, or more than
-//! half of them are empty, the listed children are taken out and put in again: that gives back the empty places, and needs
-//! no memory.
-ghost use Rattle.std.specs.Prelude.{true, false, ◌≡◌, ◌≤◌, ◌<◌, ◌+◌, ◌*◌, ◌^◌, ℕ, List, [], ◌∷◌, ◌++◌, IfOk, None, Some, map, length, nat_eq, is_some, slice_index_or, MatchBool, MatchOption, IsSome, if◌then◌else◌};
+//! half of them are empty, the listed children move to the front in their order, and the places behind them are given back.
+//! That needs no memory, and leaves where they are those in front of the first empty place.
+ghost use Rattle.std.specs.Prelude.{true, false, ◌≡◌, ◌≤◌, ◌<◌, ◌+◌, ◌-◌, ◌*◌, ◌^◌, ℕ, List, [], ◌∷◌, ◌++◌, IfOk, None, Some, map, length, nat_eq, is_some, slice_index_or, take, MatchBool, MatchOption, IsSome, if◌then◌else◌};
 ghost use Rattle.std.specs.List.{list_any, cons_option, IsDistinct};
 ghost use Rattle.std.specs.Option.{option_copied, option_map, option_map_or};
 ghost use Rattle.std.specs.Map.{set_value};
@@ -16,28 +16,21 @@ ghost use Rattle.sup_core.specs.Changes.{running};
 ghost use Rattle.sup_core.specs.Children.{Listed, listed, place_of, place_row, running_count, one_if, found, taken_of, left_of, waiting_of};
 
 use crate::child::Child;
+use crate::near::Near;
 use indexmap::IndexMap;
 use std::alloc::{AllocError, Allocator};
-use std::hash::{BuildHasherDefault, FoldHasher};
 use std::marker::Model;
 use sup_types::{Row, Status, Text};
 
-type Places<A> = IndexMap<u64, Option<Child>, BuildHasherDefault<FoldHasher>, A>;
+type Places<A> = IndexMap<u64, Option<Child>, Near, A>;
 
-/// So few empty places are not worth giving back: it clears the whole map, whose size goes with the greatest number of rows.
-fn few_places(max: usize) -> usize
-    requires { max ≤ 65536 }
-    ensures { result ≤ 8256 }
-{
-    64 + max / 8
-}
+/// So few empty places are not worth giving back.
+const FEW_PLACES: usize = 64;
 
 /// The listed children, of whom there may be so many.
 #[derive(Drop)]
 pub(crate) struct Table<A: Allocator> {
     places: Places<A>,
-    /// Empty but while the listed children are put in again.
-    scratch: Vec<Row, A>,
     max: u64,
     made: u64,
     live: u64,
@@ -59,20 +52,18 @@ impl<A: Allocator> Model for Table<A> {
         × (t.live ≡ length (listed t.places.entries)) × (t.live ≤ t.max)
         × (t.running ≡ running_count (listed t.places.entries))
         × (2 * t.max ≤ index_map_len t.places + spare t.places)
-        × (t.scratch.items ≡ []) × (t.max ≤ vec_capacity t.scratch) × (t.max ≤ 65536) };
+        × (t.max ≤ 65536) };
 }
 
 impl<A: Allocator + Copy> Table<A> {
-    /// An empty table. It makes room for all rows.
+    /// An empty table. It makes room for all rows, and for one place more, by which it sees whether the last can be given back.
     pub(crate) fn new(alloc: A, max: u64) -> Result<Self, AllocError>
         requires { max ≤ 65536 }
         ensures { IfOk result (λ t. (t.rows ≡ []) × (t.made ≡ 0) × (t.max ≡ max)) }
     {
-        let places = IndexMap::with_capacity(alloc, 2 * max as usize)?;
-        let scratch = Vec::with_capacity(alloc, max as usize)?;
+        let places = IndexMap::with_capacity_and_hasher(alloc, 2 * max as usize + 1, Near::new())?;
         Ok(Table {
             places,
-            scratch,
             max,
             made: 0,
             live: 0,
@@ -138,12 +129,7 @@ impl<A: Allocator + Copy> Table<A> {
         ensures number { result ≡ self.old.made + 1 }
         ensures next { self.new ≡ record self.old { rows = self.old.rows ++ running (self.old.made + 1) arg ∷ []; made = self.old.made + 1 } }
     {
-        make_room(
-            &mut self.places,
-            &mut self.scratch,
-            self.max as usize,
-            self.live as usize,
-        );
+        make_room(&mut self.places, self.max as usize, self.live as usize);
         self.made += 1;
         self.live += 1;
         self.running += 1;
@@ -160,6 +146,7 @@ impl<A: Allocator + Copy> Table<A> {
         let Some(child) = take_child(&mut self.places, number) else {
             return false;
         };
+        trim(&mut self.places, self.max as usize);
         self.live -= 1;
         self.running -= one_if(child.is_running());
         true
@@ -174,6 +161,7 @@ impl<A: Allocator + Copy> Table<A> {
         ensures room { IsSome result → length self.new.rows < self.old.max }
     {
         let child = take_child_as(&mut self.places, number, status)?;
+        trim(&mut self.places, self.max as usize);
         self.live -= 1;
         self.running -= one_if(child.is_running());
         Some(child.arg)
@@ -337,61 +325,88 @@ fn push_row<A: Allocator>(copy: &mut Vec<Row, A>, number: u64, child: &Option<Ch
 
 /// Makes room for one more place. The empty places are given back once they are as many as the listed children and some
 /// more, so that what is read lies close together where the children are few.
-fn make_room<A: Allocator>(
-    places: &mut Places<A>,
-    scratch: &mut Vec<Row, A>,
-    max: usize,
-    live: usize,
-)
+fn make_room<A: Allocator>(places: &mut Places<A>, max: usize, live: usize)
     requires unique { IsUnique nat_eq places.old }
-    requires fits { length (listed places.old.entries) < max }
+    requires live { live ≡ length (listed places.old.entries) }
+    requires fits { live < max }
     requires places { 2 * max ≤ index_map_len places.old + spare places.old }
-    requires empty { scratch.old.items ≡ [] }
-    requires scratch { max ≤ vec_capacity scratch.old }
-    requires small { (max ≤ 65536) × (live ≤ max) }
+    requires small { max ≤ 65536 }
     ensures rows { listed places.new.entries ≡ listed places.old.entries }
     ensures absent { (number : ℕ) → get nat_eq places.old number ≡ None → get nat_eq places.new number ≡ None }
     ensures unique { IsUnique nat_eq places.new }
     ensures places { 2 * max ≤ index_map_len places.new + spare places.new }
     ensures spare { 0 < spare places.new }
-    ensures empty { scratch.new.items ≡ [] }
-    ensures scratch { vec_capacity scratch.old ≤ vec_capacity scratch.new }
 {
-    let most = (2 * live + few_places(max)).min(2 * max);
+    let most = (2 * live + FEW_PLACES).min(2 * max);
     if places.len() >= most {
-        compact(places, scratch);
+        compact(places);
     }
 }
 
-/// Gives back the empty places.
-fn compact<A: Allocator>(places: &mut Places<A>, scratch: &mut Vec<Row, A>)
+/// Gives back the empty places at the end. So where the children that began last end first, as many do that come and go
+/// beside long-lived ones, the next take their places. No clause of the map says that its room stays, so that is looked at.
+fn trim<A: Allocator>(places: &mut Places<A>, max: usize)
     requires unique { IsUnique nat_eq places.old }
-    requires places { length (listed places.old.entries) ≤ index_map_len places.old + spare places.old }
-    requires empty { scratch.old.items ≡ [] }
-    requires scratch { length (listed places.old.entries) ≤ vec_capacity scratch.old }
+    requires places { 2 * max ≤ index_map_len places.old + spare places.old }
+    requires small { max ≤ 65536 }
+    ensures rows { listed places.new.entries ≡ listed places.old.entries }
+    ensures absent { (number : ℕ) → get nat_eq places.old number ≡ None → get nat_eq places.new number ≡ None }
+    ensures unique { IsUnique nat_eq places.new }
+    ensures places { 2 * max ≤ index_map_len places.new + spare places.new }
+{
+    'empties: while ends_empty(places) && places.capacity() > 2 * max {
+        let _ = places.pop();
+    }
+}
+
+/// Whether there are places and the last is empty.
+fn ends_empty<A: Allocator>(places: &Places<A>) -> bool
+    ensures { result ≡ true → (0 < index_map_len places.now) × (is_some (slice_index_or places.now.entries (index_map_len places.now - 1) (0, None)).1 ≡ false) }
+{
+    let len = places.len();
+    len > 0 && !is_listed(places, len - 1)
+}
+
+/// Gives back the empty places, where they are at least half of all.
+fn compact<A: Allocator>(places: &mut Places<A>)
+    requires unique { IsUnique nat_eq places.old }
+    requires half { 2 * length (listed places.old.entries) ≤ index_map_len places.old }
     ensures places { places.new.entries ≡ map place_of (listed places.old.entries) }
     ensures room { index_map_len places.old + spare places.old ≤ index_map_len places.new + spare places.new }
     ensures unique { IsUnique nat_eq places.new }
-    ensures empty { scratch.new.items ≡ [] }
-    ensures capacity { vec_capacity scratch.old ≤ vec_capacity scratch.new }
 {
-    copy_listed(places, scratch);
-    places.clear();
-    put_in(places, scratch);
-    scratch.clear();
+    let kept = gather(places);
+    places.truncate(kept);
 }
 
-/// Puts the children of these rows into an empty map that has room for them.
-fn put_in<A: Allocator>(places: &mut Places<A>, rows: &[Row])
-    requires empty { places.old.entries ≡ [] }
-    requires room { length rows.now ≤ spare places.old }
+/// Moves the listed children to the front, in their order, and answers how many there are.
+fn gather<A: Allocator>(places: &mut Places<A>) -> usize
     requires unique { IsUnique nat_eq places.old }
-    requires distinct { IsDistinct nat_eq (map (λ row. row.number) rows.now) }
-    ensures places { places.new.entries ≡ map place_of rows.now }
-    ensures room { spare places.old ≤ length rows.now + spare places.new }
+    ensures kept { result ≡ length (listed places.old.entries) }
+    ensures front { take result places.new.entries ≡ map place_of (listed places.old.entries) }
+    ensures len { index_map_len places.new ≡ index_map_len places.old }
+    ensures room { spare places.old ≤ spare places.new }
     ensures unique { IsUnique nat_eq places.new }
 {
-    for row in rows {
-        let _ = places.insert(row.number, Some(Child::of_row(row)));
+    let mut kept = 0;
+    for index in 0..places.len() {
+        if is_listed(places, index) {
+            if kept < index {
+                places.swap_indices(kept, index);
+            }
+            kept += 1;
+        }
+    }
+    kept
+}
+
+/// Whether a child is listed at this index.
+fn is_listed<A: Allocator>(places: &Places<A>, index: usize) -> bool
+    requires { index < index_map_len places.now }
+    ensures { result ≡ is_some (slice_index_or places.now.entries index (0, None)).1 }
+{
+    match places.get_index(index) {
+        Some((_, child)) => child.is_some(),
+        None => false,
     }
 }

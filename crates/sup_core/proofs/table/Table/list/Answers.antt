@@ -17,9 +17,7 @@ invariant_of-self g c =
       omega (arith, c.requires.fits, ap (λ (t : Listed). length t.rows) c.self.view_is, ap (λ (t : Listed). t.max) c.self.view_is, c.self.invariant.2),
       omega (arith, ap running_count rows, running-push (listed before) row, c.self.invariant.4),
       omega (arith, c.put_next.ensures.room, c.make_room.ensures.places),
-      c.make_room.ensures.empty,
-      omega (arith, c.make_room.ensures.scratch, c.self.invariant.7),
-      c.self.invariant.8,
+      c.self.invariant.6,
     )
 
 pub returns-clause-next : goal.returns-clause-next

@@ -1,5 +1,5 @@
 -- One row goes, or none stands so.
-use Rattle.std.proofs.Common.{◌≡◌, List, ◌∙◌, sym, ap, arith, length, None, Some, nat_eq, true, false}
+use Rattle.std.proofs.Common.{◌≡◌, List, ◌∙◌, sym, ap, arith, length, None, Some, nat_eq, true}
 use Rattle.std.specs.Prelude.{is_some}
 use Rattle.std.specs.List.{list_any}
 use Rattle.std.specs.Map.{lookup, set_value}
@@ -26,8 +26,6 @@ invariant_of-self g c =
       c.self.invariant.4 ∙ sym (ap (λ l. running_count (listed l)) kept),
       omega (arith, c.take_child_as.ensures.len, c.take_child_as.ensures.spare, c.self.invariant.5),
       c.self.invariant.6,
-      c.self.invariant.7,
-      c.self.invariant.8,
     )
 
 pub returns-in_err-child-clause-taken : goal.returns-in_err-child-clause-taken
@@ -64,12 +62,13 @@ invariant_of-self-2 g c =
     let places = c.self.inside.places.entries in
     let taken = taken-there c.args.status (found (lookup (nat_eq k) places)) c.in_ok-child.child (sym c.take_child_as.ensures.value ∙ c.in_ok-child.was) in
     let entries = c.take_child_as.ensures.entries ∙ ap (set_value (nat_eq k) places) taken.1 in (
-      c.take_child_as.ensures.unique,
-      λ number past. c.take_child_as.ensures.absent number (c.self.invariant.1 number past),
-      omega (arith, ap (λ l. length (listed l)) entries, live-taken k places, ap one_live taken.0, c.self.invariant.2),
+      c.trim.ensures.unique,
+      λ number past. c.trim.ensures.absent number (c.take_child_as.ensures.absent number (c.self.invariant.1 number past)),
+      omega (arith, ap length c.trim.ensures.rows, ap (λ l. length (listed l)) entries, live-taken k places, ap one_live taken.0, c.self.invariant.2),
       omega (arith, c.self.invariant.3),
       omega (
         arith,
+        ap running_count c.trim.ensures.rows,
         ap (λ l. running_count (listed l)) entries,
         running-taken k places,
         ap one_running taken.0,
@@ -77,10 +76,8 @@ invariant_of-self-2 g c =
         ap one_if c.is_running.ensures,
         c.self.invariant.4,
       ),
-      omega (arith, c.take_child_as.ensures.len, c.take_child_as.ensures.spare, c.self.invariant.5),
+      c.trim.ensures.places,
       c.self.invariant.6,
-      c.self.invariant.7,
-      c.self.invariant.8,
     )
 
 pub returns-clause-taken : goal.returns-clause-taken
@@ -92,7 +89,8 @@ returns-clause-taken g c =
     let state : List Row → Listed = λ rows. record { rows = rows; made = c.self.inside.made; max = c.self.inside.max } in (
       ap (λ (t : Listed). list_any (stands_as c.args.status k) t.rows) (sym c.self.view_is) ∙ stands-listed c.args.status k places c.self.invariant.0 ∙ ap is_some was,
       sym (argument-listed k places c.in_ok-child.child c.self.invariant.0 taken.0) ∙ ap (λ (t : Listed). argument_at k t.rows) c.self.view_is,
-      ap (λ l. state (listed l)) (c.take_child_as.ensures.entries ∙ ap (set_value (nat_eq k) places) taken.1)
+      ap state c.trim.ensures.rows
+          ∙ ap (λ l. state (listed l)) (c.take_child_as.ensures.entries ∙ ap (set_value (nat_eq k) places) taken.1)
           ∙ ap state (without-listed k places c.self.invariant.0)
           ∙ ap (λ (t : Listed). record { rows = without k t.rows; made = t.made; max = t.max }) c.self.view_is,
     )

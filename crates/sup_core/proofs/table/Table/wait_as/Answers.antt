@@ -1,5 +1,5 @@
 -- One row waits, or none stands so.
-use Rattle.std.proofs.Common.{◌≡◌, List, ◌∙◌, sym, ap, arith, length, map, true, false, nat_eq}
+use Rattle.std.proofs.Common.{◌≡◌, List, ◌∙◌, sym, ap, arith, length, map, false, nat_eq}
 use Rattle.std.specs.Prelude.{is_some}
 use Rattle.std.specs.List.{list_any}
 use Rattle.std.specs.Map.{lookup, set_value}
@@ -24,8 +24,6 @@ invariant_of-self g c =
       c.self.invariant.4 ∙ sym (ap (λ l. running_count (listed l)) kept),
       omega (arith, c.let_wait.ensures.len, c.let_wait.ensures.spare, c.self.invariant.5),
       c.self.invariant.6,
-      c.self.invariant.7,
-      c.self.invariant.8,
     )
 
 pub returns-then-not-let_wait : goal.returns-then-not-let_wait
@@ -69,8 +67,6 @@ invariant_of-self-2 g c =
       ),
       omega (arith, c.let_wait.ensures.len, c.let_wait.ensures.spare, c.self.invariant.5),
       c.self.invariant.6,
-      c.self.invariant.7,
-      c.self.invariant.8,
     )
 
 pub returns : goal.returns
