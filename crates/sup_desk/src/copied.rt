@@ -1,7 +1,7 @@
-//! Entries again, which takes no memory.
+//! Operations again, which takes no memory.
 ghost use Rattle.std.specs.Prelude.{◌≡◌};
 
-use sup_types::{Entry, Operation, Reason};
+use sup_types::{Operation, Reason};
 
 fn reason_copied(reason: &Reason) -> Reason
     ensures { result ≡ reason.now }
@@ -24,18 +24,5 @@ pub fn operation_copied(operation: &Operation) -> Operation
         Operation::Retry(number) => Operation::Retry(*number),
         Operation::Terminate(number) => Operation::Terminate(*number),
         Operation::Stop => Operation::Stop,
-    }
-}
-
-/// The same entry again.
-pub fn entry_copied(entry: &Entry) -> Entry
-    ensures { result ≡ entry.now }
-{
-    Entry {
-        handle: entry.handle,
-        serial: entry.serial,
-        moment: entry.moment,
-        operation: operation_copied(&entry.operation),
-        answer: entry.answer,
     }
 }

@@ -7,7 +7,6 @@ ghost use Rattle.sup_log.specs.Tokens.{standing, has_any};
 ghost use Rattle.sup_desk.specs.Knowledge.{entries_of};
 ghost use Rattle.sup_desk.specs.Books.{IsMade, IsSplit};
 
-use crate::copied::entry_copied;
 use crate::name::Name;
 use crate::pass::Pass;
 use std::marker::{Model, PhantomData};
@@ -157,8 +156,10 @@ impl<N: Name, R: Wait + Drop> Leaf<N, R> {
         ensures ok { IfOk result (λ r. (r ≡ reply_after N.template (self.old.published ++ self.old.pending) entry) × (self.new ≡ record self.old { pending = self.old.pending ++ entry ∷ [] })) }
         ensures err { OnErr result (self.new ≡ self.old) }
     {
-        self.press.append(entry_copied(&entry))?;
-        let reply = self.sup.step(&entry);
+        self.press.append(entry)?;
+        let pending = self.press.pending();
+        let entry = &pending[pending.len() - 1];
+        let reply = self.sup.step(entry);
         count_one(&mut self.counts, entry.handle);
         Ok(reply)
     }

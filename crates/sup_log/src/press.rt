@@ -80,6 +80,13 @@ impl<R: Wait + Drop> Press<R> {
         }
     }
 
+    /// What is pending, in order.
+    pub fn pending(&self) -> &[Entry]
+        ensures { result.now ≡ self.now.pending }
+    {
+        self.pending.as_slice()
+    }
+
     /// Publishes what is pending, in order and in one step. It waits for the lenses that look at the copy that is to
     /// absorb it, and is never refused.
     pub fn publish(&mut self)

@@ -20,8 +20,10 @@ fn bears<R: Wait + Drop + Abort>(rt: &R, press: Press<&R>) -> Option<()>
     let mut press = press;
     let first = press.append(started(rt, "a")).is_ok();
     let second = press.append(started(rt, "b")).is_ok();
-    press.publish();
     let entered = u64::from(first) + u64::from(second);
+    assert_eq!(rt; press.pending().len() as u64, entered);
+    press.publish();
+    assert!(rt; press.pending().is_empty());
     assert_eq!(rt; press.tell().stamp(), entered);
     assert_eq!(rt; press.editions(), u64::from(entered > 0));
     let Ok(mut lens) = press.lens() else {

@@ -1,13 +1,21 @@
-use Rattle.std.proofs.Common.{◌≡◌, ◌+◌, ◌-◌, ◌<◌, ◌≤◌, ℕ, List, ◌++◌, ◌∷◌, [], length, get_or, set, vec_len, vec_capacity, ap, sym, ◌∙◌, subst, arith, append_assoc}
+use Rattle.std.proofs.Common.{◌≡◌, ◌+◌, ◌-◌, ◌<◌, ◌≤◌, ℕ, List, ◌++◌, ◌∷◌, [], length, get_or, set, vec_len, vec_capacity, ap, sym, ◌∙◌, subst, arith, append_assoc, length-append, slice_index, ◌^◌}
 use Rattle.sup_types.specs.declared.history.Entry.{Entry}
 use Rattle.sup_types.specs.declared.template.Template.{Template}
+use Rattle.std.proofs.Math.Seq.{get_or-append_seam}
 use Rattle.sup_core.specs.Account.{reply_after}
+use Rattle.sup_core.specs.Changes.{next_state}
+use Rattle.sup_core.specs.Replies.{reply_to}
 use Rattle.sup_log.specs.Tokens.{Record, standing}
 use Rattle.sup_desk.specs.Books.{Written, IsCounted}
 use Rattle.sup_desk.proofs.After.{steps_is, template_is, next_is, reply_is}
 use Rattle.sup_desk.proofs.Entries.{entries_le}
 use Rattle.sup_desk.proofs.Counted.{counted_push}
 use Rattle.sup_desk.proofs.leaf.Leaf.append.Goals as goal
+
+-- the entry that was appended last
+last_of : (before all : List Entry) (entry d : Entry) → all ≡ before ++ entry ∷ [] → get_or all (length all - 1) d ≡ entry
+last_of before all entry d is =
+    ap (λ n. get_or all n d) (omega (arith, ap length is, length-append before (entry ∷ []))) ∙ ap (λ (l : List Entry). get_or l (length before) d) is ∙ get_or-append_seam before entry [] d
 
 pub step-reply-requires : goal.step-reply-requires
 step-reply-requires g c =
@@ -26,7 +34,10 @@ count_one-requires-clause-room g c =
     let low : place < vec_len l.counts = omega (arith, made, c.requires.made.0, c.requires.made.1) in
     let count = c.self.invariant.3.0 place low in
     let few = entries_le (place + 1) (l.press.published ++ l.press.pending) in
-    omega (arith, count, few, all, c.requires.room, g.N.Name.template.in_range.6)
+    let last = c.index-pending-pending.is
+    ∙ last_of l.press.pending c.pending-pending.result.now c.args.entry c.index-pending-pending.result (c.pending-pending.ensures ∙ ap (λ (r : Record). r.pending) c.in_ok-append.ensures) in
+    let room : slice_index l.counts.items place < 2 ^ 62 = omega (arith, count, few, all, c.requires.room, g.N.Name.template.in_range.6) in
+    subst (λ (e : Entry). slice_index l.counts.items (e.handle - 1) < 2 ^ 62) (sym last) room
 
 pub invariant_of-self-2 : goal.invariant_of-self-2
 invariant_of-self-2 g c =
@@ -40,14 +51,16 @@ invariant_of-self-2 g c =
     let counts' : List ℕ = c.count_one.new.counts.items in
     let place : ℕ = entry.handle - 1 in
     let is : c.append.new.self ≡ record { press = l.press.press; template = l.press.template; published = l.press.published; pending = l.press.pending ++ entry ∷ []; editions = l.press.editions } =
-    c.in_ok-append.ensures ∙ ap (λ (x : Entry). record { press = l.press.press; template = l.press.template; published = l.press.published; pending = l.press.pending ++ x ∷ []; editions = l.press.editions }) c.entry_copied.ensures in
+    c.in_ok-append.ensures in
+    let last = c.index-pending-pending.is
+    ∙ last_of l.press.pending c.pending-pending.result.now entry c.index-pending-pending.result (c.pending-pending.ensures ∙ ap (λ (r : Record). r.pending) is) in
     let longer : all ++ entry ∷ [] ≡ l.press.published ++ (l.press.pending ++ entry ∷ []) = append_assoc l.press.published l.press.pending (entry ∷ []) in
-    let sup = c.step-reply.ensures.next ∙ next_is n.template all l.sup entry old.2 ∙ ap (λ k. standing n.template k) longer in
+    let sup = c.step-reply.ensures.next ∙ ap (next_state l.sup) last ∙ next_is n.template all l.sup entry old.2 ∙ ap (λ k. standing n.template k) longer in
     let mine : (1 ≤ entry.handle) × (entry.handle ≤ made) = (c.requires.made.0, omega (arith, ap (λ (w : Written). w.made) c.self.view_is, c.requires.made.1)) in
     let more = counted_push made l.counts.items all entry place (sym l.counts.ok.0) old.3 mine (omega (arith, mine.0)) in
     let counted : IsCounted made' counts' (l.press.published ++ (l.press.pending ++ entry ∷ [])) =
     subst (λ (m : ℕ). IsCounted m counts' (l.press.published ++ (l.press.pending ++ entry ∷ []))) (sym c.count_one.ensures.len.0)
-    (subst (λ (k : List ℕ). IsCounted made k (l.press.published ++ (l.press.pending ++ entry ∷ []))) (sym c.count_one.ensures.items)
+    (subst (λ (k : List ℕ). IsCounted made k (l.press.published ++ (l.press.pending ++ entry ∷ []))) (sym (c.count_one.ensures.items ∙ ap (λ (e : Entry). set l.counts.items (e.handle - 1) (get_or l.counts.items (e.handle - 1) 0 + 1)) last))
     (subst (λ (h : List Entry). IsCounted made (set l.counts.items place (get_or l.counts.items place 0 + 1)) h) longer more)) in
     subst (λ (r : Record). (r.press ≡ n.press) × (r.template ≡ n.template) × (c.step-reply.new.self ≡ standing n.template (r.published ++ r.pending))
     × IsCounted made' counts' (r.published ++ r.pending) × (made' ≤ l.handles) × (l.handles ≤ vec_capacity c.count_one.new.counts) × (l.handles ≤ 1024))
@@ -61,8 +74,10 @@ returns-clause-ok g c =
     let entry : Entry = c.args.entry in
     let all = l.press.published ++ l.press.pending in
     let is : c.append.new.self ≡ record { press = l.press.press; template = l.press.template; published = l.press.published; pending = l.press.pending ++ entry ∷ []; editions = l.press.editions } =
-    c.in_ok-append.ensures ∙ ap (λ (x : Entry). record { press = l.press.press; template = l.press.template; published = l.press.published; pending = l.press.pending ++ x ∷ []; editions = l.press.editions }) c.entry_copied.ensures in
+    c.in_ok-append.ensures in
+    let last = c.index-pending-pending.is
+    ∙ last_of l.press.pending c.pending-pending.result.now entry c.index-pending-pending.result (c.pending-pending.ensures ∙ ap (λ (r : Record). r.pending) is) in
     let step = λ (w : Written). let next : Written = record { published = w.published; pending = w.pending ++ entry ∷ []; made = w.made; handles = w.handles; editions = w.editions } in next in (
-      c.step-reply.ensures.reply ∙ reply_is n.template all l.sup entry c.self.invariant.2 ∙ ap (λ (w : Written). reply_after n.template (w.published ++ w.pending) entry) c.self.view_is,
+      c.step-reply.ensures.reply ∙ ap (reply_to l.sup) last ∙ reply_is n.template all l.sup entry c.self.invariant.2 ∙ ap (λ (w : Written). reply_after n.template (w.published ++ w.pending) entry) c.self.view_is,
       (λ i. record { published = (is i).published; pending = (is i).pending; made = c.count_one.ensures.len.0 i; handles = l.handles; editions = (is i).editions }) ∙ ap step c.self.view_is,
     )
