@@ -60,16 +60,16 @@ const CREW_TURNS: u64 = 1_000_000_000;
 
 /// What a load came to.
 #[derive(Clone, Copy)]
-struct Sums {
-    made: u64,
-    exits: u64,
-    strays: u64,
-    restarts: u64,
-    given_up: u64,
-    left: usize,
-    held: usize,
-    reads: u64,
-    fault: Option<LoadFault>,
+pub(crate) struct Sums {
+    pub(crate) made: u64,
+    pub(crate) exits: u64,
+    pub(crate) strays: u64,
+    pub(crate) restarts: u64,
+    pub(crate) given_up: u64,
+    pub(crate) left: usize,
+    pub(crate) held: usize,
+    pub(crate) reads: u64,
+    pub(crate) fault: Option<LoadFault>,
 }
 
 /// A body that ends at once.
@@ -117,7 +117,8 @@ fn tell<W: Write>(outcome: Result<Sums, LoadFault>, out: &mut W) -> Result<(), L
     }
 }
 
-fn write_lines<W: Write>(sums: &Sums, out: &mut W) -> io::Result<()> {
+/// Writes the two lines of a report.
+pub(crate) fn write_lines<W: Write>(sums: &Sums, out: &mut W) -> io::Result<()> {
     let Sums {
         made,
         exits,

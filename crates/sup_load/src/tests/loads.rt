@@ -1,5 +1,6 @@
 //! A crew beside readers.
 use super::*;
+use crate::load::{Sums, write_lines};
 
 /// The words of a load.
 pub fn load_words<'a>(
@@ -48,4 +49,24 @@ fn a_load_out_of_its_ranges_is_refused(rt: HostRuntime) {
         assert_eq!(rt; outcome.out.len(), 0);
         assert!(rt; !outcome.err.is_empty());
     }
+}
+
+#[test]
+fn each_number_of_a_report_stands_under_its_name(rt: HostRuntime) -> Result<(), Fail> {
+    let sums = Sums {
+        made: 1,
+        exits: 2,
+        strays: 3,
+        restarts: 4,
+        given_up: 5,
+        left: 6,
+        held: 7,
+        reads: 8,
+        fault: None,
+    };
+    let mut out = Vec::new(rt.alloc());
+    write_lines(&sums, &mut out)?;
+    let lines = "made 1 exits 2 strays 3 restarts 4 gave_up 5 left 6 held 7\nreads 8\n";
+    assert_eq!(rt; out.as_slice(), lines.as_bytes());
+    Ok(())
 }
