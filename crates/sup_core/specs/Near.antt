@@ -3,7 +3,7 @@ use Rattle.std.specs.Prelude.{ℕ, ◌*◌, ◌/◌, ◌%◌, ◌^◌, List, len
 use Rattle.std.specs.Int.{from_le_bytes, w64}
 use Rattle.sup_core.specs.declared.near.Near.{Near}
 
--- the hash of a number
+-- the hash of a number, as it is computed: a hasher has to name what it answers, and only speed rests on which number that is
 abbrev pub near_hash : ℕ → ℕ
 near_hash number =
     let block = (number / 2 ^ 6 * 0xd6e8_feb8_6659_fd93) % 2 ^ 64 in

@@ -1,11 +1,12 @@
 //! The rows of a supervisor, found by their numbers.
 //!
 //! Numbers only grow, so the order in which children were put in is that of their numbers. A child that is listed no
-//! more leaves its place empty, since the map gives no room back for a removed entry. Where all places are used, or more than
-//! half of them are empty, the listed children move to the front in their order, and the places behind them are given back.
-//! That needs no memory, and leaves where they are those in front of the first empty place.
+//! more leaves its place empty, since the map gives no room back for a removed entry. The empty places at the end are given
+//! back as they come. Where all places are used, or clearly more than half of them are empty, the listed children move to the
+//! front in their order, and the places behind them are given back. That needs no memory, and leaves where they are those in
+//! front of the first empty place.
 ghost use Rattle.std.specs.Prelude.{true, false, ◌≡◌, ◌≤◌, ◌<◌, ◌+◌, ◌-◌, ◌*◌, ◌^◌, ℕ, List, [], ◌∷◌, ◌++◌, IfOk, None, Some, map, length, nat_eq, is_some, slice_index_or, take, MatchBool, MatchOption, IsSome, if◌then◌else◌};
-ghost use Rattle.std.specs.List.{list_any, cons_option, IsDistinct};
+ghost use Rattle.std.specs.List.{list_any, cons_option};
 ghost use Rattle.std.specs.Option.{option_copied, option_map, option_map_or};
 ghost use Rattle.std.specs.Map.{set_value};
 ghost use Rattle.sup_types.specs.Status.{is_running};
@@ -38,8 +39,7 @@ pub(crate) struct Table<A: Allocator> {
 }
 
 impl<A: Allocator> Model for Table<A> {
-    ghost use Rattle.std.specs.Prelude.{◌≡◌, ◌≤◌, ◌<◌, ◌+◌, ◌*◌, ℕ, [], None, length, nat_eq};
-    ghost use Rattle.std.specs.Vec.{vec_capacity};
+    ghost use Rattle.std.specs.Prelude.{◌≡◌, ◌≤◌, ◌<◌, ◌+◌, ◌*◌, ℕ, None, length, nat_eq};
     ghost use Rattle.indexmap.specs.IndexMap.{get, index_map_len, spare, IsUnique};
     ghost use Rattle.sup_core.specs.Children.{Listed, listed, running_count};
 
