@@ -186,7 +186,7 @@ impl<A: Allocator + Copy> Sup<A> {
                 if self.is_full() {
                     return None;
                 }
-                Some(arg.copied())
+                Some(*arg)
             }
             Operation::Exit(number, reason) => {
                 if !self.template.restart.restarts_after(reason) {
@@ -268,7 +268,7 @@ impl<A: Allocator + Copy> Sup<A> {
             return Reply::Full;
         }
         match answer {
-            Answer::Running => Reply::Started(self.list(arg.copied())),
+            Answer::Running => Reply::Started(self.list(*arg)),
             Answer::Ignore => Reply::Undefined,
             Answer::Failed(code) => Reply::StartFailed(code),
         }

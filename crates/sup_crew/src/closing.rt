@@ -54,7 +54,9 @@ fn list_held(held: ArrayVec<Note, HELD>, room: Vec<Note>) -> Vec<Note>
     let mut list = room;
     while !held.is_empty() {
         let note = held.remove(0);
-        list.push_reserved(note);
+        // Names the reason: the borrow checker of this kit asks where its type is declared.
+        let reason = note.reason;
+        list.push_reserved(Note { reason, ..note });
     }
     list
 }

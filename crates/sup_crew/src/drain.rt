@@ -13,7 +13,7 @@ use std::sync::Wait;
 use sup_desk::{Dones, Handle, Name, Part, UpdateFault};
 use sup_inbox::{Inbox, Note, Taker};
 use sup_log::Ticket;
-use sup_types::{Operation, OutOfMemory, Reason, Reply, Starter};
+use sup_types::{Operation, OutOfMemory, Reply, Starter};
 
 /// How many notes a drain holds at most.
 pub const HELD: usize = 64;
@@ -75,18 +75,6 @@ fn fill<R: Wait>(
     }
 }
 
-/// The same reason again, which takes no memory.
-fn copied(reason: &Reason) -> Reason
-    ensures { result ≡ reason.now }
-{
-    match reason {
-        Reason::Normal => Reason::Normal,
-        Reason::Shutdown => Reason::Shutdown,
-        Reason::ShutdownWith(text) => Reason::ShutdownWith(text.copied()),
-        Reason::Other(word) => Reason::Other(word.copied()),
-    }
-}
-
 /// The exits that the first notes tell.
 #[tactic(auto, using(crate::proofs::DrainLemmas::exits_more))]
 fn first_exits(
@@ -100,7 +88,7 @@ fn first_exits(
     let mut operations = VecDeque::with_capacity(alloc, count)?;
     for place in 0..count {
         let note = &held[place];
-        operations.push_back_reserved(Operation::Exit(note.number, copied(&note.reason)));
+        operations.push_back_reserved(Operation::Exit(note.number, note.reason));
     }
     Ok(operations)
 }
@@ -119,7 +107,9 @@ fn pair_up(
     let mut pairs = pairs;
     for reply in replies {
         let note = held.remove(0);
-        pairs.push_reserved((note, reply));
+        // Names the reason: the borrow checker of this kit asks where its type is declared.
+        let reason = note.reason;
+        pairs.push_reserved((Note { reason, ..note }, reply));
     }
     pairs
 }

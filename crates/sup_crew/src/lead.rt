@@ -90,7 +90,7 @@ impl<'d, N: Name, S: Starter + Drop, P: Wait + Drop> Lead<'d, N, S, P> {
         ensures err { OnErr result ((entered : _) (begun : _) → IsLed N.template N.press self.old.handle self.old.ticket self.old.tally self.old.hand.share.put (children_of self.old.left.items) entered begun → IsLed N.template N.press self.new.handle self.new.ticket self.new.tally self.new.hand.share.put (children_of self.new.left.items) entered begun) }
     {
         make_room(&mut self.left, self.queued, 1)?;
-        let done = self.handle.start_child(rt, moment, arg.copied())?;
+        let done = self.handle.start_child(rt, moment, *arg)?;
         self.queue_started(rt, jobs, arg, done);
         Ok(())
     }
@@ -110,7 +110,7 @@ impl<'d, N: Name, S: Starter + Drop, P: Wait + Drop> Lead<'d, N, S, P> {
         let Done { reply, ticket } = done;
         self.tally = self.tally.started(rt, &reply);
         if let Reply::Started(number) = reply {
-            let job = Job::new(number, arg.copied(), ticket.copied());
+            let job = Job::new(number, *arg, ticket.copied());
             put_or_keep(
                 rt,
                 jobs,

@@ -11,7 +11,6 @@ ghost use Rattle.sup_desk.specs.Batches.{batch_of, IsApplied};
 ghost use Rattle.std.specs.VecDeque.{deque_len};
 
 use crate::book::Book;
-use crate::copied::operation_copied;
 use crate::faults::{HandleFault, TicketFault, UpdateFault};
 use crate::handle::Handle;
 use crate::leaf::Leaf;
@@ -146,9 +145,8 @@ fn write_all<N: Name, S: Starter, R: Wait + Drop, A: Allocator>(
     ensures faults { IfSome result (λ e. (e ≡ UpdateFault.Gone → ⊥) × (e ≡ UpdateFault.Split → ⊥)) }
 {
     'queue: while let Some(operation) = operations.front() {
-        let operation = operation_copied(operation);
         let serial = leaf.serial(number);
-        match write(leaf, starter, number, serial, moment, operation) {
+        match write(leaf, starter, number, serial, moment, *operation) {
             Ok(reply) => {
                 replies.push_reserved(reply);
                 let _ = operations.pop_front();

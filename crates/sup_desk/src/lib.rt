@@ -30,7 +30,6 @@
 
 mod answers;
 mod book;
-mod copied;
 mod desk;
 mod faults;
 mod ground;

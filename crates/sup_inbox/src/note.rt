@@ -3,7 +3,7 @@
 use sup_types::{Reason, Text};
 
 /// The exit of a child, told by a poster.
-#[derive(Clone, Debug, Drop, PartialEq, Eq, Hash)]
+#[derive(Clone, Copy, Debug, PartialEq, Eq, Hash)]
 pub struct Note {
     /// The number of the poster, from 1 on.
     pub poster: u64,

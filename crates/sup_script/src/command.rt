@@ -5,7 +5,7 @@ ghost use Rattle.sup_script.specs.Words.{words_of, words_left};
 ghost use Rattle.sup_script.specs.Tokens.{verb_word};
 ghost use Rattle.sup_script.specs.Lines.{IsReading, is_identifier_word, IsIdentifierWord};
 
-use crate::tokens::{Verb, next_number, next_operation, next_text, read_verb};
+use crate::tokens::{Verb, next_number, next_operation, read_verb};
 use crate::words::next_word;
 use sup_types::{Operation, Text};
 
@@ -59,7 +59,9 @@ fn read_update(verb: Verb, rest: Option<&[u8]>) -> Option<Command>
     ensures { IsReading (verb_word verb ∷ words_left rest.entry) result }
 {
     let (moment, rest) = next_number(rest)?;
-    let (operation, rest) = next_operation(verb, rest)?;
+    let Some((operation, rest)) = next_operation(verb, rest) else {
+        return None;
+    };
     if rest.is_some() {
         return None;
     }
@@ -69,9 +71,10 @@ fn read_update(verb: Verb, rest: Option<&[u8]>) -> Option<Command>
 fn read_identifier(rest: Option<&[u8]>) -> Option<Command>
     ensures { (word : List ℕ) → IsIdentifierWord word → IsReading (word ∷ words_left rest.entry) result }
 {
-    let (text, rest) = next_text(rest)?;
+    let (word, rest) = next_word(rest?);
     if rest.is_some() {
         return None;
     }
+    let text = Text::new(word)?;
     Some(Command::ById(text))
 }

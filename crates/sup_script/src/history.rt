@@ -166,7 +166,9 @@ fn read_deed(rest: Option<&[u8]>) -> Option<(Operation, Answer)>
 {
     let (word, rest) = next_word(rest?);
     let verb = read_verb(word)?;
-    let (operation, rest) = next_operation(verb, rest)?;
+    let Some((operation, rest)) = next_operation(verb, rest) else {
+        return None;
+    };
     let answer = read_answer(rest)?;
     Some((operation, answer))
 }

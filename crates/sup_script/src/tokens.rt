@@ -125,7 +125,7 @@ pub fn next_number(rest: Option<&[u8]>) -> Option<(u64, Option<&[u8]>)>
 }
 
 /// The text that the next word is, and the words after it.
-pub fn next_text(rest: Option<&[u8]>) -> Option<(Text, Option<&[u8]>)>
+fn next_text(rest: Option<&[u8]>) -> Option<(Text, Option<&[u8]>)>
     ensures { MatchOption result (HasNoText (words_left rest.entry))
         (λ found. IsText found.0 × (words_left rest.entry ≡ found.0 ∷ words_left found.1)) }
 {
@@ -164,12 +164,16 @@ pub fn next_operation(verb: Verb, rest: Option<&[u8]>) -> Option<(Operation, Opt
 {
     match verb {
         Verb::Start => {
-            let (argument, rest) = next_text(rest)?;
+            let Some((argument, rest)) = next_text(rest) else {
+                return None;
+            };
             Some((Operation::Start(argument), rest))
         }
         Verb::Exit => {
             let (number, rest) = next_number(rest)?;
-            let (reason, rest) = next_reason(rest)?;
+            let Some((reason, rest)) = next_reason(rest) else {
+                return None;
+            };
             Some((Operation::Exit(number, reason), rest))
         }
         Verb::Retry => {

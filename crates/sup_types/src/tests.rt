@@ -23,7 +23,7 @@ fn numbers(intensity: u64, period: u64, max: u64, entries: u64) -> Result<Templa
 #[test]
 fn texts_have_1_to_40_visible_bytes(rt: HostRuntime) {
     assert_eq!(rt; text(&rt, b"!").bytes(), b"!".as_slice());
-    assert_eq!(rt; text(&rt, b"~").copied().bytes(), b"~".as_slice());
+    assert_eq!(rt; text(&rt, b"~").bytes(), b"~".as_slice());
     assert_eq!(rt; text(&rt, &[b'a'; 40]).bytes(), [b'a'; 40].as_slice());
     for refused in [
         b"".as_slice(),
@@ -38,6 +38,26 @@ fn texts_have_1_to_40_visible_bytes(rt: HostRuntime) {
 }
 
 #[test]
+fn texts_are_ordered_by_their_bytes(rt: HostRuntime) {
+    let ordered = [
+        text(&rt, b"!"),
+        text(&rt, b"!!"),
+        text(&rt, b"a"),
+        text(&rt, b"aa"),
+        text(&rt, b"ab"),
+        text(&rt, b"b"),
+        text(&rt, &[b'~'; 39]),
+        text(&rt, &[b'~'; 40]),
+    ];
+    for (place, first) in ordered.iter().enumerate() {
+        for (other, second) in ordered.iter().enumerate() {
+            assert_eq!(rt; first == second, place == other);
+            assert_eq!(rt; first < second, place < other);
+        }
+    }
+}
+
+#[test]
 fn words_spell_no_other_reason(rt: HostRuntime) {
     for accepted in [
         b"crash".as_slice(),
@@ -47,7 +67,6 @@ fn words_spell_no_other_reason(rt: HostRuntime) {
     ] {
         let word = Word::new(accepted).expect(&rt, "a word");
         assert_eq!(rt; word.bytes(), accepted);
-        assert_eq!(rt; word.copied().bytes(), accepted);
     }
     for refused in [
         b"".as_slice(),
@@ -139,14 +158,13 @@ fn significance_stands_where_an_end_can_shut_down(rt: HostRuntime) -> Result<(),
 }
 
 #[test]
-fn rows_are_copied_whole(rt: HostRuntime) {
+fn rows_tell_whether_they_run(rt: HostRuntime) {
     for status in [Status::Running, Status::Restarting] {
         let row = Row {
             number: 7,
             status,
             arg: text(&rt, b"a"),
         };
-        assert_eq!(rt; row.copied(), row);
         assert_eq!(rt; row.is_running(), status == Status::Running);
         assert_eq!(rt; status.is_running(), row.is_running());
     }

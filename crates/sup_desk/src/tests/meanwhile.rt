@@ -65,7 +65,7 @@ fn start_and_count<'m, N: Name + Send + Sync, R: Threads + Wait + Sync>(
 {
     join(
         rt,
-        || first.start_child(rt, 0, arg.copied()),
+        || first.start_child(rt, 0, *arg),
         || count_meanwhile(second, marks),
     )
 }

@@ -2,7 +2,6 @@
 ghost use Rattle.std.specs.Prelude.{◌≡◌};
 
 use super::{Always, call, made, replied, start, template, text};
-use crate::copied::operation_copied;
 use crate::{Desk, DeskFault, Ground, Handle, HandleFault, Name, UpdateFault};
 use std::marker::Brand;
 use std::process::Abort;
@@ -99,7 +98,7 @@ fn enter_row<N: Name, R: Wait + Abort>(
     row: &[(Operation, Reply)],
 ) {
     for (place, entered) in row.iter().enumerate() {
-        let done = call(rt, handle, place as u64, operation_copied(&entered.0));
+        let done = call(rt, handle, place as u64, entered.0);
         replied(rt, done, entered.1);
     }
 }

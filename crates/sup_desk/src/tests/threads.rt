@@ -32,7 +32,7 @@ fn start_all<N: Name, R: Wait>(
 ) -> u64 {
     let mut started = 0;
     for moment in 0..count {
-        if let Ok(done) = handle.start_child(rt, moment, arg.copied())
+        if let Ok(done) = handle.start_child(rt, moment, *arg)
             && matches!(done.reply, Reply::Started(_))
             && started < count
         {
@@ -117,7 +117,7 @@ fn exchange<N: Name, R: Wait + Abort>(
 ) {
     let arg = text(rt, "a");
     for moment in 0..count {
-        let Ok(started) = handle.start_child(rt, moment, arg.copied()) else {
+        let Ok(started) = handle.start_child(rt, moment, arg) else {
             panic!(rt; "the start is entered");
         };
         let Reply::Started(number) = started.reply else {

@@ -104,7 +104,7 @@ const ENTRIES: u64 = 100_000;
 fn stroke(arg: &Text, place: u64) -> Entry {
     let (round, place) = (place / 20, place % 20);
     if place < 10 {
-        entry(Operation::Start(arg.copied()))
+        entry(Operation::Start(*arg))
     } else {
         entry(Operation::Terminate(round % ENTRIES * 10 + place - 9))
     }

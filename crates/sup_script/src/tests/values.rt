@@ -37,7 +37,7 @@ fn reads_lines(rt: HostRuntime) {
     let text = Text::new(longest).expect(&rt, "forty bytes");
     assert!(rt;
         read_line(b"start 0 aaaaaaaaaaaaaaaaaaaaaaaaaaaaaaaaaaaaaaaa")
-            == Some(Command::Update(0, Operation::Start(text.copied())))
+            == Some(Command::Update(0, Operation::Start(text)))
     );
     assert!(rt;
         read_line(b"delete_child aaaaaaaaaaaaaaaaaaaaaaaaaaaaaaaaaaaaaaaa")

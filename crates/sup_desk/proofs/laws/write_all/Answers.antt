@@ -1,4 +1,4 @@
-use Rattle.std.proofs.Common.{◌≡◌, ◌+◌, ℕ, List, ◌++◌, ◌∷◌, [], length, take, drop, refl, ap, sym, ◌∙◌, subst, arith, append-nil, length-append, slice_get, get_or, ◌<◌, Some}
+use Rattle.std.proofs.Common.{◌≡◌, ◌+◌, ℕ, List, ◌++◌, ◌∷◌, [], length, take, drop, refl, ap, sym, ◌∙◌, arith, append-nil, length-append, slice_get, ◌<◌, Some}
 use Rattle.std.proofs.lemmas.List.{nil_from_length}
 use Rattle.sup_types.specs.declared.history.Operation.{Operation}
 use Rattle.sup_types.specs.declared.history.Reply.{Reply}
@@ -34,11 +34,11 @@ queue-preserved g c =
     let operations : List Operation = c.args.operations.now.items in
     let now : Written = c.queue.leaf in
     let k : ℕ = length replies in
-    let op : Operation = c.operation_copied-operation.result in
+    let op : Operation = c.in-Some.operation.now in
     let items : List Operation = c.queue.operations.items in
     let some : 0 < length items = grind (arith, c.in-Some.ensures.variant, c.queue.operations.ok) in
     let lookup : slice_get items 0 ≡ Some op =
-    first_by items op some (subst (λ (o : Operation). o ≡ get_or items 0 o) (sym c.operation_copied-operation.ensures) c.in-Some.ensures.lookup) in
+    first_by items op some (c.in-Some.ensures.lookup) in
     let step = front_next k operations op (drop 1 items) (sym old.rest ∙ first_is items op lookup) in
     let pushed = c.push_reserved.ensures in
     let long : length c.push_reserved.new.self.items ≡ k + 1 = ap length pushed.items ∙ length-append replies (c.in-Ok.reply ∷ []) in

@@ -1,7 +1,6 @@
 use Rattle.std.proofs.Common.{◌+◌, ◌∷◌, [], ◌++◌, Option, ap, sym, ◌∙◌, subst}
-use Rattle.sup_types.specs.declared.history.Operation.TheVariants.{Start}
 use Rattle.sup_log.specs.Tokens.{Told}
-use Rattle.sup_desk.specs.Knowledge.{Knowledge, IsUpdated}
+use Rattle.sup_desk.specs.Knowledge.{Knowledge}
 use Rattle.sup_crew.specs.Jobs.{weigh, children_of}
 use Rattle.sup_crew.specs.Leads.{IsLed, started_job}
 use Rattle.sup_crew.proofs.Led.{led-started, led-stays}
@@ -26,7 +25,7 @@ returns-clause-ok g c entered begun led =
     let e = c.in_ok-done.ensures in
     let done = c.in_ok-done.done in
     let arg = c.args.arg.now in
-    let updated = subst (λ a. IsUpdated g.S.Starter.answer g.N.Name.template old.handle (Start a) c.args.moment c.start_child.new.self done.reply done.ticket.front) c.copied.ensures e.ok in
+    let updated = e.ok in
     subst (λ (x : Knowledge × Option Told). IsLed g.N.Name.template g.N.Name.press x.0 x.1 new.tally new.hand.share.put (children_of new.left.items) entered (begun ++ arg ∷ [])) (λ i. (sym q.handle i, sym q.ticket i))
     (led-started g.S.Starter.answer g.N.Name.template g.N.Name.press old.handle c.start_child.new.self old.ticket old.tally new.tally old.hand.share.put (children_of old.left.items) new.hand.share.put (children_of new.left.items) entered begun led
     done.ticket arg c.args.moment done.reply updated e.press q.tally
