@@ -1,7 +1,7 @@
 //! Many operations by one publication.
 ghost use Rattle.std.specs.Prelude.{◌≡◌};
 
-use super::{Always, four, made, template};
+use super::{Always, four, made, template, text};
 use crate::{Desk, Dones, Ground, Name, Part, UpdateFault};
 use linked_list_allocator::LocalHeap;
 use std::alloc::{Allocator, Global};
@@ -82,10 +82,7 @@ fn apply_three<N: Name, R: Wait + Abort>(
 
 /// The last start of the four is left.
 fn is_last_start(rt: &impl Abort, operations: &mut VecDeque<Operation>) {
-    let Some(Operation::Start(arg)) = operations.pop_front() else {
-        panic!(rt; "a start is left");
-    };
-    assert_eq!(rt; arg.bytes(), b"b".as_slice());
+    assert!(rt; operations.pop_front() == Some(Operation::Start(text(rt, "b"))));
     assert!(rt; operations.is_empty());
 }
 

@@ -107,7 +107,7 @@ fn entered(rt: &impl Abort, applied: Result<Dones, Part>) -> usize {
     }
 }
 
-/// Four operations and a stop. The list of what is not yet published grows at the first and at the fifth.
+/// Four operations and an exit of no child. The list of what is not yet published grows at the first and at the fifth.
 fn bear_batch<N: Name, R: Wait + Abort>(
     rt: &R,
     alloc: Global,
@@ -135,7 +135,10 @@ fn a_batch_leaves_in_its_queue_what_is_refused(rt: HostRuntime) -> Result<(), Fa
     let Ok(mut operations) = four(&rt, rt.alloc()) else {
         return Ok(());
     };
-    if operations.push_back(Operation::Stop).is_err() {
+    if operations
+        .push_back(Operation::Exit(9, Reason::Normal))
+        .is_err()
+    {
         return Ok(());
     }
     match Ground::new(rt.alloc(), &rt, template, 1) {
