@@ -80,17 +80,37 @@ fn answer_entries<A: Allocator + Copy, W: Write>(
         RepliesGive (first ∷ body) template entries.now (W.contents writer.old) (W.contents writer.new) result }
     ensures cause { IfErr result (λ e. HasLineCause writes.new.has_refused e.fault) }
 {
-    let mut sup = match Sup::new(alloc, template) {
-        Ok(sup) => sup,
+    match Sup::new(alloc, template) {
+        Ok(mut sup) => {
+            let mut outbox = Outbox::new(alloc);
+            answer_from(&mut sup, &mut outbox, entries, writer, writes)
+        }
         Err(OutOfMemory) => {
             let fault = Fault::OutOfMemory;
-            return Err(ScriptFault { fault, line: 1 });
+            Err(ScriptFault { fault, line: 1 })
         }
-    };
-    let mut outbox = Outbox::new(alloc);
+    }
+}
+
+/// Writes the replies to the entries, from a supervisor that none was entered in. Nothing waits before.
+fn answer_from<A: Allocator + Copy, W: Write>(
+    sup: &mut Sup<A>,
+    outbox: &mut Outbox<A>,
+    entries: &[Entry],
+    writer: &mut W,
+    writes: &mut WriteWatch,
+) -> Result<(), ScriptFault>
+    requires empty { IsAfter sup.old [] }
+    requires room { length entries.now ≤ sup.old.template.entries }
+    requires bytes { outbox.old.bytes.items ≡ [] }
+    requires ends { outbox.old.ends.items ≡ [] }
+    ensures given { (first : List ℕ) (body : List (List ℕ)) → IsFirst AreFirstWords first sup.old.template → AreEntries body entries.now →
+        RepliesGive (first ∷ body) sup.old.template entries.now (W.contents writer.old) (W.contents writer.new) result }
+    ensures cause { IfErr result (λ e. HasLineCause writes.new.has_refused e.fault) }
+{
     let mut next = 2;
     for entry in entries {
-        if let Err(OutOfMemory) = answer_entry(entry, &mut sup, &mut outbox) {
+        if let Err(OutOfMemory) = answer_entry(entry, sup, outbox) {
             outbox.flush(writer, writes, next)?;
             let fault = Fault::OutOfMemory;
             return Err(ScriptFault { fault, line: next });

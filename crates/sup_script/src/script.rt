@@ -1,6 +1,6 @@
 //! Whole scripts.
 
-ghost use Rattle.std.specs.Prelude.{◌≡◌, ◌≤◌, false, IfErr};
+ghost use Rattle.std.specs.Prelude.{◌≡◌, ◌≤◌, [], false, None, IfErr};
 ghost use Rattle.sup_script.specs.Causes.{HasCause};
 ghost use Rattle.sup_script.specs.Runs.{IsRun};
 
@@ -60,6 +60,43 @@ pub fn run_watched<A: Allocator + Copy, R: Read, W: Write, S: Starter>(
 {
     let mut session = Session::new(alloc);
     let mut part = Vec::new(alloc);
+    answer_pieces(
+        &mut session,
+        &mut part,
+        reader,
+        reads,
+        writer,
+        writes,
+        starter,
+    )
+}
+
+/// Reads piece after piece and answers the lines that each ends, from a session in which nothing was read.
+///
+/// `part` takes the part of a line that came before a piece.
+fn answer_pieces<A: Allocator + Copy, R: Read, W: Write, S: Starter>(
+    session: &mut Session<A>,
+    part: &mut Vec<u8, A>,
+    reader: &mut R,
+    reads: &mut ReadWatch,
+    writer: &mut W,
+    writes: &mut WriteWatch,
+    starter: &S,
+) -> Result<(), ScriptFault>
+    requires supervisor { session.old.supervisor ≡ None }
+    requires bytes { session.old.outbox.bytes.items ≡ [] }
+    requires ends { session.old.outbox.ends.items ≡ [] }
+    requires next { session.old.next ≡ 1 }
+    requires empty { part.old.items ≡ [] }
+    requires calls { reads.old.calls ≡ 0 }
+    requires none { reads.old.given ≡ 0 }
+    requires unfailed { reads.old.has_failed ≡ false }
+    requires unrefused { writes.old.has_refused ≡ false }
+    ensures run { IsRun S.answer (R.remaining reader.old) (R.remaining reader.new)
+        (W.contents writer.old) (W.contents writer.new) result }
+    ensures reads { reads.new.calls ≤ 33554432 }
+    ensures cause { IfErr result (λ e. HasCause reads.new writes.new e.fault) }
+{
     let mut piece = [0u8; PIECE];
     while reads.calls() < MOST_READS {
         let room = (MOST_BYTES - reads.given()) as usize;
@@ -79,10 +116,10 @@ pub fn run_watched<A: Allocator + Copy, R: Read, W: Write, S: Starter>(
             return Ok(());
         }
         if count > room {
-            session.answer_piece(&piece[..room], &mut part, starter, writer, writes)?;
+            session.answer_piece(&piece[..room], part, starter, writer, writes)?;
             return Err(session.fault(Fault::TooLong));
         }
-        session.answer_piece(&piece[..count], &mut part, starter, writer, writes)?;
+        session.answer_piece(&piece[..count], part, starter, writer, writes)?;
     }
     Err(session.fault(Fault::ReadFault))
 }

@@ -5,7 +5,7 @@ use Rattle.std.proofs.lemmas.Result.{err_from_is_err_and}
 use Rattle.sup_script.specs.declared.fault.Fault.TheVariants as fault
 use Rattle.sup_script.specs.Script.{lines_of}
 use Rattle.sup_script.proofs.WholeRuns.{reading_stops, ends_faulty, ends_empty, ends_whole, read_more, too_long, piece_stops, cut_parts, cut_past}
-use Rattle.sup_script.proofs.script.run_watched.Goals as goal
+use Rattle.sup_script.proofs.script.answer_pieces.Goals as goal
 
 pub returns-then-is_err-clause-run : goal.returns-then-is_err-clause-run
 returns-then-is_err-clause-run g c =

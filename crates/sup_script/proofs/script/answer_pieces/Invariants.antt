@@ -1,7 +1,7 @@
 use Rattle.std.proofs.Common.{◌≡◌, ◌+◌, ◌-◌, ◌≤◌, ◌^◌, [], length}
 use Rattle.sup_script.specs.Answering.{steps_left}
 use Rattle.sup_script.proofs.WholeRuns.{IsReadTo}
-use Rattle.sup_script.proofs.script.run_watched.Given as goal
+use Rattle.sup_script.proofs.script.answer_pieces.Given as goal
 
 abbrev pub invariant-loop-piece : goal.invariant-loop-piece
 invariant-loop-piece g l = record {
