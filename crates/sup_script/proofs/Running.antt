@@ -92,6 +92,12 @@ module _ (answer : Answering) (front : List (List ℕ)) (text line : List ℕ) (
   pub header_refused : (f : Fault) (sup' : Option State) (new : List ℕ) → IsAnsweredTo answer front text None next → HasFirst AreHeaderWords line (Err f) → LineGives answer front text line sup' next old new (Err f)
   header_refused f sup' new s h = header_stops f front sup' new s.stands h
 
+  -- there is no supervisor
+  pub header_fails : (f : Fault) (sup' : Option State) (new : List ℕ) → IsAnsweredTo answer front text None next → (f ≡ fault.OutOfMemory) ⊎ HasFirst AreHeaderWords line (Err f) → LineGives answer front text line sup' next old new (Err f)
+  header_fails f sup' new s why = elim why [ inl e ↦ no_memory f sup' new e | inr h ↦ header_refused f sup' new s h ] where
+    no_memory : (f : Fault) (sup' : Option State) (new : List ℕ) → f ≡ fault.OutOfMemory → LineGives answer front text line sup' next old new (Err f)
+    no_memory f sup' new e = rw e tt
+
   bad_after : (lines : List (List ℕ)) (sup : State) → Stands answer lines text (Some sup) → MeansNothing (words_of line) → IsBadAfter lines line
   bad_after [] sup s h = absurd s
   bad_after (l ∷ ls) sup s h = h

@@ -1,8 +1,11 @@
 //! Answering the lines of a script, one after the other.
 
-ghost use Rattle.std.specs.Prelude.{◌≡◌, ◌<◌, ◌≤◌, ◌+◌, ◌^◌, [], ℕ, List, length, None, IfErr, OnOk, OnErr, vec_capacity};
+ghost use Rattle.std.specs.Prelude.{◌≡◌, ◌<◌, ◌≤◌, ◌+◌, ◌^◌, [], ◌⊎◌, ℕ, List, length, None, IfErr, OnOk, OnErr, vec_capacity, MatchResult};
+ghost use Rattle.sup_core.specs.Account.{IsAfter};
+ghost use Rattle.sup_script.specs.declared.fault.Fault.TheVariants.{OutOfMemory};
 ghost use Rattle.sup_script.specs.Answering.{IsAnsweredTo, IsWaiting, LineGives, NextGives, LinesGive, steps_left};
 ghost use Rattle.sup_script.specs.Causes.{IsLineFault, HasLineCause};
+ghost use Rattle.sup_script.specs.Headers.{AreHeaderWords, IsFirst, HasFirst};
 ghost use Rattle.sup_script.specs.Pieces.{IsPieceAnswered};
 ghost use Rattle.sup_script.specs.Replies.{Grows};
 ghost use Rattle.sup_script.specs.Script.{lines_of};
@@ -184,16 +187,40 @@ fn answer_line<S: Starter, A: Allocator + Copy>(
 {
     match supervisor {
         None => {
-            let template = read_header(line)?;
-            *supervisor = Some(Sup::new(alloc, template)?);
+            *supervisor = Some(first_supervisor(alloc, line)?);
+            Ok(())
         }
-        Some(sup) => {
-            let command = match read_line(line) {
-                Some(command) => command,
-                None => return Err(Fault::BadLine),
-            };
-            append_answer(command, sup, starter, out)?;
-        }
+        Some(sup) => answer_command(line, sup, starter, out),
     }
+}
+
+/// The supervisor that a header makes.
+fn first_supervisor<A: Allocator + Copy>(alloc: A, line: &[u8]) -> Result<Sup<A>, Fault>
+    ensures { MatchResult result (λ s. IsFirst AreHeaderWords line.now s.template × IsAfter s [])
+        (λ f. (f ≡ OutOfMemory) ⊎ HasFirst AreHeaderWords line.now (Err f)) }
+{
+    let template = read_header(line)?;
+    Ok(Sup::new(alloc, template)?)
+}
+
+/// Answers a line after the header, and appends the text of the reply.
+fn answer_command<S: Starter, A: Allocator + Copy>(
+    line: &[u8],
+    sup: &mut Sup<A>,
+    starter: &S,
+    out: &mut Vec<u8, A>,
+) -> Result<(), Fault>
+    requires { sup.old.steps < sup.old.template.entries }
+    ensures given { (front : List (List ℕ)) (text : List ℕ) (next : ℕ) → IsAnsweredTo S.answer front text (Some sup.old) next →
+        LineGives S.answer front text line.now (Some sup.new) next out.old.items out.new.items result }
+    ensures steps { steps_left (Some sup.old) ≤ steps_left (Some sup.new) + 1 }
+    ensures err { OnErr result (Grows out.old.items out.new.items) }
+    ensures fault { IfErr result (λ f. IsLineFault f) }
+{
+    let command = match read_line(line) {
+        Some(command) => command,
+        None => return Err(Fault::BadLine),
+    };
+    append_answer(command, sup, starter, out)?;
     Ok(())
 }
