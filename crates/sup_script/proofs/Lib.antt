@@ -7,6 +7,7 @@ pub mod Sending
 pub mod LineCuts
 pub mod Children
 pub mod Queues
+pub mod Causing
 pub mod Running
 pub mod Pieces
 pub mod WholeRuns

@@ -1,5 +1,5 @@
 -- Answering piece by piece.
-use Rattle.std.proofs.Common.{◌≡◌, ℕ, ◌+◌, ◌-◌, ◌<◌, ◌==◌, true, false, cond, List, [], ◌∷◌, ◌++◌, length, get_or, take, Option, Result, Ok, refl, sym, ap, subst, ◌∙◌, append_assoc, append-nil, arith}
+use Rattle.std.proofs.Common.{◌≡◌, ℕ, ◌+◌, ◌-◌, ◌<◌, ◌≤◌, ◌==◌, true, false, cond, List, [], ◌∷◌, ◌++◌, length, get_or, take, Option, Result, Ok, refl, sym, ap, subst, ◌∙◌, append_assoc, append-nil, arith}
 use Rattle.std.specs.Prelude.{OnOk}
 use Rattle.std.specs.List.{onto_first}
 use Rattle.std.proofs.KnownBytes.{Appends-nil}
@@ -97,3 +97,17 @@ module _ (answer : Answering) (front : List (List ℕ)) (text part piece part' :
     kept = kept;
     lines = lines;
   }
+
+-- ---- counts
+
+pub joined_length : (part ended piece rest whole : List ℕ) → whole ≡ part ++ ended → piece ≡ ended ++ rest → length whole + length rest ≡ length part + length piece
+joined_length part ended piece rest whole e f = omega (arith, ap length e, ap length f, length-append part ended, length-append ended rest)
+
+pub few_lines : (next a r p q most : ℕ) → a + r ≡ p + q → next + p + q ≤ most → next + a ≤ most
+few_lines next a r p q most same few = omega arith
+
+pub few_steps : (a r p q steps : ℕ) → a + r ≡ p + q → p + q ≤ steps → a ≤ steps
+few_steps a r p q steps same few = omega arith
+
+pub lines_counted : (next next' a r p q k : ℕ) → next' ≤ next + a → a + r ≡ p + q → k ≡ r → next' + k ≤ next + p + q
+lines_counted next next' a r p q k more same kept = omega arith

@@ -1,4 +1,5 @@
-use Rattle.sup_script.proofs.WholeReplays.{text_faulty, replied, room_for_all}
+use Rattle.sup_script.proofs.Causing.{lines_causes}
+use Rattle.sup_script.proofs.WholeReplays.{read_cause, text_cause, input_faulty, text_faulty, replied, room_for_all}
 use Rattle.sup_script.proofs.replays.replay_watched.Goals as goal
 
 pub answer_entries-requires : goal.answer_entries-requires
@@ -17,3 +18,17 @@ pub returns-in-Err-read_history-clause-replay : goal.returns-in-Err-read_history
 returns-in-Err-read_history-clause-replay g c =
     text_faulty (g.R.Read.remaining c.args.reader.now) (g.R.Read.remaining c.read_whole.new.reader) (g.W.Write.contents c.args.writer.now) c.read_whole.new.text.items c.in_default.ensures.read _
     (rw c.as_slice-2.ensures.value at c.in-Err-read_history.ensures)
+
+pub returns-clause-cause : goal.returns-clause-cause
+returns-clause-cause g c = lines_causes c.read_whole.new.reads c.answer_entries.new.writes c.answer_entries.result c.answer_entries.ensures.cause
+
+pub returns-in-Err-clause-cause : goal.returns-in-Err-clause-cause
+returns-in-Err-clause-cause g c = read_cause c.read_whole.new.reads c.args.writes.now c.in-Err.fault c.in-Err.ensures.cause
+
+pub returns-in-Err-read_history-clause-cause : goal.returns-in-Err-read_history-clause-cause
+returns-in-Err-read_history-clause-cause g c = text_cause c.read_whole.new.reads c.args.writes.now c.as_slice-2.result.now _ _ c.in-Err-read_history.ensures
+
+pub returns-in-Err-clause-replay : goal.returns-in-Err-clause-replay
+returns-in-Err-clause-replay g c =
+    input_faulty (g.R.Read.remaining c.args.reader.now) (g.R.Read.remaining c.read_whole.new.reader) (g.W.Write.contents c.args.writer.now) c.read_whole.new.text.items c.in-Err.fault c.line_after-line.result
+    c.in-Err.ensures.read (rw c.as_slice.ensures.value at c.line_after-line.ensures)

@@ -1,9 +1,10 @@
-use Rattle.std.proofs.Common.{◌≡◌, ◌+◌, ◌-◌, ◌≤◌, [], length, take, drop, refl, sym, ap, append-nil, arith}
+use Rattle.std.proofs.Common.{◌≡◌, ◌+◌, ◌-◌, ◌≤◌, [], length, take, drop, refl, sym, ap, append-nil, arith, inl}
 use Rattle.std.proofs.KnownBytes.{Keeps-refl}
 use Rattle.std.proofs.lemmas.List.{length-take-le}
 use Rattle.std.proofs.lemmas.Result.{err_from_is_err_and}
 use Rattle.sup_script.specs.declared.fault.Fault.TheVariants as fault
 use Rattle.sup_script.specs.Script.{lines_of}
+use Rattle.sup_script.proofs.Causing.{lines_cause, calls_more}
 use Rattle.sup_script.proofs.WholeRuns.{reading_stops, ends_faulty, ends_empty, ends_whole, read_more, too_long, piece_stops, cut_parts, cut_past}
 use Rattle.sup_script.proofs.script.answer_pieces.Goals as goal
 
@@ -109,7 +110,7 @@ loop-piece-preserved g c =
           (g.R.Read.remaining c.read.new.reader) (g.W.Write.contents c.answer_piece-in-loop-piece.new.writer) c.answer_piece-in-loop-piece.new.self.supervisor c.answer_piece-in-loop-piece.new.self.next piece c.answer_piece-in-loop-piece.new.part.items
           (rw c.reserve.ensures.items at c.in_ok-answer_piece-2.ensures.given (lines_of r.done) r.written r.so_far) c.in-Some.ensures.bytes.3);
       short = omega (arith, total, kept, c.given.ensures, c.loop-piece.invariant.short, c.if-count-room.false);
-      calls = omega (arith, c.in-Some.ensures.calls, c.calls.ensures, c.loop-piece-test.true);
+      calls = calls_more _ _ _ c.calls.ensures c.loop-piece-test.true c.in-Some.ensures.calls;
       first = c.in_ok-answer_piece-2.ensures.first;
       lines = omega (arith, total, same, c.in_ok-answer_piece-2.ensures.lines, c.loop-piece.invariant.lines);
       steps = omega (arith, total, same, c.in_ok-answer_piece-2.ensures.steps, c.loop-piece.invariant.steps);
@@ -122,3 +123,54 @@ returns-clause-run g c =
     reading_stops g.S.Starter.answer (g.R.Read.remaining c.args.reader.now) (g.R.Read.remaining c.loop-piece.reader) (g.W.Write.contents c.args.writer.now) (g.W.Write.contents c.loop-piece.writer)
     c.loop-piece.part.items c.loop-piece.session.supervisor c.loop-piece.session.next c.loop-piece.reads.given c.loop-piece.invariant.so_far c.loop-piece.invariant.short
     (g.R.Read.remaining c.loop-piece.reader) c.fault-2.result fault.ReadFault c.fault-2.ensures.fault c.fault-2.ensures.line (Keeps-refl (g.R.Read.remaining c.loop-piece.reader)) refl
+
+pub returns-then-is_err-clause-cause : goal.returns-then-is_err-clause-cause
+returns-then-is_err-clause-cause g c = rw c.fault.ensures.fault tt
+
+pub returns-in-None-clause-cause : goal.returns-in-None-clause-cause
+returns-in-None-clause-cause g c = rw c.fault-in-None.ensures.fault (inl c.in-None.ensures.bytes.0)
+
+pub returns-in_err-answer_lines-clause-cause : goal.returns-in_err-answer_lines-clause-cause
+returns-in_err-answer_lines-clause-cause g c =
+    let p = err_from_is_err_and c.from_residual.result c.from_residual.ensures.1 in
+    rw (p.1, p.2) (lines_cause c.read.new.self c.answer_lines.new.writes _ c.in_err-answer_lines.ensures.cause)
+
+pub returns-then-session-eq1-clause-cause : goal.returns-then-session-eq1-clause-cause
+returns-then-session-eq1-clause-cause g c = rw c.fault-then-session-eq1.ensures.fault tt
+
+pub returns-in_err-answer_piece-clause-cause : goal.returns-in_err-answer_piece-clause-cause
+returns-in_err-answer_piece-clause-cause g c =
+    let p = err_from_is_err_and c.from_residual-in_err-answer_piece.result c.from_residual-in_err-answer_piece.ensures.1 in
+    rw (p.1, p.2) (lines_cause c.read.new.self c.answer_piece.new.writes _ c.in_err-answer_piece.ensures.cause)
+
+pub returns-in_err-answer_piece-2-clause-cause : goal.returns-in_err-answer_piece-2-clause-cause
+returns-in_err-answer_piece-2-clause-cause g c =
+    let p = err_from_is_err_and c.from_residual-in_err-answer_piece-2.result c.from_residual-in_err-answer_piece-2.ensures.1 in
+    rw (p.1, p.2) (lines_cause c.read.new.self c.answer_piece-in-loop-piece.new.writes _ c.in_err-answer_piece-2.ensures.cause)
+
+pub returns-in-None-clause-reads : goal.returns-in-None-clause-reads
+returns-in-None-clause-reads g c = calls_more _ _ _ c.calls.ensures c.loop-piece-test.true c.in-None.ensures.calls
+
+pub returns-in_err-answer_lines-clause-reads : goal.returns-in_err-answer_lines-clause-reads
+returns-in_err-answer_lines-clause-reads g c = calls_more _ _ _ c.calls.ensures c.loop-piece-test.true c.in-Some.ensures.calls
+
+pub returns-then-session-eq1-clause-reads : goal.returns-then-session-eq1-clause-reads
+returns-then-session-eq1-clause-reads g c = calls_more _ _ _ c.calls.ensures c.loop-piece-test.true c.in-Some.ensures.calls
+
+pub returns-then-count-eq0-clause-reads : goal.returns-then-count-eq0-clause-reads
+returns-then-count-eq0-clause-reads g c = calls_more _ _ _ c.calls.ensures c.loop-piece-test.true c.in-Some.ensures.calls
+
+pub returns-in_err-answer_piece-clause-reads : goal.returns-in_err-answer_piece-clause-reads
+returns-in_err-answer_piece-clause-reads g c = calls_more _ _ _ c.calls.ensures c.loop-piece-test.true c.in-Some.ensures.calls
+
+pub returns-then-count-room-clause-reads : goal.returns-then-count-room-clause-reads
+returns-then-count-room-clause-reads g c = calls_more _ _ _ c.calls.ensures c.loop-piece-test.true c.in-Some.ensures.calls
+
+pub returns-in_err-answer_piece-2-clause-reads : goal.returns-in_err-answer_piece-2-clause-reads
+returns-in_err-answer_piece-2-clause-reads g c = calls_more _ _ _ c.calls.ensures c.loop-piece-test.true c.in-Some.ensures.calls
+
+pub returns-then-is_err-clause-reads : goal.returns-then-is_err-clause-reads
+returns-then-is_err-clause-reads g c = c.loop-piece.invariant.calls
+
+pub returns-clause-reads : goal.returns-clause-reads
+returns-clause-reads g c = c.loop-piece.invariant.calls

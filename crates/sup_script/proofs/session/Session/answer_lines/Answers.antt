@@ -2,6 +2,7 @@ use Rattle.std.proofs.Common.{◌≡◌, ◌+◌, [], length, ap, arith}
 use Rattle.std.proofs.lemmas.Result.{err_from_is_err_and}
 use Rattle.std.proofs.lemmas.Bool.Decides.{nat_tests}
 use Rattle.sup_script.specs.Script.{lines_of}
+use Rattle.sup_script.proofs.Causing.{line_cause}
 use Rattle.sup_script.proofs.LineCuts.{lines-none}
 use Rattle.sup_script.proofs.Running.{partly_none, partly_more, partly_passed, partly_torn, partly_stops, partly_ends, few_left}
 use Rattle.sup_script.proofs.session.Session.answer_lines.Goals as goal
@@ -71,3 +72,19 @@ returns-clause-given g c = λ front text s.
     partly_ends g.S.Starter.answer front text (lines_of c.args.input.now) (g.W.Write.contents c.args.writer.now)
     c.loop-rest.self.outbox.bytes.items c.loop-rest.self.outbox.ends.items c.flush-2.new.self.bytes.items c.flush-2.new.self.ends.items c.loop-rest.self.supervisor (g.W.Write.contents c.loop-rest.writer) (g.W.Write.contents c.flush-2.new.writer) c.loop-rest.self.next
     c.flush-2.result (rw all at c.loop-rest.invariant.so_far front text s) c.flush-2.ensures.flushed
+
+pub returns-in_err-flush-clause-cause : goal.returns-in_err-flush-clause-cause
+returns-in_err-flush-clause-cause g c =
+    let p = err_from_is_err_and c.from_residual.result c.from_residual.ensures.1 in
+    rw (p.1, p.2) c.in_err-flush.ensures.cause
+
+pub returns-in-Err-clause-cause : goal.returns-in-Err-clause-cause
+returns-in-Err-clause-cause g c = rw c.fault.ensures.fault (line_cause _ _ c.in-Err.ensures.fault)
+
+pub returns-in_err-flush_if_full-clause-cause : goal.returns-in_err-flush_if_full-clause-cause
+returns-in_err-flush_if_full-clause-cause g c =
+    let p = err_from_is_err_and c.from_residual-in_err-flush_if_full.result c.from_residual-in_err-flush_if_full.ensures.1 in
+    rw (p.1, p.2) c.in_err-flush_if_full.ensures.cause
+
+pub returns-clause-cause : goal.returns-clause-cause
+returns-clause-cause g c = c.flush-2.ensures.cause
