@@ -1,6 +1,7 @@
 pub mod Agree
 pub mod Called
 pub mod DrainLemmas
+mod Handed
 pub mod Led
 pub mod Moves
 pub mod Reported

@@ -22,7 +22,7 @@ use std::thread::{Scope, Threads};
 use sup_desk::{Desk, Handle, Name, UpdateFault};
 use sup_inbox::{Inbox, Poster, Taker};
 use sup_log::Ticket;
-use sup_types::{OutOfMemory, Starter, Text};
+use sup_types::{Starter, Text};
 
 /// A run whose workers were joined.
 #[derive(Drop)]
@@ -67,7 +67,7 @@ fn drive<'s, 'd: 's, E, N, S, P, B, R>(
     askers: Vec<Asker<'d, N, S, P>>,
     taker: Taker,
     finished: Vec<Finished<N>>,
-) -> Result<Joined<N>, OutOfMemory>
+) -> Result<Joined<N>, CrewFault>
 where
     N: Name + Send + Sync + 's,
     S: Starter + Drop + Send + Sync + 's,
@@ -82,9 +82,8 @@ where
     ensures joined { IfOk result (λ j. IsJoined (B.may_end body.now) N.template N.press jobs.now inbox.now.id (vec_len posters) children.now j) }
     ensures ready { IfOk result (λ j. IsReady j.hand j.queued (vec_len j.left) (vec_capacity j.left)) }
 {
-    let workers = Vec::with_capacity(alloc, posters.len())?;
     let (hand, workers) = start(
-        scope, rt, jobs, inbox, body, over, turns, hand, posters, askers, workers,
+        scope, rt, alloc, jobs, inbox, body, over, turns, hand, posters, askers,
     )?;
     let mut lead = Lead {
         handle,
@@ -171,9 +170,8 @@ where
 {
     let handle = desk.handle(rt)?;
     let askers = lend(rt, alloc, desk, posters.len())?;
-    let joined = drive(
+    drive(
         scope, rt, alloc, jobs, inbox, body, over, turns, moment, children, handle, hand, posters,
         askers, taker, finished,
-    )?;
-    Ok(joined)
+    )
 }

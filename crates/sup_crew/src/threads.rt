@@ -9,6 +9,7 @@ use crate::body::Body;
 use crate::finished::Finished;
 use crate::queue::{Hand, Jobs};
 use crate::worker::work;
+use std::alloc::Global;
 use std::sync::Wait;
 use std::sync::atomic::{AtomicBool, Ordering};
 use std::thread::{Promise, PromisedHandle, Scope, Threads};
@@ -47,6 +48,7 @@ pub type Worker<'a, N, B> = PromisedHandle<Finished<N>, Works<'a, N, B>>;
 pub fn start<'s, 'd: 's, E, N, S, P, B, R>(
     scope: &Scope<'s, E>,
     rt: &'s R,
+    alloc: Global,
     jobs: &'s Jobs<N>,
     inbox: &'s Inbox,
     body: &'s B,
@@ -55,7 +57,6 @@ pub fn start<'s, 'd: 's, E, N, S, P, B, R>(
     hand: Hand<N>,
     posters: Vec<Poster>,
     askers: Vec<Asker<'d, N, S, P>>,
-    workers: Vec<Worker<'s, N, B>>,
 ) -> Result<(Hand<N>, Vec<Worker<'s, N, B>>), OutOfMemory>
 where
     N: Name + Send + Sync + 's,
@@ -65,14 +66,13 @@ where
     R: Threads + Wait + Sync,
     requires hand { hand ≡ record { queue = jobs.now; share = share 1024 [] [] } }
     requires posters { AreFrom inbox.now.id 1 posters.items × AreNew posters.items × (vec_len posters < 1024) }
-    requires workers { (vec_len workers ≡ 0) × (vec_len posters ≤ vec_capacity workers) }
     ensures hand { IfOk result (λ r. (r.0 ≡ record { queue = jobs.now; share = share r.0.share.parts [] [] }) × (r.0.share.parts + vec_len posters ≡ 1024)) }
     ensures len { IfOk result (λ r. vec_len r.1 ≡ vec_len posters) }
     ensures each { IfOk result (λ r. (k : ℕ) (d : _) → k < vec_len posters → ((slice_index_or r.1.items k d).promise.jobs.now ≡ jobs.now) × ((slice_index_or r.1.items k d).promise.inbox.now.id ≡ inbox.now.id) × ((slice_index_or r.1.items k d).promise.body.now ≡ body.now) × ((slice_index_or r.1.items k d).promise.number ≡ k + 1)) }
 {
     let mut hand = hand;
     let mut askers = askers;
-    let mut workers = workers;
+    let mut workers = Vec::with_capacity(alloc, posters.len())?;
     for poster in posters {
         let number = poster.number();
         let promise = Works {
