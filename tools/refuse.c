@@ -1,11 +1,13 @@
 // Refuses one allocation of a process: the one whose number the variable REFUSE gives, counted from 1. It is preloaded
 // before the C library by the script `refusals` beside it, and is no part of the program. Once it is refused, the file that
-// REFUSE_TOLD names is made: without it, the process has made fewer allocations.
+// REFUSE_TOLD names is made: without it, the process has made fewer allocations. How many it made is written at its end to
+// the file that REFUSE_MADE names.
 #define _GNU_SOURCE
 #include <dlfcn.h>
 #include <errno.h>
 #include <fcntl.h>
 #include <stdatomic.h>
+#include <stdio.h>
 #include <stdlib.h>
 #include <unistd.h>
 
@@ -50,4 +52,13 @@ void *realloc(void *old, size_t size) {
     if (!real)
         real = (__typeof__(&realloc))dlsym(RTLD_NEXT, "realloc");
     return is_refused() ? NULL : real(old, size);
+}
+
+__attribute__((destructor)) static void count(void) {
+    const char *path = getenv("REFUSE_MADE");
+    int file = path ? open(path, O_CREAT | O_WRONLY | O_TRUNC, 0600) : -1;
+    char text[24];
+    int length = snprintf(text, sizeof text, "%ld\n", made);
+    if (file >= 0 && write(file, text, length) == length)
+        close(file);
 }

@@ -17,8 +17,8 @@ ghost use Rattle.sup_core.specs.Queries.{which, count, child};
 mod child;
 mod near;
 mod table;
-#[cfg(test)]
-mod tests;
+
+pub use near::Near;
 
 use std::alloc::{Allocator, Global};
 use std::marker::Model;

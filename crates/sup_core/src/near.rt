@@ -9,7 +9,8 @@ ghost use Rattle.sup_core.specs.Near.{near_hash};
 
 use std::hash::{BuildHasher, Hasher};
 
-/// Hashes a number of eight bytes. It does not read other keys.
+/// Hashes a number of eight bytes; it does not read other keys. A map of a caller's own that is keyed by children's numbers
+/// may use it too.
 #[derive(Clone, Copy)]
 pub struct Near {
     number: u64,

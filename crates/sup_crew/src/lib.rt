@@ -35,8 +35,6 @@ mod queue;
 mod report;
 mod run;
 mod tally;
-#[cfg(test)]
-mod tests;
 mod threads;
 mod turns;
 mod worker;

@@ -47,6 +47,3 @@ pub use handle::{Dones, Handle, Part};
 pub use laws::{Done, Rest};
 pub use name::Name;
 pub use pass::Pass;
-
-#[cfg(test)]
-mod tests;

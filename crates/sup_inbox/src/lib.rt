@@ -20,8 +20,6 @@ pub mod inbox;
 pub mod note;
 pub mod rule;
 pub mod settling;
-#[cfg(test)]
-mod tests;
 
 pub use inbox::{Inbox, InboxFull, Poster, Root, Taker};
 pub use note::Note;

@@ -1,7 +1,9 @@
 //! The load: a crew over a desk, and readers that ask meanwhile.
 
-ghost use Rattle.std.specs.Prelude.{◌≡◌, ◌≤◌, ◌⊎◌, Err, IfOk, MatchResult, vec_len};
+ghost use Rattle.std.specs.Prelude.{◌≡◌, ◌≤◌, ◌⊎◌, Err, IfOk, OnOk, MatchResult, vec_len};
+ghost use Rattle.std.specs.Io.KnownBytes.{Appends};
 ghost use Rattle.sup_load.specs.Loads.{end_of};
+ghost use Rattle.sup_load.specs.Lines.{load_lines, named};
 ghost use Rattle.sup_load.specs.declared.fault.LoadFault.TheVariants.{WriteFault};
 
 use crate::fault::LoadFault;
@@ -60,16 +62,16 @@ const CREW_TURNS: u64 = 1_000_000_000;
 
 /// What a load came to.
 #[derive(Clone, Copy)]
-pub(crate) struct Sums {
-    pub(crate) made: u64,
-    pub(crate) exits: u64,
-    pub(crate) strays: u64,
-    pub(crate) restarts: u64,
-    pub(crate) given_up: u64,
-    pub(crate) left: usize,
-    pub(crate) held: usize,
-    pub(crate) reads: u64,
-    pub(crate) fault: Option<LoadFault>,
+struct Sums {
+    made: u64,
+    exits: u64,
+    strays: u64,
+    restarts: u64,
+    given_up: u64,
+    left: usize,
+    held: usize,
+    reads: u64,
+    fault: Option<LoadFault>,
 }
 
 /// A body that ends at once.
@@ -104,7 +106,8 @@ pub fn run_load<R: Threads + Wait + Sync, W: Write>(
 /// Writes what a load came to, if there is a report.
 fn tell<W: Write>(outcome: Result<Sums, LoadFault>, out: &mut W) -> Result<(), LoadFault>
     ensures { MatchResult outcome
-        (λ sums. (result ≡ end_of sums.fault) ⊎ (result ≡ Err WriteFault))
+        (λ sums. ((result ≡ end_of sums.fault) × Appends (W.contents out.old) (W.contents out.new) (load_lines sums))
+        ⊎ (result ≡ Err WriteFault))
         (λ fault. (result ≡ Err fault) × (W.contents out.new ≡ W.contents out.old)) }
 {
     let sums = outcome?;
@@ -118,23 +121,26 @@ fn tell<W: Write>(outcome: Result<Sums, LoadFault>, out: &mut W) -> Result<(), L
 }
 
 /// Writes the two lines of a report.
-pub(crate) fn write_lines<W: Write>(sums: &Sums, out: &mut W) -> io::Result<()> {
-    let Sums {
-        made,
-        exits,
-        strays,
-        restarts,
-        given_up,
-        left,
-        held,
-        reads,
-        fault: _,
-    } = *sums;
-    writeln!(
-        out,
-        "made {made} exits {exits} strays {strays} restarts {restarts} gave_up {given_up} left {left} held {held}"
-    )?;
-    writeln!(out, "reads {reads}")
+fn write_lines<W: Write>(sums: &Sums, out: &mut W) -> io::Result<()>
+    ensures { OnOk result (Appends (W.contents out.old) (W.contents out.new) (load_lines sums.now)) }
+{
+    write_number(out, "made ", sums.made)?;
+    write_number(out, " exits ", sums.exits)?;
+    write_number(out, " strays ", sums.strays)?;
+    write_number(out, " restarts ", sums.restarts)?;
+    write_number(out, " gave_up ", sums.given_up)?;
+    write_number(out, " left ", sums.left as u64)?;
+    write_number(out, " held ", sums.held as u64)?;
+    write_number(out, "\nreads ", sums.reads)?;
+    out.write_all(b"\n")?;
+    Ok(())
+}
+
+/// Writes a number behind its name.
+fn write_number<W: Write>(out: &mut W, name: &str, number: u64) -> io::Result<()>
+    ensures { OnOk result (Appends (W.contents out.old) (W.contents out.new) (named name.now number)) }
+{
+    write!(out, "{name}{number}")
 }
 
 /// Runs the load.

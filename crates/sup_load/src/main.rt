@@ -8,8 +8,6 @@
 mod fault;
 mod load;
 mod program;
-#[cfg(test)]
-mod tests;
 mod words;
 
 use program::{Status, run_words};

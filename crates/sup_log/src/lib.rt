@@ -39,6 +39,3 @@ pub use lens::Lens;
 pub use press::Press;
 pub use ticket::Ticket;
 pub use view::View;
-
-#[cfg(test)]
-mod tests;

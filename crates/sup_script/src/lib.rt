@@ -54,6 +54,3 @@ pub use reply::write_reply;
 pub use script::{run, run_watched};
 pub use starter::ScriptStarter;
 pub use watch::{ReadWatch, WriteWatch};
-
-#[cfg(test)]
-mod tests;

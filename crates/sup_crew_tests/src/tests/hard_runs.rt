@@ -1,0 +1,167 @@
+//! A run whose children are ended by another thread, and one that is refused memory.
+ghost use Rattle.std.specs.Prelude.{◌≡◌, ◌≤◌, ◌^◌};
+
+use super::runs::{Ends, Row, USUAL, listed, plan, template};
+use super::{Always, text};
+use std::alloc::Global;
+use std::marker::Brand;
+use std::process::Abort;
+use std::sync::Wait;
+use std::sync::atomic::{AtomicBool, Ordering};
+use std::test::*;
+use std::thread::{Threads, join, yield_now};
+use sup_crew::{Asker, Body, CrewFault, Plan, Report, run_crew};
+use sup_desk::{Desk, Ground, Handle, Name, UpdateFault};
+use sup_types::{Reason, Reply, Seen, Starter, Text};
+
+/// How often another thread is waited for at most.
+const TURNS: u64 = 10_000_000;
+
+/// Each body waits for the flag.
+#[derive(Drop)]
+struct Waits {
+    ended: AtomicBool,
+}
+
+impl Body for Waits {
+    ghost use Rattle.sup_types.specs.declared.reason.Reason.TheVariants.{Normal};
+
+    ghost may_end = { λ body number arg reason. reason ≡ Normal };
+
+    fn run<N: Name, S: Starter + Drop, R: Wait + Drop>(
+        &self,
+        _number: u64,
+        _arg: &Text,
+        _asker: &mut Asker<'_, N, S, R>,
+    ) -> Reason {
+        for _ in 0..TURNS {
+            if self.ended.load(Ordering::SeqCst) {
+                break;
+            }
+            yield_now();
+        }
+        Reason::Normal
+    }
+}
+
+/// Terminates the three children once they run, and then sets the flag. How many were ended.
+fn end_three<N: Name, R: Wait>(
+    rt: &R,
+    handle: &mut Handle<'_, N, Always, &R>,
+    body: &Waits,
+) -> u64 {
+    for _ in 0..TURNS {
+        if matches!(handle.count_children(), Ok(Seen::Up(counts)) if counts.workers == 3) {
+            break;
+        }
+        yield_now();
+    }
+    let mut ended = 0;
+    for number in [1, 2, 3] {
+        if let Ok(done) = handle.terminate_child(rt, 0, number)
+            && done.reply == Reply::Ended
+            && ended < 3
+        {
+            ended += 1;
+        }
+    }
+    body.ended.store(true, Ordering::SeqCst);
+    ended
+}
+
+/// Runs the crew while another thread ends its children.
+fn run_beside<N: Name + Send + Sync, R: Threads + Wait + Sync>(
+    rt: &R,
+    alloc: Global,
+    desk: &Desk<N, Always, &R>,
+    handle: &mut Handle<'_, N, Always, &R>,
+    body: &Waits,
+    plan: Plan,
+) -> (Result<Report<N>, CrewFault>, u64)
+    requires workers { (1 ≤ plan.workers) × (plan.workers ≤ 64) }
+    requires inbox { (1 ≤ plan.inbox) × (plan.inbox ≤ 65536) }
+    requires turns { (1 ≤ plan.turns) × (plan.turns ≤ 2 ^ 62) }
+{
+    join(
+        rt,
+        move || -> Result<Report<N>, CrewFault>
+            requires workers { (1 ≤ plan.workers) × (plan.workers ≤ 64) }
+            requires inbox { (1 ≤ plan.inbox) × (plan.inbox ≤ 65536) }
+            requires turns { (1 ≤ plan.turns) × (plan.turns ≤ 2 ^ 62) }
+        { run_crew(rt, alloc, desk, body, plan) },
+        || end_three(rt, handle, body),
+    )
+}
+
+fn run_and_end<N: Name + Send + Sync, R: Threads + Wait + Abort + Sync>(
+    rt: &R,
+    alloc: Global,
+    ground: Ground<&R>,
+) -> Result<(), Fail>
+    requires { (ground.press ≡ N.press) × (ground.template ≡ N.template) }
+{
+    let desk: Desk<N, Always, &R> = Desk::new(ground, Always);
+    let mut handle = desk.handle(rt)?;
+    let body = Waits {
+        ended: AtomicBool::new(false),
+    };
+    let row = Row {
+        workers: 3,
+        ..USUAL
+    };
+    let Some(plan) = plan(rt, alloc, row) else {
+        return Err(Fail::from("a plan"));
+    };
+    let (report, ended) = run_beside(rt, alloc, &desk, &mut handle, &body, plan);
+    let Ok(report) = report else {
+        return Err(Fail::from("a report"));
+    };
+    assert_eq!(rt; ended, 3);
+    assert_eq!(rt; (report.made, report.exits, report.strays), (3, 3, 3));
+    assert_eq!(rt; (listed(&report), report.fault), (0, None));
+    Ok(())
+}
+
+#[test]
+fn exits_of_children_that_were_ended_are_strays(rt: HostRuntime) -> Result<(), Fail> {
+    let ground = Ground::new(rt.alloc(), &rt, template(&rt, USUAL), 5)?;
+    run_and_end::<Brand, HostRuntime>(&rt, rt.alloc(), ground)
+}
+
+/// Each child that was made ended or is listed, whatever is refused; and a run that is refused has entered nothing.
+fn bear<N: Name + Send + Sync, R: Threads + Wait + Abort + Sync>(
+    rt: &R,
+    alloc: Global,
+    ground: Ground<&R>,
+)
+    requires { (ground.press ≡ N.press) × (ground.template ≡ N.template) }
+{
+    let desk: Desk<N, Always, &R> = Desk::new(ground, Always);
+    let Ok(mut first) = desk.handle(rt) else {
+        return;
+    };
+    let Some(plan) = plan(rt, alloc, USUAL) else {
+        return;
+    };
+    match run_crew(rt, alloc, &desk, &Ends::new(false), plan) {
+        Ok(report) => {
+            let told = report.exits.wrapping_add(listed(&report));
+            assert_eq!(rt; told, report.made);
+            let begun = report.made.wrapping_add(report.unstarted.len() as u64);
+            assert_eq!(rt; begun, 3);
+            assert!(rt; matches!(report.fault, None | Some(UpdateFault::OutOfMemory)));
+        }
+        Err(fault) => {
+            assert!(rt; fault != CrewFault::NoHandle);
+            let ticket = first.ticket(rt);
+            assert_eq!(rt; ticket.ok().map(|ticket| ticket.stamp()), Some(0));
+        }
+    }
+}
+
+#[test]
+fn a_run_bears_a_refusal(rt: HostRuntime) {
+    if let Ok(ground) = Ground::new(rt.alloc(), &rt, template(&rt, USUAL), 4) {
+        bear::<Brand, HostRuntime>(&rt, rt.alloc(), ground);
+    }
+}

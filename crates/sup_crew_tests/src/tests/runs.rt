@@ -1,0 +1,300 @@
+//! Whole runs: what their reports say, that a desk with too few handles begins none, and that workers run at the same time.
+ghost use Rattle.std.specs.Prelude.{◌≡◌, ◌≤◌, ◌^◌, IfSome};
+
+use super::{Always, text};
+use std::alloc::Global;
+use std::marker::Brand;
+use std::process::Abort;
+use std::sync::Wait;
+use std::sync::atomic::{AtomicBool, Ordering};
+use std::test::*;
+use std::thread;
+use std::thread::Threads;
+use sup_crew::{Asker, Body, CrewFault, Plan, Report, run_crew};
+use sup_desk::{Desk, Ground, Name, UpdateFault};
+use sup_types::{AutoShutdown, Kind, Reason, Restart, Seen, Starter, Template, Text};
+
+/// Each body ends at once, but for that of child 1 where it is to wait until that of child 2 has begun.
+#[derive(Drop)]
+pub struct Ends {
+    waits: bool,
+    second: AtomicBool,
+    met: AtomicBool,
+}
+
+impl Body for Ends {
+    ghost use Rattle.sup_types.specs.declared.reason.Reason.TheVariants.{Normal};
+
+    ghost may_end = { λ body number arg reason. reason ≡ Normal };
+
+    fn run<N: Name, S: Starter + Drop, R: Wait + Drop>(
+        &self,
+        number: u64,
+        _arg: &Text,
+        _asker: &mut Asker<'_, N, S, R>,
+    ) -> Reason {
+        if number == 2 {
+            self.second.store(true, Ordering::SeqCst);
+        }
+        if self.waits && number == 1 {
+            for _ in 0..10_000_000u64 {
+                if self.second.load(Ordering::SeqCst) {
+                    self.met.store(true, Ordering::SeqCst);
+                    break;
+                }
+                thread::yield_now();
+            }
+        }
+        Reason::Normal
+    }
+}
+
+impl Ends {
+    pub fn new(waits: bool) -> Ends {
+        Ends {
+            waits,
+            second: AtomicBool::new(false),
+            met: AtomicBool::new(false),
+        }
+    }
+}
+
+/// A run, and what its report is to say.
+#[derive(Clone, Copy)]
+pub struct Row {
+    pub restart: Restart,
+    pub intensity: u64,
+    pub max: u64,
+    pub entries: u64,
+    pub shutdown: AutoShutdown,
+    pub children: usize,
+    pub workers: usize,
+    pub inbox: usize,
+    pub turns: u64,
+    // made, strays, downs, restarts, given_up, refused
+    pub counts: [u64; 6],
+    pub exits: Option<u64>,
+    pub fault: Option<UpdateFault>,
+    pub down: bool,
+    pub waits: bool,
+}
+
+/// Two workers and an inbox of eight places for temporary children, of which each ends.
+pub const USUAL: Row = Row {
+    restart: Restart::Temporary,
+    intensity: 0,
+    max: 1000,
+    entries: 1 << 62,
+    shutdown: AutoShutdown::Never,
+    children: 3,
+    workers: 2,
+    inbox: 8,
+    turns: 1 << 62,
+    counts: [3, 0, 0, 0, 0, 0],
+    exits: Some(3),
+    fault: None,
+    down: false,
+    waits: false,
+};
+
+pub fn template(rt: &impl Abort, row: Row) -> Template {
+    let made = Template::new(
+        row.restart,
+        Kind::Worker,
+        row.intensity,
+        5,
+        row.max,
+        row.entries,
+    );
+    let significant = row.shutdown != AutoShutdown::Never;
+    match made.and_then(|template| template.with_shutdown(significant, row.shutdown)) {
+        Ok(template) => template,
+        Err(_) => panic!(rt; "a template"),
+    }
+}
+
+pub fn plan(rt: &impl Abort, alloc: Global, row: Row) -> Option<Plan>
+    ensures workers { IfSome result (λ p. (1 ≤ p.workers) × (p.workers ≤ 64)) }
+    ensures inbox { IfSome result (λ p. (1 ≤ p.inbox) × (p.inbox ≤ 65536)) }
+    ensures turns { IfSome result (λ p. (1 ≤ p.turns) × (p.turns ≤ 2 ^ 62)) }
+{
+    if row.workers == 0 || row.workers > 64 || row.inbox == 0 || row.inbox > 65536 {
+        return None;
+    }
+    if row.turns == 0 || row.turns > 1 << 62 {
+        return None;
+    }
+    let mut children = Vec::new(alloc);
+    for _ in 0..row.children {
+        children.push(text(rt, "a")).ok()?;
+    }
+    Some(Plan {
+        children,
+        workers: row.workers,
+        inbox: row.inbox,
+        turns: row.turns,
+        moment: 0,
+    })
+}
+
+/// That the report says what it is to say, and that each child that was made ended or stands in one of its lists. How many
+/// did not end.
+fn assert_report<N: Name>(rt: &impl Abort, row: Row, report: &Report<N>) -> u64 {
+    let counts = [
+        report.made,
+        report.strays,
+        report.downs,
+        report.restarts,
+        report.given_up,
+        report.refused,
+    ];
+    assert_eq!(rt; counts, row.counts);
+    assert_eq!(rt; report.fault, row.fault);
+    assert_eq!(rt; report.unstarted.len(), 0);
+    if let Some(exits) = row.exits {
+        assert_eq!(rt; report.exits, exits);
+    }
+    let listed = listed(report);
+    assert_eq!(rt; report.exits.wrapping_add(listed), report.made);
+    listed
+}
+
+/// How many children stand in the report's lists.
+pub fn listed<N: Name>(report: &Report<N>) -> u64 {
+    let noted = report.held.len().wrapping_add(report.inbox.len());
+    let kept = report.unposted.len().wrapping_add(report.left.len());
+    noted.wrapping_add(kept) as u64
+}
+
+/// Runs a crew on a desk with one handle more, which is made afterwards: it has seen each update, and lists the children that
+/// did not end.
+fn run_row<N: Name + Send + Sync, R: Threads + Wait + Abort + Sync>(
+    rt: &R,
+    alloc: Global,
+    ground: Ground<&R>,
+    row: Row,
+) -> Result<(), Fail>
+    requires { (ground.press ≡ N.press) × (ground.template ≡ N.template) }
+{
+    let desk: Desk<N, Always, &R> = Desk::new(ground, Always);
+    let body = Ends::new(row.waits);
+    let Some(plan) = plan(rt, alloc, row) else {
+        return Err(Fail::from("a plan"));
+    };
+    let Ok(report) = run_crew(rt, alloc, &desk, &body, plan) else {
+        return Err(Fail::from("a report"));
+    };
+    let listed = assert_report(rt, row, &report);
+    assert_eq!(rt; body.met.load(Ordering::SeqCst), row.waits);
+    let mut later = desk.handle(rt)?;
+    let updates = report
+        .made
+        .wrapping_add(report.refused)
+        .wrapping_add(report.exits);
+    assert_eq!(rt; later.front(), updates.wrapping_sub(report.restarts));
+    match later.count_children() {
+        Ok(Seen::Up(counts)) => {
+            assert_eq!(rt; (row.down, counts.active), (false, listed));
+        }
+        Ok(Seen::Down) => assert!(rt; row.down),
+        Err(_) => panic!(rt; "counts"),
+    }
+    Ok(())
+}
+
+const ROWS: [Row; 8] = [
+    Row {
+        max: 10,
+        entries: 3,
+        exits: Some(0),
+        fault: Some(UpdateFault::HistoryFull),
+        ..USUAL
+    },
+    Row {
+        restart: Restart::Permanent,
+        children: 2,
+        counts: [2, 0, 1, 0, 1, 0],
+        exits: Some(2),
+        down: true,
+        ..USUAL
+    },
+    Row {
+        restart: Restart::Permanent,
+        intensity: 3,
+        children: 1,
+        workers: 1,
+        counts: [4, 0, 0, 3, 1, 0],
+        exits: Some(4),
+        down: true,
+        ..USUAL
+    },
+    Row {
+        inbox: 1,
+        turns: 1,
+        exits: None,
+        ..USUAL
+    },
+    Row {
+        max: 2,
+        counts: [2, 0, 0, 0, 0, 1],
+        exits: Some(2),
+        ..USUAL
+    },
+    Row {
+        shutdown: AutoShutdown::All,
+        children: 2,
+        counts: [2, 0, 0, 0, 0, 0],
+        exits: Some(2),
+        down: true,
+        ..USUAL
+    },
+    Row {
+        children: 100,
+        workers: 4,
+        counts: [100, 0, 0, 0, 0, 0],
+        exits: Some(100),
+        ..USUAL
+    },
+    Row {
+        waits: true,
+        children: 2,
+        counts: [2, 0, 0, 0, 0, 0],
+        exits: Some(2),
+        ..USUAL
+    },
+];
+
+#[test]
+fn each_child_of_a_run_is_told_of(rt: HostRuntime) -> Result<(), Fail> {
+    for row in ROWS {
+        let handles = (row.workers as u64).saturating_add(2);
+        let ground = Ground::new(rt.alloc(), &rt, template(&rt, row), handles)?;
+        run_row::<Brand, HostRuntime>(&rt, rt.alloc(), ground, row)?;
+    }
+    Ok(())
+}
+
+fn run_on_two<N: Name + Send + Sync, R: Threads + Wait + Abort + Sync>(
+    rt: &R,
+    alloc: Global,
+    ground: Ground<&R>,
+) -> Result<(), Fail>
+    requires { (ground.press ≡ N.press) × (ground.template ≡ N.template) }
+{
+    let desk: Desk<N, Always, &R> = Desk::new(ground, Always);
+    let mut first = desk.handle(rt)?;
+    let Some(plan) = plan(rt, alloc, USUAL) else {
+        return Err(Fail::from("a plan"));
+    };
+    let report = run_crew(rt, alloc, &desk, &Ends::new(false), plan);
+    assert_eq!(rt; report.err(), Some(CrewFault::NoHandle));
+    let ticket = first.ticket(rt);
+    assert_eq!(rt; ticket.ok().map(|ticket| ticket.stamp()), Some(0));
+    Ok(())
+}
+
+#[test]
+fn a_desk_with_too_few_handles_begins_no_run(rt: HostRuntime) -> Result<(), Fail> {
+    let ground = Ground::new(rt.alloc(), &rt, template(&rt, USUAL), 2)?;
+    run_on_two::<Brand, HostRuntime>(&rt, rt.alloc(), ground)
+}

@@ -1,5 +1,0 @@
-use Rattle.sup_desk.proofs.tests.rows.makes_as_many_handles_and_entries_as_it_was_told.Given as goal
-
--- the ground that was just made
-abbrev pub ghosts-fill : goal.ghosts-fill
-ghosts-fill g a = record { press = a.ground.press; template = a.ground.template }

@@ -1,0 +1,149 @@
+//! Growth that is refused. The memory is the global allocator's, so each test passes whichever single allocation is
+//! refused, and looks at what a refusal leaves.
+ghost use Rattle.std.specs.Prelude.{◌≡◌};
+
+use super::{Always, call, four, made, replied, template, text};
+use std::alloc::Global;
+use std::collections::VecDeque;
+use std::marker::Brand;
+use std::process::Abort;
+use std::sync::Wait;
+use std::test::*;
+use sup_desk::{Desk, DeskFault, Done, Dones, Ground, Handle, Name, Part, QueryFault, UpdateFault};
+use sup_types::{Counts, Operation, Reason, Reply, Restart, Seen};
+
+/// How many children are listed after each update of the row of five.
+const LISTED: [Option<usize>; 5] = [Some(1), Some(1), Some(1), Some(0), None];
+
+const REPLIES: [Reply; 5] = [
+    Reply::Started(1),
+    Reply::Restarted(1, 2),
+    Reply::NotFound,
+    Reply::Ended,
+    Reply::Stopped,
+];
+
+/// The update of this place in a row of five.
+fn operation(rt: &impl Abort, place: usize) -> Operation {
+    match place {
+        0 => Operation::Start(text(rt, "a")),
+        1 => Operation::Exit(1, Reason::Normal),
+        2 => Operation::Retry(2),
+        3 => Operation::Terminate(2),
+        _ => Operation::Stop,
+    }
+}
+
+/// What is answered and seen.
+fn seen<N: Name, R: Wait>(handle: &mut Handle<'_, N, Always, &R>) -> (Option<Seen<Counts>>, u64) {
+    (handle.count_children().ok(), handle.front())
+}
+
+/// An update that is refused leaves what is answered and seen, and is made a second time.
+fn update<N: Name, R: Wait + Abort>(
+    rt: &R,
+    handle: &mut Handle<'_, N, Always, &R>,
+    place: usize,
+) -> Result<Done, UpdateFault> {
+    let before = seen(handle);
+    let done = call(rt, handle, 0, operation(rt, place));
+    if done.is_ok() {
+        return done;
+    }
+    assert_eq!(rt; done.err(), Some(UpdateFault::OutOfMemory));
+    assert_eq!(rt; seen(handle), before);
+    call(rt, handle, 0, operation(rt, place))
+}
+
+/// How many children are listed, where it is up. A list that is refused leaves what is seen, and is made a second time.
+fn listed<N: Name, R: Wait + Abort>(
+    rt: &R,
+    handle: &mut Handle<'_, N, Always, &R>,
+) -> Option<usize> {
+    let front = handle.front();
+    let mut rows = handle.which_children();
+    if let Err(fault) = rows {
+        assert_eq!(rt; (fault, handle.front()), (QueryFault::OutOfMemory, front));
+        rows = handle.which_children();
+    }
+    match rows {
+        Ok(Seen::Up(rows)) => Some(rows.len()),
+        Ok(Seen::Down) => None,
+        Err(_) => panic!(rt; "the children are listed"),
+    }
+}
+
+fn bear_updates<N: Name, R: Wait + Abort>(rt: &R, ground: Ground<&R>)
+    requires { (ground.press ≡ N.press) × (ground.template ≡ N.template) }
+{
+    let desk: Desk<N, Always, &R> = Desk::new(ground, Always);
+    let mut handle = made(rt, &desk);
+    for place in 0..5 {
+        let done = update(rt, &mut handle, place);
+        replied(rt, done, REPLIES[place]);
+        assert_eq!(rt; listed(rt, &mut handle), LISTED[place]);
+    }
+    assert_eq!(rt; (handle.number(), handle.front()), (1, 5));
+}
+
+#[test]
+fn a_refused_update_is_entered_the_next_time(rt: HostRuntime) -> Result<(), Fail> {
+    let template = template(&rt, Restart::Permanent, 10, 1 << 62);
+    match Ground::new(rt.alloc(), &rt, template, 1) {
+        Ok(ground) => bear_updates::<Brand, HostRuntime>(&rt, ground),
+        Err(fault) => assert_eq!(rt; fault, DeskFault::OutOfMemory),
+    }
+    Ok(())
+}
+
+/// How many were entered. Where some were not, it was for want of memory.
+fn entered(rt: &impl Abort, applied: Result<Dones, Part>) -> usize {
+    match applied {
+        Ok(done) => done.replies.len(),
+        Err(part) => {
+            assert_eq!(rt; part.fault, UpdateFault::OutOfMemory);
+            part.replies.len()
+        }
+    }
+}
+
+/// Four operations and an exit of no child. The list of what is not yet published grows at the first and at the fifth.
+fn bear_batch<N: Name, R: Wait + Abort>(
+    rt: &R,
+    alloc: Global,
+    ground: Ground<&R>,
+    operations: VecDeque<Operation>,
+)
+    requires { (ground.press ≡ N.press) × (ground.template ≡ N.template) }
+{
+    let desk: Desk<N, Always, &R> = Desk::new(ground, Always);
+    let mut handle = made(rt, &desk);
+    let mut operations = operations;
+    let first = entered(rt, handle.apply_all(rt, alloc, 0, &mut operations));
+    let left = operations.len();
+    assert_eq!(rt;
+        (handle.front(), Some(left)),
+        (first as u64, 5usize.checked_sub(first))
+    );
+    let others = entered(rt, handle.apply_all(rt, alloc, 0, &mut operations));
+    assert_eq!(rt; (others, handle.front()), (left, 5));
+}
+
+#[test]
+fn a_batch_leaves_in_its_queue_what_is_refused(rt: HostRuntime) -> Result<(), Fail> {
+    let template = template(&rt, Restart::Permanent, 10, 10);
+    let Ok(mut operations) = four(&rt, rt.alloc()) else {
+        return Ok(());
+    };
+    if operations
+        .push_back(Operation::Exit(9, Reason::Normal))
+        .is_err()
+    {
+        return Ok(());
+    }
+    match Ground::new(rt.alloc(), &rt, template, 1) {
+        Ok(ground) => bear_batch::<Brand, HostRuntime>(&rt, rt.alloc(), ground, operations),
+        Err(fault) => assert_eq!(rt; fault, DeskFault::OutOfMemory),
+    }
+    Ok(())
+}

@@ -1,0 +1,39 @@
+//! Readers and writers that fail, growth that is refused, and the values of the layer one by one. Scripts and histories with
+//! their replies are stored cases of the program.
+ghost use Rattle.std.specs.Prelude.{◌≤◌, length};
+
+mod failing;
+mod fakes;
+mod histories;
+mod memory;
+mod values;
+
+use std::process::Abort;
+use sup_script::{Fault, ScriptFault};
+
+/// A child whose restart fails for a while, and what the script writes.
+const FAILED_RESTART: (&str, &str) = (
+    "sup permanent worker 5 10 10\nstart 0 gap:5:9\nexit 6 1 x\ncount\nretry 7 1\nretry 9 1\ncount\n",
+    "ok 1\nrestarting 1 1\ncount specs 1 active 0 supervisors 0 workers 1\nrestarting 1 1\nrestarted 1 2\ncount specs 1 active 1 supervisors 0 workers 1\n",
+);
+
+/// A history text, and what its replay writes.
+const HISTORY: (&str, &str) = (
+    "history 1 permanent worker 1 5 10\n1 0 0 start a running\n2 0 3 exit 1 x ignore\n1 1 4 terminate 1 ignore\n",
+    "ok 1\nignored 1\nerror not_found\n",
+);
+
+/// How a run ended: well, or with this fault in this line.
+fn expect_end(rt: &impl Abort, ended: Result<(), ScriptFault>, fault: Option<(Fault, u64)>) {
+    let want = match fault {
+        None => Ok(()),
+        Some((fault, line)) => Err(ScriptFault { fault, line }),
+    };
+    assert!(rt; ended == want);
+}
+
+fn line_feeds(bytes: &[u8]) -> usize
+    ensures { result ≤ length bytes.now }
+{
+    bytes.iter().filter(|byte| **byte == b'\n').count()
+}
