@@ -19,7 +19,6 @@ mod near;
 mod table;
 
 pub use near::Near;
-
 use std::alloc::{Allocator, Global};
 use std::marker::Model;
 use sup_types::{
