@@ -3,6 +3,7 @@ ghost use Rattle.std.specs.Prelude.{◌≡◌, ◌≤◌, [], All, IfOk, vec_len
 ghost use Rattle.sup_inbox.specs.Ends.{AreOf};
 
 use std::alloc::{AllocError, Global};
+use std::process::Abort;
 use std::sync::Wait;
 use std::test::Fail;
 use std::thread;
@@ -187,20 +188,36 @@ fn follow(counts: &mut [u64], notes: &[Note]) -> bool {
 #[test]
 fn four_posters_over_a_small_inbox(rt: HostRuntime) -> Result<(), Fail> {
     let alloc = rt.alloc();
-    let (inbox, root) = Inbox::new(alloc, 64)?;
-    let room = Vec::with_capacity(alloc, 64)?;
     let taken = Vec::with_capacity(alloc, 4 * 50_000 - 40)?;
-    let Ok((posters, taker)) = root.split(alloc, &inbox, 4) else {
-        return Err(Fail::from("no memory"));
-    };
-    let done = run(&rt, alloc, &inbox, posters, taker, taken)?;
-    let Ok(settled) = settle(&rt, done.posters, done.taker, inbox, room) else {
-        return Err(Fail::from("no memory"));
-    };
+    let (inbox, root) = Inbox::new(alloc, 64)?;
+    match root.split(alloc, &inbox, 4) {
+        Ok((posters, taker)) => {
+            let done = run(&rt, alloc, &inbox, posters, taker, taken)?;
+            settle_all(&rt, alloc, inbox, done)
+        }
+        Err(_) => Err(Fail::from("no memory")),
+    }
+}
+
+fn settle_all<R: Wait + Abort>(rt: &R, alloc: Global, inbox: Inbox, done: Ended) -> Result<(), Fail>
+    requires posters { AreOf inbox.id done.posters.items × (vec_len done.posters ≡ done.taker.posters) }
+    requires taker { done.taker.inbox ≡ inbox.id }
+{
+    let room = Vec::with_capacity(alloc, 64)?;
+    match settle(rt, done.posters, done.taker, inbox, room) {
+        Ok(settled) => {
+            assert_in_order(rt, done.taken.as_slice(), settled.left.as_slice());
+            Ok(())
+        }
+        Err(_) => Err(Fail::from("no memory")),
+    }
+}
+
+/// That the notes that were taken and then those that were left are all that were posted, in the order of each poster.
+fn assert_in_order(rt: &impl Abort, taken: &[Note], left: &[Note]) {
     let mut counts = [0u64; 4];
-    assert_eq!(rt; settled.left.len(), 40);
-    assert!(rt; follow(&mut counts, done.taken.as_slice()));
-    assert!(rt; follow(&mut counts, settled.left.as_slice()));
-    assert_eq!(rt; counts, [EACH; 4]);
-    Ok(())
+    assert!(rt; left.len() == 40);
+    assert!(rt; follow(&mut counts, taken));
+    assert!(rt; follow(&mut counts, left));
+    assert!(rt; counts == [EACH; 4]);
 }
