@@ -1,8 +1,43 @@
 //! Readers and writers that fail, and texts that are too long.
 use super::fakes::{Endless, Narrow, Pieces, Stuck};
 use super::{FAILED_RESTART, expect_end, line_feeds};
+use std::alloc::Global;
+use std::io::Read;
+use std::process::Abort;
 use std::test::Fail;
 use sup_script::{Fault, ScriptStarter, run};
+
+/// Runs the script that the reader gives: it ends so, and this is what it writes.
+fn run_from<R: Read>(
+    rt: &impl Abort,
+    alloc: Global,
+    reader: &mut R,
+    fault: (Fault, u64),
+    replies: &[u8],
+) {
+    let mut out = Vec::new(alloc);
+    let result = run(alloc, reader, &mut out, &ScriptStarter);
+    expect_end(rt, result, Some(fault));
+    assert!(rt; out.as_slice() == replies);
+}
+
+/// Runs the script to a writer that fails after so many calls: it holds these bytes, and the run stops in this line.
+fn run_narrowly<R: Read>(
+    rt: &impl Abort,
+    alloc: Global,
+    reader: &mut R,
+    calls: usize,
+    line: u64,
+    written: &[u8],
+) {
+    let mut writer = Narrow {
+        held: Vec::new(alloc),
+        calls,
+    };
+    let result = run(alloc, reader, &mut writer, &ScriptStarter);
+    expect_end(rt, result, Some((Fault::WriteFault, line)));
+    assert!(rt; writer.held.as_slice() == written);
+}
 
 #[test]
 fn answers_the_ended_lines_before_a_failed_read(rt: HostRuntime) {
@@ -14,10 +49,7 @@ fn answers_the_ended_lines_before_a_failed_read(rt: HostRuntime) {
         (faulty, 7, 6, "", (Fault::BadLine, 2)),
     ] {
         let mut reader = Pieces { left, most, calls };
-        let mut out = Vec::new(rt.alloc());
-        let result = run(rt.alloc(), &mut reader, &mut out, &ScriptStarter);
-        expect_end(&rt, result, Some(fault));
-        assert_eq!(rt; out.as_slice(), replies.as_bytes());
+        run_from(&rt, rt.alloc(), &mut reader, fault, replies.as_bytes());
     }
 }
 
@@ -25,13 +57,7 @@ fn answers_the_ended_lines_before_a_failed_read(rt: HostRuntime) {
 fn stops_in_the_line_whose_reply_is_cut(rt: HostRuntime) {
     let script = b"sup permanent worker 1 5 10\nstart 0 a\nstart 0 b\n".as_slice();
     let mut reader = script;
-    let mut writer = Narrow {
-        held: Vec::new(rt.alloc()),
-        calls: 7,
-    };
-    let result = run(rt.alloc(), &mut reader, &mut writer, &ScriptStarter);
-    expect_end(&rt, result, Some((Fault::WriteFault, 3)));
-    assert_eq!(rt; writer.held.as_slice(), b"ok 1\nok".as_slice());
+    run_narrowly(&rt, rt.alloc(), &mut reader, 7, 3, b"ok 1\nok");
     let mut reader = script;
     let result = run(rt.alloc(), &mut reader, &mut Stuck, &ScriptStarter);
     expect_end(&rt, result, Some((Fault::WriteFault, 2)));
@@ -39,10 +65,7 @@ fn stops_in_the_line_whose_reply_is_cut(rt: HostRuntime) {
 
 #[test]
 fn refuses_a_line_without_end(rt: HostRuntime) {
-    let mut out = Vec::new(rt.alloc());
-    let result = run(rt.alloc(), &mut Endless, &mut out, &ScriptStarter);
-    expect_end(&rt, result, Some((Fault::TooLong, 1)));
-    assert_eq!(rt; out.len(), 0);
+    run_from(&rt, rt.alloc(), &mut Endless, (Fault::TooLong, 1), b"");
 }
 
 #[test]
@@ -52,10 +75,7 @@ fn refuses_a_text_that_is_too_long(rt: HostRuntime) -> Result<(), Fail> {
         script.push(b'a')?;
     }
     let mut reader = script.as_slice();
-    let mut out = Vec::new(rt.alloc());
-    let result = run(rt.alloc(), &mut reader, &mut out, &ScriptStarter);
-    expect_end(&rt, result, Some((Fault::TooLong, 2)));
-    assert_eq!(rt; out.len(), 0);
+    run_from(&rt, rt.alloc(), &mut reader, (Fault::TooLong, 2), b"");
     Ok(())
 }
 
@@ -75,7 +95,7 @@ fn reply_bytes(replies: &[u8], lines: usize) -> usize {
 }
 
 #[test]
-fn stops_at_each_failed_read(rt: HostRuntime) -> Result<(), Fail> {
+fn stops_at_each_failed_read(rt: HostRuntime) {
     let (script, replies) = (FAILED_RESTART.0.as_bytes(), FAILED_RESTART.1.as_bytes());
     for calls in 0..script.len() + 1 {
         let mut reader = Pieces {
@@ -83,19 +103,16 @@ fn stops_at_each_failed_read(rt: HostRuntime) -> Result<(), Fail> {
             most: 1,
             calls,
         };
-        let mut out = Vec::new(rt.alloc());
-        let result = run(rt.alloc(), &mut reader, &mut out, &ScriptStarter);
         let whole = line_feeds(&script[..calls]);
-        expect_end(&rt, result, Some((Fault::ReadFault, whole as u64 + 1)));
         let count = reply_bytes(replies, whole);
         assert!(rt; count <= replies.len());
-        assert_eq!(rt; out.as_slice(), &replies[..count]);
+        let fault = (Fault::ReadFault, whole as u64 + 1);
+        run_from(&rt, rt.alloc(), &mut reader, fault, &replies[..count]);
     }
-    Ok(())
 }
 
 #[test]
-fn stops_at_each_failed_write(rt: HostRuntime) -> Result<(), Fail> {
+fn stops_at_each_failed_write(rt: HostRuntime) {
     let (script, replies) = (FAILED_RESTART.0.as_bytes(), FAILED_RESTART.1.as_bytes());
     for calls in 0..replies.len() {
         for most in [1, 3, 10_000] {
@@ -104,17 +121,10 @@ fn stops_at_each_failed_write(rt: HostRuntime) -> Result<(), Fail> {
                 most,
                 calls: usize::MAX,
             };
-            let mut writer = Narrow {
-                held: Vec::new(rt.alloc()),
-                calls,
-            };
-            let result = run(rt.alloc(), &mut reader, &mut writer, &ScriptStarter);
             let line = line_feeds(&replies[..calls]) as u64 + 2;
-            expect_end(&rt, result, Some((Fault::WriteFault, line)));
-            assert_eq!(rt; writer.held.as_slice(), &replies[..calls]);
+            run_narrowly(&rt, rt.alloc(), &mut reader, calls, line, &replies[..calls]);
         }
     }
-    Ok(())
 }
 
 #[test]
@@ -129,10 +139,15 @@ fn answers_more_than_one_piece(rt: HostRuntime) -> Result<(), Fail> {
             most,
             calls: usize::MAX,
         };
-        let mut out = Vec::new(rt.alloc());
-        let result = run(rt.alloc(), &mut reader, &mut out, &ScriptStarter);
-        expect_end(&rt, result, None);
-        assert_eq!(rt; out.len(), 20_000 * b"stray 1\n".len());
+        run_strays(&rt, rt.alloc(), &mut reader);
     }
     Ok(())
+}
+
+/// Runs a script of 20,000 exits, which all are strays.
+fn run_strays(rt: &impl Abort, alloc: Global, reader: &mut Pieces<'_>) {
+    let mut out = Vec::new(alloc);
+    let result = run(alloc, reader, &mut out, &ScriptStarter);
+    expect_end(rt, result, None);
+    assert!(rt; out.len() == 20_000 * b"stray 1\n".len());
 }

@@ -1,76 +1,103 @@
 //! Worked history texts: what they spell, what they replay, and what is written again.
 use super::fakes::{Narrow, Pieces};
-use super::{HISTORY, expect_end};
+use super::{HISTORY, expect_end, line_feeds};
+use std::alloc::Global;
+use std::process::Abort;
 use std::test::Fail;
-use sup_script::{Fault, read_history, replay, write_history};
+use sup_script::{Fault, History, HistoryFault, read_history, replay, write_history};
+use sup_types::OutOfMemory;
 
 #[test]
 fn a_failed_read_writes_nothing(rt: HostRuntime) {
     let text = HISTORY.0.as_bytes();
     for calls in 0..text.len() + 1 {
-        let mut reader = Pieces {
-            left: text,
-            most: 1,
-            calls,
-        };
-        let mut out = Vec::new(rt.alloc());
-        let ended = replay(rt.alloc(), &mut reader, &mut out);
-        let whole = super::line_feeds(&text[..calls]) as u64;
-        expect_end(&rt, ended, Some((Fault::ReadFault, whole + 1)));
-        assert_eq!(rt; out.len(), 0);
+        let whole = line_feeds(&text[..calls]) as u64;
+        replay_pieces(&rt, rt.alloc(), calls, whole + 1);
     }
+}
+
+/// Replays from a reader that fails after so many calls: it stops in this line and has written nothing.
+fn replay_pieces(rt: &impl Abort, alloc: Global, calls: usize, line: u64) {
+    let mut reader = Pieces {
+        left: HISTORY.0.as_bytes(),
+        most: 1,
+        calls,
+    };
+    let mut out = Vec::new(alloc);
+    let ended = replay(alloc, &mut reader, &mut out);
+    expect_end(rt, ended, Some((Fault::ReadFault, line)));
+    assert!(rt; out.is_empty());
 }
 
 #[test]
 fn a_failed_write_has_the_line_of_its_entry(rt: HostRuntime) {
     let replies = HISTORY.1.as_bytes();
     for calls in 0..replies.len() {
-        let mut reader = HISTORY.0.as_bytes();
-        let mut writer = Narrow {
-            held: Vec::new(rt.alloc()),
-            calls,
-        };
-        let ended = replay(rt.alloc(), &mut reader, &mut writer);
-        let line = super::line_feeds(&replies[..calls]) as u64 + 2;
-        expect_end(&rt, ended, Some((Fault::WriteFault, line)));
-        assert_eq!(rt; writer.held.as_slice(), &replies[..calls]);
+        let line = line_feeds(&replies[..calls]) as u64 + 2;
+        replay_narrowly(&rt, rt.alloc(), calls, line, &replies[..calls]);
     }
 }
 
+/// Replays to a writer that fails after so many calls: it holds these bytes, and the replay stops in this line.
+fn replay_narrowly(rt: &impl Abort, alloc: Global, calls: usize, line: u64, written: &[u8]) {
+    let mut reader = HISTORY.0.as_bytes();
+    let mut writer = Narrow {
+        held: Vec::new(alloc),
+        calls,
+    };
+    let ended = replay(alloc, &mut reader, &mut writer);
+    expect_end(rt, ended, Some((Fault::WriteFault, line)));
+    assert!(rt; writer.held.as_slice() == written);
+}
+
 #[test]
-fn reads_whole_lines_alone(rt: HostRuntime) -> Result<(), Fail> {
+fn reads_whole_lines_alone(rt: HostRuntime) {
     let text = HISTORY.0.as_bytes();
     for len in 0..text.len() + 1 {
         let front = &text[..len];
-        let whole = super::line_feeds(front);
-        match read_history(rt.alloc(), front) {
-            Ok(history) => {
+        let whole = line_feeds(front);
+        match count_entries(rt.alloc(), front) {
+            Ok(entries) => {
                 assert!(rt; front.last() == Some(&b'\n'));
-                assert!(rt; whole.checked_sub(1) == Some(history.entries.len()));
+                assert!(rt; whole.checked_sub(1) == Some(entries));
             }
             Err(e) => {
                 assert!(rt; front.last() != Some(&b'\n'));
-                assert_eq!(rt; e.fault, Fault::BadLine);
-                assert_eq!(rt; e.line, whole as u64 + 1);
+                assert!(rt; e.fault == Fault::BadLine && e.line == whole as u64 + 1);
             }
         }
     }
+}
+
+fn count_entries(alloc: Global, text: &[u8]) -> Result<usize, HistoryFault> {
+    let history = read_history(alloc, text)?;
+    Ok(history.entries.len())
+}
+
+/// That the history is written as this text.
+fn assert_written(
+    rt: &impl Abort,
+    alloc: Global,
+    history: &History<Global>,
+    wanted: &str,
+) -> Result<(), OutOfMemory> {
+    let text = write_history(alloc, &history.template, history.entries.as_slice())?;
+    assert!(rt; text.as_slice() == wanted.as_bytes());
     Ok(())
 }
 
 #[test]
 fn writes_version_2(rt: HostRuntime) -> Result<(), Fail> {
-    let history = match read_history(rt.alloc(), HISTORY.0.as_bytes()) {
-        Ok(history) => history,
-        Err(_) => panic!(rt; "a history text"),
-    };
-    assert_eq!(rt; history.entries.len(), 3);
-    assert_eq!(rt; history.template.entries, 1 << 62);
-    let text = write_history(rt.alloc(), &history.template, history.entries.as_slice())?;
-    let written =
+    let wanted =
         "history 2 permanent worker 1 5 10 plain never\n1 0 0 start a running\n2 0 3 exit 1 x ignore\n1 1 4 terminate 1 ignore\n";
-    assert_eq!(rt; text.as_slice(), written.as_bytes());
-    Ok(())
+    match read_history(rt.alloc(), HISTORY.0.as_bytes()) {
+        Ok(history) => {
+            assert!(rt; history.entries.len() == 3 && history.template.entries == 1 << 62);
+            assert_written(&rt, rt.alloc(), &history, wanted)?;
+            Ok(())
+        }
+        Err(_) => panic!(rt; "a history text"),
+    }
 }
 
 #[test]
@@ -79,10 +106,9 @@ fn writes_each_operation_and_answer(rt: HostRuntime) -> Result<(), Fail> {
         "history 2 transient supervisor 0 1 1 significant any\n0 18446744073709551615 7 exit 3 shutdown:bye failed 4294967295\n1 2 3 exit 3 normal running\n1 2 3 exit 3 shutdown ignore\n4 5 6 retry 7 running\n8 9 10 stop ignore\n";
     match read_history(rt.alloc(), text.as_bytes()) {
         Ok(history) => {
-            let again = write_history(rt.alloc(), &history.template, history.entries.as_slice())?;
-            assert_eq!(rt; again.as_slice(), text.as_bytes());
+            assert_written(&rt, rt.alloc(), &history, text)?;
+            Ok(())
         }
         Err(_) => panic!(rt; "a history text"),
     }
-    Ok(())
 }

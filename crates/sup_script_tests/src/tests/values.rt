@@ -1,4 +1,5 @@
 //! Lines, replies and faults one by one.
+use std::process::Abort;
 use std::test::Fail;
 use sup_script::{
     Command, Fault, HistoryFault, ScriptFault, ScriptStarter, read_line, write_reply,
@@ -24,39 +25,56 @@ fn reads_lines(rt: HostRuntime) {
     for line in none {
         assert!(rt; read_line(line.as_bytes()).is_none());
     }
-    assert!(rt;
-        read_line(b"exit 1 2 shutdown")
-            == Some(Command::Update(1, Operation::Exit(2, Reason::Shutdown)))
+    let text = Text::new(b"aaaaaaaaaaaaaaaaaaaaaaaaaaaaaaaaaaaaaaaa").expect(&rt, "forty bytes");
+    for (line, moment, operation) in [
+        ("exit 1 2 shutdown", 1, Operation::Exit(2, Reason::Shutdown)),
+        ("retry 3 4", 3, Operation::Retry(4)),
+        ("terminate 3 4", 3, Operation::Terminate(4)),
+        ("stop 18446744073709551615", u64::MAX, Operation::Stop),
+        (
+            "start 0 aaaaaaaaaaaaaaaaaaaaaaaaaaaaaaaaaaaaaaaa",
+            0,
+            Operation::Start(text),
+        ),
+    ] {
+        assert_reads(&rt, line, Command::Update(moment, operation));
+    }
+    assert_reads(&rt, "which", Command::Which);
+    assert_reads(&rt, "count", Command::Count);
+    assert_reads(
+        &rt,
+        "delete_child aaaaaaaaaaaaaaaaaaaaaaaaaaaaaaaaaaaaaaaa",
+        Command::ById(text),
     );
-    assert!(rt; read_line(b"retry 3 4") == Some(Command::Update(3, Operation::Retry(4))));
-    assert!(rt; read_line(b"terminate 3 4") == Some(Command::Update(3, Operation::Terminate(4))));
-    assert!(rt;
-        read_line(b"stop 18446744073709551615") == Some(Command::Update(u64::MAX, Operation::Stop))
-    );
-    assert!(rt; read_line(b"which") == Some(Command::Which));
-    assert!(rt; read_line(b"count") == Some(Command::Count));
-    let longest = b"aaaaaaaaaaaaaaaaaaaaaaaaaaaaaaaaaaaaaaaa";
-    let text = Text::new(longest).expect(&rt, "forty bytes");
-    assert!(rt;
-        read_line(b"start 0 aaaaaaaaaaaaaaaaaaaaaaaaaaaaaaaaaaaaaaaa")
-            == Some(Command::Update(0, Operation::Start(text)))
-    );
-    assert!(rt;
-        read_line(b"delete_child aaaaaaaaaaaaaaaaaaaaaaaaaaaaaaaaaaaaaaaa")
-            == Some(Command::ById(text))
-    );
+}
+
+fn assert_reads(rt: &impl Abort, line: &str, command: Command) {
+    assert!(rt; read_line(line.as_bytes()) == Some(command));
 }
 
 #[test]
 fn writes_replies_and_answers_starts(rt: HostRuntime) -> Result<(), Fail> {
     let mut out = Vec::from_slice(rt.alloc(), b"x")?;
-    write_reply(&Reply::Restarting(3, 7), &mut out)?;
-    assert_eq!(rt; out.as_slice(), b"xrestarting 3 7\n".as_slice());
-    let gap = Text::new(b"gap:5:9").expect(&rt, "a text");
-    assert_eq!(rt; ScriptStarter.start(&gap, 4), Answer::Running);
-    assert_eq!(rt; ScriptStarter.start(&gap, 5), Answer::Failed(1));
-    assert_eq!(rt; ScriptStarter.start(&gap, 9), Answer::Running);
+    let written = write_reply(&Reply::Restarting(3, 7), &mut out);
+    assert!(rt; written.is_ok());
+    assert!(rt; out.as_slice() == b"xrestarting 3 7\n".as_slice());
+    assert_starts(&rt);
     Ok(())
+}
+
+fn assert_starts(rt: &impl Abort) {
+    let gap = Text::new(b"gap:5:9").expect(rt, "a text");
+    for (moment, answer) in [
+        (4, Answer::Running),
+        (5, Answer::Failed(1)),
+        (9, Answer::Running),
+    ] {
+        assert!(rt; ScriptStarter.start(&gap, moment) == answer);
+    }
+}
+
+fn assert_spelt(rt: &impl Abort, spelt: String, want: &str) {
+    assert!(rt; spelt.as_str() == want);
 }
 
 #[test]
@@ -65,17 +83,14 @@ fn a_fault_has_a_number_and_a_line(rt: HostRuntime) -> Result<(), Fail> {
         fault: Fault::TooLong,
         line: 3,
     };
-    assert_eq!(rt; e.number(), 12);
-    assert_eq!(rt; e.to_string(rt.alloc())?.as_str(), "fault 12 line 3");
-    assert_eq!(rt;
-        e.fault.to_string(rt.alloc())?.as_str(),
-        "the text is too long"
-    );
+    assert!(rt; e.number() == 12);
+    assert_spelt(&rt, e.to_string(rt.alloc())?, "fault 12 line 3");
+    assert_spelt(&rt, e.fault.to_string(rt.alloc())?, "the text is too long");
     let e = HistoryFault {
         fault: Fault::BadTemplate,
         line: 1,
     };
-    assert_eq!(rt; e.number(), 7);
-    assert_eq!(rt; e.to_string(rt.alloc())?.as_str(), "fault 7 line 1");
+    assert!(rt; e.number() == 7);
+    assert_spelt(&rt, e.to_string(rt.alloc())?, "fault 7 line 1");
     Ok(())
 }
