@@ -9,8 +9,8 @@ use std::marker::Brand;
 use std::process::Abort;
 use std::sync::Wait;
 use std::test::*;
-use sup_crew::{Reads, read_turns};
-use sup_desk::{Desk, Ground, Name};
+use sup_crew::read_turns;
+use sup_desk::{Desk, Ground, Handle, Name};
 use sup_types::{Answer, Kind, Restart, Starter, Template, Text};
 
 /// Each start is answered `Running`.
@@ -45,16 +45,26 @@ fn read<N: Name, R: Wait + Abort>(rt: &R, ground: Ground<&R>) -> Result<(), Fail
     requires { (ground.press ≡ N.press) × (ground.template ≡ N.template) }
 {
     let desk: Desk<N, Always, &R> = Desk::new(ground, Always);
+    let done = read_on(rt, &desk);
+    done
+}
+
+fn read_on<N: Name, R: Wait + Abort>(rt: &R, desk: &Desk<N, Always, &R>) -> Result<(), Fail> {
     let mut first = desk.handle(rt)?;
     let mut second = desk.handle(rt)?;
-    assert!(rt; first.start_child(rt, 0, text(rt, "a")).is_ok());
-    let reads = read_turns(&mut second, 3);
-    assert_eq!(rt;
-        reads.ok(),
-        Some(Reads {
-            answered: 3,
-            last: 1
-        })
-    );
+    read_by(rt, &mut first, &mut second);
     Ok(())
+}
+
+/// The second handle reads three times what the first has done.
+fn read_by<N: Name, R: Wait + Abort>(
+    rt: &R,
+    first: &mut Handle<'_, N, Always, &R>,
+    second: &mut Handle<'_, N, Always, &R>,
+) {
+    assert!(rt; first.start_child(rt, 0, text(rt, "a")).is_ok());
+    match read_turns(second, 3) {
+        Ok(reads) => assert!(rt; reads.answered == 3 && reads.last == 1),
+        Err(_) => panic!(rt; "three reads"),
+    }
 }

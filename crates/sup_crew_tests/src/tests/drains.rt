@@ -1,5 +1,6 @@
 //! Three exits through a drain: two of children that run, and one of a number that no child has.
-ghost use Rattle.std.specs.Prelude.{◌≡◌};
+ghost use Rattle.std.specs.Prelude.{◌≡◌, vec_len};
+ghost use Rattle.sup_inbox.specs.Ends.{AreOf};
 
 use super::{Always, text};
 use std::alloc::Global;
@@ -8,11 +9,11 @@ use std::process::Abort;
 use std::sync::Wait;
 use std::test::*;
 use sup_crew::{Drain, DrainFault, Drained};
-use sup_desk::{Desk, Ground, Name, UpdateFault};
-use sup_inbox::{Inbox, Poster};
+use sup_desk::{Desk, Ground, Handle, Name, UpdateFault};
+use sup_inbox::{Inbox, Note, Poster, Taker};
 use sup_types::{Kind, Reason, Reply, Restart, Template};
 
-/// What a drain answered: the replies, the ticket's stamp, and the fault.
+/// That the drain answered these replies, its ticket has this stamp, and it met this fault.
 fn assert_drained(
     rt: &impl Abort,
     answer: Result<Drained, DrainFault>,
@@ -20,15 +21,31 @@ fn assert_drained(
     stamp: Option<u64>,
     fault: Option<UpdateFault>,
 ) {
-    let (done, met) = match answer {
-        Ok(done) => (done, None),
-        Err(DrainFault { done, fault }) => (done, Some(fault)),
+    match answer {
+        Ok(done) => {
+            assert!(rt; fault.is_none());
+            assert_done(rt, &done, replies, stamp);
+        }
+        Err(met) => {
+            assert!(rt; Some(met.fault) == fault);
+            assert_done(rt, &met.done, replies, stamp);
+        }
+    }
+}
+
+fn assert_done(rt: &impl Abort, done: &Drained, replies: &[Reply], stamp: Option<u64>) {
+    let stamped = match &done.ticket {
+        Some(ticket) => Some(ticket.stamp()),
+        None => None,
     };
-    assert_eq!(rt; met, fault);
-    assert_eq!(rt; done.ticket.map(|ticket| ticket.stamp()), stamp);
-    assert_eq!(rt; done.pairs.len(), replies.len());
-    for (pair, reply) in done.pairs.iter().zip(replies) {
-        assert_eq!(rt; pair.1, *reply);
+    assert!(rt; stamped == stamp);
+    assert_pairs(rt, done.pairs.as_slice(), replies);
+}
+
+fn assert_pairs(rt: &impl Abort, pairs: &[(Note, Reply)], replies: &[Reply]) {
+    assert!(rt; pairs.len() == replies.len());
+    for i in 0..replies.len() {
+        assert!(rt; pairs[i].1 == replies[i]);
     }
 }
 
@@ -41,34 +58,83 @@ fn post_three<R: Wait + Abort>(rt: &R, inbox: &Inbox, poster: &mut Poster)
     }
 }
 
-/// Drains twice. How many notes are held then.
+/// The replies of the first drain with its ticket's stamp, and the fault of both drains.
+#[derive(Clone, Copy)]
+struct Wants<'a> {
+    replies: &'a [Reply],
+    stamp: u64,
+    fault: Option<UpdateFault>,
+}
+
+/// Starts two children and drains twice. How many notes are held then.
 fn drain_twice<N: Name, R: Wait + Abort>(
     rt: &R,
     alloc: Global,
     ground: Ground<&R>,
-    first: (&[Reply], u64),
-    fault: Option<UpdateFault>,
+    wants: Wants<'_>,
 ) -> Result<usize, Fail>
     requires { (ground.press ≡ N.press) × (ground.template ≡ N.template) }
 {
     let desk: Desk<N, Always, &R> = Desk::new(ground, Always);
+    let held = drain_on(rt, alloc, &desk, wants);
+    held
+}
+
+fn drain_on<N: Name, R: Wait + Abort>(
+    rt: &R,
+    alloc: Global,
+    desk: &Desk<N, Always, &R>,
+    wants: Wants<'_>,
+) -> Result<usize, Fail> {
     let mut handle = desk.handle(rt)?;
-    assert!(rt; handle.start_child(rt, 0, text(rt, "a")).is_ok());
-    assert!(rt; handle.start_child(rt, 0, text(rt, "b")).is_ok());
+    let held = drain_by(rt, alloc, &mut handle, wants);
+    held
+}
+
+fn drain_by<N: Name, R: Wait + Abort>(
+    rt: &R,
+    alloc: Global,
+    handle: &mut Handle<'_, N, Always, &R>,
+    wants: Wants<'_>,
+) -> Result<usize, Fail> {
+    for arg in ["a", "b"] {
+        assert!(rt; handle.start_child(rt, 0, text(rt, arg)).is_ok());
+    }
     let (inbox, root) = Inbox::new(alloc, 4)?;
-    let Ok((mut posters, taker)) = root.split(alloc, &inbox, 1) else {
-        return Err(Fail::from("no memory"));
-    };
-    let Some(mut poster) = posters.pop() else {
-        return Err(Fail::from("no poster"));
-    };
-    post_three(rt, &inbox, &mut poster);
+    match root.split(alloc, &inbox, 1) {
+        Ok((posters, taker)) => {
+            post(rt, &inbox, posters);
+            Ok(drain_all(rt, alloc, &inbox, taker, handle, wants))
+        }
+        Err(_) => Err(Fail::from("no memory")),
+    }
+}
+
+/// Posts by the only poster.
+fn post<R: Wait + Abort>(rt: &R, inbox: &Inbox, posters: Vec<Poster>)
+    requires { AreOf inbox.now.id posters.items × (vec_len posters ≡ 1) }
+{
+    let mut posters = posters;
+    let mut poster = posters.pop().unwrap();
+    post_three(rt, inbox, &mut poster);
+}
+
+fn drain_all<N: Name, R: Wait + Abort>(
+    rt: &R,
+    alloc: Global,
+    inbox: &Inbox,
+    taker: Taker,
+    handle: &mut Handle<'_, N, Always, &R>,
+    wants: Wants<'_>,
+) -> usize
+    requires { taker.inbox ≡ inbox.now.id }
+{
     let mut drain = Drain::new(taker);
-    let answer = drain.drain(rt, alloc, &inbox, &mut handle, 1, 64);
-    assert_drained(rt, answer, first.0, Some(first.1), fault);
-    let answer = drain.drain(rt, alloc, &inbox, &mut handle, 1, 64);
-    assert_drained(rt, answer, &[], None, fault);
-    Ok(drain.end().1.len())
+    let answer = drain.drain(rt, alloc, inbox, handle, 1, 64);
+    assert_drained(rt, answer, wants.replies, Some(wants.stamp), wants.fault);
+    let answer = drain.drain(rt, alloc, inbox, handle, 1, 64);
+    assert_drained(rt, answer, &[], None, wants.fault);
+    drain.end().1.len()
 }
 
 fn template(rt: &impl Abort, entries: u64) -> Template {
@@ -82,13 +148,12 @@ fn template(rt: &impl Abort, entries: u64) -> Template {
 fn a_full_history_leaves_a_note_held(rt: HostRuntime) -> Result<(), Fail> {
     let ground = Ground::new(rt.alloc(), &rt, template(&rt, 4), 1)?;
     let replies = [Reply::Removed(1), Reply::Removed(2)];
-    let held = drain_twice::<Brand, HostRuntime>(
-        &rt,
-        rt.alloc(),
-        ground,
-        (&replies, 4),
-        Some(UpdateFault::HistoryFull),
-    )?;
+    let wants = Wants {
+        replies: &replies,
+        stamp: 4,
+        fault: Some(UpdateFault::HistoryFull),
+    };
+    let held = drain_twice::<Brand, HostRuntime>(&rt, rt.alloc(), ground, wants)?;
     assert_eq!(rt; held, 1);
     Ok(())
 }
@@ -97,7 +162,12 @@ fn a_full_history_leaves_a_note_held(rt: HostRuntime) -> Result<(), Fail> {
 fn a_drain_takes_the_notes_that_are_there(rt: HostRuntime) -> Result<(), Fail> {
     let ground = Ground::new(rt.alloc(), &rt, template(&rt, 5), 1)?;
     let replies = [Reply::Removed(1), Reply::Removed(2), Reply::Stray(7)];
-    let held = drain_twice::<Brand, HostRuntime>(&rt, rt.alloc(), ground, (&replies, 5), None)?;
+    let wants = Wants {
+        replies: &replies,
+        stamp: 5,
+        fault: None,
+    };
+    let held = drain_twice::<Brand, HostRuntime>(&rt, rt.alloc(), ground, wants)?;
     assert_eq!(rt; held, 0);
     Ok(())
 }

@@ -1,7 +1,7 @@
 //! A run whose children are ended by another thread, and one that is refused memory.
 ghost use Rattle.std.specs.Prelude.{◌≡◌, ◌≤◌, ◌^◌};
 
-use super::runs::{Ends, Row, USUAL, listed, plan, template};
+use super::runs::{Row, USUAL, listed, plan, run_usual, template};
 use super::{Always, text};
 use std::alloc::Global;
 use std::marker::Brand;
@@ -11,7 +11,7 @@ use std::sync::atomic::{AtomicBool, Ordering};
 use std::test::*;
 use std::thread::{Threads, join, yield_now};
 use sup_crew::{Asker, Body, CrewFault, Plan, Report, run_crew};
-use sup_desk::{Desk, Ground, Handle, Name, UpdateFault};
+use sup_desk::{Desk, Ground, Handle, Name};
 use sup_types::{Reason, Reply, Seen, Starter, Text};
 
 /// How often another thread is waited for at most.
@@ -101,67 +101,68 @@ fn run_and_end<N: Name + Send + Sync, R: Threads + Wait + Abort + Sync>(
     requires { (ground.press ≡ N.press) × (ground.template ≡ N.template) }
 {
     let desk: Desk<N, Always, &R> = Desk::new(ground, Always);
-    let mut handle = desk.handle(rt)?;
-    let body = Waits {
-        ended: AtomicBool::new(false),
-    };
+    let ran = end_on(rt, alloc, &desk);
+    ran
+}
+
+fn end_on<N: Name + Send + Sync, R: Threads + Wait + Abort + Sync>(
+    rt: &R,
+    alloc: Global,
+    desk: &Desk<N, Always, &R>,
+) -> Result<(), Fail> {
     let row = Row {
         workers: 3,
         ..USUAL
     };
-    let Some(plan) = plan(rt, alloc, row) else {
-        return Err(Fail::from("a plan"));
+    let mut handle = desk.handle(rt)?;
+    match plan(rt, alloc, &row) {
+        Some(plan) => end_by(rt, alloc, desk, &mut handle, plan),
+        None => Err(Fail::from("a plan")),
+    }
+}
+
+fn end_by<N: Name + Send + Sync, R: Threads + Wait + Abort + Sync>(
+    rt: &R,
+    alloc: Global,
+    desk: &Desk<N, Always, &R>,
+    handle: &mut Handle<'_, N, Always, &R>,
+    plan: Plan,
+) -> Result<(), Fail>
+    requires workers { (1 ≤ plan.workers) × (plan.workers ≤ 64) }
+    requires inbox { (1 ≤ plan.inbox) × (plan.inbox ≤ 65536) }
+    requires turns { (1 ≤ plan.turns) × (plan.turns ≤ 2 ^ 62) }
+{
+    let body = Waits {
+        ended: AtomicBool::new(false),
     };
-    let (report, ended) = run_beside(rt, alloc, &desk, &mut handle, &body, plan);
-    let Ok(report) = report else {
-        return Err(Fail::from("a report"));
-    };
-    assert_eq!(rt; ended, 3);
-    assert_eq!(rt; (report.made, report.exits, report.strays), (3, 3, 3));
-    assert_eq!(rt; (listed(&report), report.fault), (0, None));
-    Ok(())
+    let (report, ended) = run_beside(rt, alloc, desk, handle, &body, plan);
+    assert!(rt; ended == 3);
+    match report {
+        Ok(report) => {
+            assert_strays(rt, &report);
+            Ok(())
+        }
+        Err(_) => Err(Fail::from("a report")),
+    }
+}
+
+/// That three children were made, and that the exit of each was a stray.
+fn assert_strays<N: Name>(rt: &impl Abort, report: &Report<N>) {
+    assert!(rt; report.made == 3 && report.exits == 3 && report.strays == 3);
+    assert!(rt; listed(report) == 0 && report.fault.is_none());
 }
 
 #[test]
 fn exits_of_children_that_were_ended_are_strays(rt: HostRuntime) -> Result<(), Fail> {
-    let ground = Ground::new(rt.alloc(), &rt, template(&rt, USUAL), 5)?;
+    let ground = Ground::new(rt.alloc(), &rt, template(&rt, &USUAL), 5)?;
     run_and_end::<Brand, HostRuntime>(&rt, rt.alloc(), ground)
 }
 
-/// Each child that was made ended or is listed, whatever is refused; and a run that is refused has entered nothing.
-fn bear<N: Name + Send + Sync, R: Threads + Wait + Abort + Sync>(
-    rt: &R,
-    alloc: Global,
-    ground: Ground<&R>,
-)
-    requires { (ground.press ≡ N.press) × (ground.template ≡ N.template) }
-{
-    let desk: Desk<N, Always, &R> = Desk::new(ground, Always);
-    let Ok(mut first) = desk.handle(rt) else {
-        return;
-    };
-    let Some(plan) = plan(rt, alloc, USUAL) else {
-        return;
-    };
-    match run_crew(rt, alloc, &desk, &Ends::new(false), plan) {
-        Ok(report) => {
-            let told = report.exits.wrapping_add(listed(&report));
-            assert_eq!(rt; told, report.made);
-            let begun = report.made.wrapping_add(report.unstarted.len() as u64);
-            assert_eq!(rt; begun, 3);
-            assert!(rt; matches!(report.fault, None | Some(UpdateFault::OutOfMemory)));
-        }
-        Err(fault) => {
-            assert!(rt; fault != CrewFault::NoHandle);
-            let ticket = first.ticket(rt);
-            assert_eq!(rt; ticket.ok().map(|ticket| ticket.stamp()), Some(0));
-        }
-    }
-}
-
+/// Whatever is refused.
 #[test]
 fn a_run_bears_a_refusal(rt: HostRuntime) {
-    if let Ok(ground) = Ground::new(rt.alloc(), &rt, template(&rt, USUAL), 4) {
-        bear::<Brand, HostRuntime>(&rt, rt.alloc(), ground);
+    if let Ok(ground) = Ground::new(rt.alloc(), &rt, template(&rt, &USUAL), 4) {
+        let ran = run_usual::<Brand, HostRuntime>(&rt, rt.alloc(), ground);
+        assert!(rt; ran != Some(Err(CrewFault::NoHandle)));
     }
 }

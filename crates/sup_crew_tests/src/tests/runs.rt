@@ -11,7 +11,7 @@ use std::test::*;
 use std::thread;
 use std::thread::Threads;
 use sup_crew::{Asker, Body, CrewFault, Plan, Report, run_crew};
-use sup_desk::{Desk, Ground, Name, UpdateFault};
+use sup_desk::{Desk, Ground, Handle, Name, UpdateFault};
 use sup_types::{AutoShutdown, Kind, Reason, Restart, Seen, Starter, Template, Text};
 
 /// Each body ends at once, but for that of child 1 where it is to wait until that of child 2 has begun.
@@ -97,7 +97,7 @@ pub const USUAL: Row = Row {
     waits: false,
 };
 
-pub fn template(rt: &impl Abort, row: Row) -> Template {
+pub fn template(rt: &impl Abort, row: &Row) -> Template {
     let made = Template::new(
         row.restart,
         Kind::Worker,
@@ -113,7 +113,7 @@ pub fn template(rt: &impl Abort, row: Row) -> Template {
     }
 }
 
-pub fn plan(rt: &impl Abort, alloc: Global, row: Row) -> Option<Plan>
+pub fn plan(rt: &impl Abort, alloc: Global, row: &Row) -> Option<Plan>
     ensures workers { IfSome result (λ p. (1 ≤ p.workers) × (p.workers ≤ 64)) }
     ensures inbox { IfSome result (λ p. (1 ≤ p.inbox) × (p.inbox ≤ 65536)) }
     ensures turns { IfSome result (λ p. (1 ≤ p.turns) × (p.turns ≤ 2 ^ 62)) }
@@ -139,24 +139,27 @@ pub fn plan(rt: &impl Abort, alloc: Global, row: Row) -> Option<Plan>
 
 /// That the report says what it is to say, and that each child that was made ended or stands in one of its lists. How many
 /// did not end.
-fn assert_report<N: Name>(rt: &impl Abort, row: Row, report: &Report<N>) -> u64 {
-    let counts = [
-        report.made,
-        report.strays,
-        report.downs,
-        report.restarts,
-        report.given_up,
-        report.refused,
-    ];
-    assert_eq!(rt; counts, row.counts);
-    assert_eq!(rt; report.fault, row.fault);
-    assert_eq!(rt; report.unstarted.len(), 0);
-    if let Some(exits) = row.exits {
-        assert_eq!(rt; report.exits, exits);
-    }
+fn assert_report<N: Name>(rt: &impl Abort, row: &Row, report: &Report<N>) -> u64 {
+    assert_counts(rt, row.counts, report);
+    assert!(rt; report.fault == row.fault);
+    assert!(rt; report.unstarted.is_empty());
     let listed = listed(report);
-    assert_eq!(rt; report.exits.wrapping_add(listed), report.made);
+    assert_exits(rt, row.exits, report, listed);
     listed
+}
+
+fn assert_counts<N: Name>(rt: &impl Abort, counts: [u64; 6], report: &Report<N>) {
+    let [made, strays, downs, restarts, given_up, refused] = counts;
+    assert!(rt; report.made == made && report.strays == strays);
+    assert!(rt; report.downs == downs && report.restarts == restarts);
+    assert!(rt; report.given_up == given_up && report.refused == refused);
+}
+
+fn assert_exits<N: Name>(rt: &impl Abort, exits: Option<u64>, report: &Report<N>, listed: u64) {
+    if let Some(exits) = exits {
+        assert!(rt; report.exits == exits);
+    }
+    assert!(rt; report.exits.wrapping_add(listed) == report.made);
 }
 
 /// How many children stand in the report's lists.
@@ -172,34 +175,63 @@ fn run_row<N: Name + Send + Sync, R: Threads + Wait + Abort + Sync>(
     rt: &R,
     alloc: Global,
     ground: Ground<&R>,
-    row: Row,
+    row: &Row,
 ) -> Result<(), Fail>
     requires { (ground.press ≡ N.press) × (ground.template ≡ N.template) }
 {
     let desk: Desk<N, Always, &R> = Desk::new(ground, Always);
-    let body = Ends::new(row.waits);
+    let ran = run_on(rt, alloc, &desk, row);
+    ran
+}
+
+fn run_on<N: Name + Send + Sync, R: Threads + Wait + Abort + Sync>(
+    rt: &R,
+    alloc: Global,
+    desk: &Desk<N, Always, &R>,
+    row: &Row,
+) -> Result<(), Fail> {
     let Some(plan) = plan(rt, alloc, row) else {
         return Err(Fail::from("a plan"));
     };
-    let Ok(report) = run_crew(rt, alloc, &desk, &body, plan) else {
-        return Err(Fail::from("a report"));
-    };
-    let listed = assert_report(rt, row, &report);
-    assert_eq!(rt; body.met.load(Ordering::SeqCst), row.waits);
+    let body = Ends::new(row.waits);
+    match run_crew(rt, alloc, desk, &body, plan) {
+        Ok(report) => {
+            assert!(rt; body.met.load(Ordering::SeqCst) == row.waits);
+            look_afterwards(rt, desk, row, &report)
+        }
+        Err(_) => Err(Fail::from("a report")),
+    }
+}
+
+fn look_afterwards<N: Name, R: Wait + Abort>(
+    rt: &R,
+    desk: &Desk<N, Always, &R>,
+    row: &Row,
+    report: &Report<N>,
+) -> Result<(), Fail> {
+    let listed = assert_report(rt, row, report);
     let mut later = desk.handle(rt)?;
     let updates = report
         .made
         .wrapping_add(report.refused)
         .wrapping_add(report.exits);
-    assert_eq!(rt; later.front(), updates.wrapping_sub(report.restarts));
-    match later.count_children() {
-        Ok(Seen::Up(counts)) => {
-            assert_eq!(rt; (row.down, counts.active), (false, listed));
-        }
-        Ok(Seen::Down) => assert!(rt; row.down),
+    assert!(rt; later.front() == updates.wrapping_sub(report.restarts));
+    assert_active(rt, &mut later, row.down, listed);
+    Ok(())
+}
+
+/// That the handle finds its supervisor down, or this many children.
+fn assert_active<N: Name, R: Wait + Abort>(
+    rt: &R,
+    handle: &mut Handle<'_, N, Always, &R>,
+    down: bool,
+    active: u64,
+) {
+    match handle.count_children() {
+        Ok(Seen::Up(counts)) => assert!(rt; !down && counts.active == active),
+        Ok(Seen::Down) => assert!(rt; down),
         Err(_) => panic!(rt; "counts"),
     }
-    Ok(())
 }
 
 const ROWS: [Row; 8] = [
@@ -266,7 +298,7 @@ const ROWS: [Row; 8] = [
 
 #[test]
 fn each_child_of_a_run_is_told_of(rt: HostRuntime) -> Result<(), Fail> {
-    for row in ROWS {
+    for row in &ROWS {
         let handles = (row.workers as u64).saturating_add(2);
         let ground = Ground::new(rt.alloc(), &rt, template(&rt, row), handles)?;
         run_row::<Brand, HostRuntime>(&rt, rt.alloc(), ground, row)?;
@@ -274,27 +306,74 @@ fn each_child_of_a_run_is_told_of(rt: HostRuntime) -> Result<(), Fail> {
     Ok(())
 }
 
-fn run_on_two<N: Name + Send + Sync, R: Threads + Wait + Abort + Sync>(
+/// Runs the usual crew beside a handle: each child that was made ended or is listed, and a run that is refused has entered
+/// nothing. None where memory ends before the run, and else the fault that refused the run.
+pub fn run_usual<N: Name + Send + Sync, R: Threads + Wait + Abort + Sync>(
     rt: &R,
     alloc: Global,
     ground: Ground<&R>,
-) -> Result<(), Fail>
+) -> Option<Result<(), CrewFault>>
     requires { (ground.press ≡ N.press) × (ground.template ≡ N.template) }
 {
     let desk: Desk<N, Always, &R> = Desk::new(ground, Always);
-    let mut first = desk.handle(rt)?;
-    let Some(plan) = plan(rt, alloc, USUAL) else {
-        return Err(Fail::from("a plan"));
-    };
-    let report = run_crew(rt, alloc, &desk, &Ends::new(false), plan);
-    assert_eq!(rt; report.err(), Some(CrewFault::NoHandle));
-    let ticket = first.ticket(rt);
-    assert_eq!(rt; ticket.ok().map(|ticket| ticket.stamp()), Some(0));
-    Ok(())
+    let ran = run_beside_a_handle(rt, alloc, &desk);
+    ran
+}
+
+fn run_beside_a_handle<N: Name + Send + Sync, R: Threads + Wait + Abort + Sync>(
+    rt: &R,
+    alloc: Global,
+    desk: &Desk<N, Always, &R>,
+) -> Option<Result<(), CrewFault>> {
+    match desk.handle(rt) {
+        Ok(mut first) => run_seen(rt, alloc, desk, &mut first),
+        Err(_) => None,
+    }
+}
+
+fn run_seen<N: Name + Send + Sync, R: Threads + Wait + Abort + Sync>(
+    rt: &R,
+    alloc: Global,
+    desk: &Desk<N, Always, &R>,
+    first: &mut Handle<'_, N, Always, &R>,
+) -> Option<Result<(), CrewFault>> {
+    let plan = plan(rt, alloc, &USUAL)?;
+    match run_crew(rt, alloc, desk, &Ends::new(false), plan) {
+        Ok(report) => {
+            assert_told(rt, &report);
+            Some(Ok(()))
+        }
+        Err(fault) => {
+            assert_nothing_entered(rt, first);
+            Some(Err(fault))
+        }
+    }
+}
+
+/// That the report tells of three children, of which each ended or is listed, and of no other fault than a refusal.
+fn assert_told<N: Name>(rt: &impl Abort, report: &Report<N>) {
+    assert!(rt; report.exits.wrapping_add(listed(report)) == report.made);
+    assert!(rt; report.made.wrapping_add(report.unstarted.len() as u64) == 3);
+    assert!(rt; matches!(report.fault, None | Some(UpdateFault::OutOfMemory)));
+}
+
+/// That no update has been made: the handle's ticket has stamp 0.
+fn assert_nothing_entered<N: Name, R: Wait + Abort>(
+    rt: &R,
+    handle: &mut Handle<'_, N, Always, &R>,
+) {
+    match handle.ticket(rt) {
+        Ok(ticket) => assert!(rt; ticket.stamp() == 0),
+        Err(_) => panic!(rt; "a ticket"),
+    }
 }
 
 #[test]
 fn a_desk_with_too_few_handles_begins_no_run(rt: HostRuntime) -> Result<(), Fail> {
-    let ground = Ground::new(rt.alloc(), &rt, template(&rt, USUAL), 2)?;
-    run_on_two::<Brand, HostRuntime>(&rt, rt.alloc(), ground)
+    let ground = Ground::new(rt.alloc(), &rt, template(&rt, &USUAL), 2)?;
+    match run_usual::<Brand, HostRuntime>(&rt, rt.alloc(), ground) {
+        Some(ran) => assert!(rt; ran == Err(CrewFault::NoHandle)),
+        None => return Err(Fail::from("no memory")),
+    }
+    Ok(())
 }
