@@ -144,30 +144,37 @@ fn template(rt: &impl Abort, entries: u64) -> Template {
     }
 }
 
+/// How many notes are held after two drains of a desk whose history has room for so many entries.
+fn held_after<R: Wait + Abort>(
+    rt: &R,
+    alloc: Global,
+    entries: u64,
+    wants: Wants<'_>,
+) -> Result<usize, Fail> {
+    let ground = Ground::new(alloc, rt, template(rt, entries), 1)?;
+    drain_twice::<Brand, R>(rt, alloc, ground, wants)
+}
+
 #[test]
 fn a_full_history_leaves_a_note_held(rt: HostRuntime) -> Result<(), Fail> {
-    let ground = Ground::new(rt.alloc(), &rt, template(&rt, 4), 1)?;
-    let replies = [Reply::Removed(1), Reply::Removed(2)];
     let wants = Wants {
-        replies: &replies,
+        replies: &[Reply::Removed(1), Reply::Removed(2)],
         stamp: 4,
         fault: Some(UpdateFault::HistoryFull),
     };
-    let held = drain_twice::<Brand, HostRuntime>(&rt, rt.alloc(), ground, wants)?;
-    assert_eq!(rt; held, 1);
+    let held = held_after(&rt, rt.alloc(), 4, wants)?;
+    assert!(rt; held == 1);
     Ok(())
 }
 
 #[test]
 fn a_drain_takes_the_notes_that_are_there(rt: HostRuntime) -> Result<(), Fail> {
-    let ground = Ground::new(rt.alloc(), &rt, template(&rt, 5), 1)?;
-    let replies = [Reply::Removed(1), Reply::Removed(2), Reply::Stray(7)];
     let wants = Wants {
-        replies: &replies,
+        replies: &[Reply::Removed(1), Reply::Removed(2), Reply::Stray(7)],
         stamp: 5,
         fault: None,
     };
-    let held = drain_twice::<Brand, HostRuntime>(&rt, rt.alloc(), ground, wants)?;
-    assert_eq!(rt; held, 0);
+    let held = held_after(&rt, rt.alloc(), 5, wants)?;
+    assert!(rt; held == 0);
     Ok(())
 }

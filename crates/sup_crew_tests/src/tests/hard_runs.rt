@@ -1,7 +1,7 @@
 //! A run whose children are ended by another thread, and one that is refused memory.
 ghost use Rattle.std.specs.Prelude.{◌≡◌, ◌≤◌, ◌^◌};
 
-use super::runs::{Row, USUAL, listed, plan, run_usual, template};
+use super::runs::{Row, USUAL, listed, plan, run_with, template};
 use super::{Always, text};
 use std::alloc::Global;
 use std::marker::Brand;
@@ -161,8 +161,5 @@ fn exits_of_children_that_were_ended_are_strays(rt: HostRuntime) -> Result<(), F
 /// Whatever is refused.
 #[test]
 fn a_run_bears_a_refusal(rt: HostRuntime) {
-    if let Ok(ground) = Ground::new(rt.alloc(), &rt, template(&rt, &USUAL), 4) {
-        let ran = run_usual::<Brand, HostRuntime>(&rt, rt.alloc(), ground);
-        assert!(rt; ran != Some(Err(CrewFault::NoHandle)));
-    }
+    assert!(rt; run_with(&rt, rt.alloc(), 4) != Some(Err(CrewFault::NoHandle)));
 }

@@ -137,9 +137,10 @@ pub fn plan(rt: &impl Abort, alloc: Global, row: &Row) -> Option<Plan>
     })
 }
 
-/// That the report says what it is to say, and that each child that was made ended or stands in one of its lists. How many
-/// did not end.
-fn assert_report<N: Name>(rt: &impl Abort, row: &Row, report: &Report<N>) -> u64 {
+/// That the bodies met where they were to, that the report says what it is to say, and that each child that was made ended
+/// or stands in one of its lists. How many did not end.
+fn assert_report<N: Name>(rt: &impl Abort, row: &Row, body: &Ends, report: &Report<N>) -> u64 {
+    assert!(rt; body.met.load(Ordering::SeqCst) == row.waits);
     assert_counts(rt, row.counts, report);
     assert!(rt; report.fault == row.fault);
     assert!(rt; report.unstarted.is_empty());
@@ -148,11 +149,16 @@ fn assert_report<N: Name>(rt: &impl Abort, row: &Row, report: &Report<N>) -> u64
     listed
 }
 
-fn assert_counts<N: Name>(rt: &impl Abort, counts: [u64; 6], report: &Report<N>) {
-    let [made, strays, downs, restarts, given_up, refused] = counts;
-    assert!(rt; report.made == made && report.strays == strays);
-    assert!(rt; report.downs == downs && report.restarts == restarts);
-    assert!(rt; report.given_up == given_up && report.refused == refused);
+fn assert_counts<N: Name>(rt: &impl Abort, wanted: [u64; 6], report: &Report<N>) {
+    let counts = [
+        report.made,
+        report.strays,
+        report.downs,
+        report.restarts,
+        report.given_up,
+        report.refused,
+    ];
+    assert!(rt; counts == wanted);
 }
 
 fn assert_exits<N: Name>(rt: &impl Abort, exits: Option<u64>, report: &Report<N>, listed: u64) {
@@ -195,10 +201,7 @@ fn run_on<N: Name + Send + Sync, R: Threads + Wait + Abort + Sync>(
     };
     let body = Ends::new(row.waits);
     match run_crew(rt, alloc, desk, &body, plan) {
-        Ok(report) => {
-            assert!(rt; body.met.load(Ordering::SeqCst) == row.waits);
-            look_afterwards(rt, desk, row, &report)
-        }
+        Ok(report) => look_afterwards(rt, desk, row, &body, &report),
         Err(_) => Err(Fail::from("a report")),
     }
 }
@@ -207,26 +210,28 @@ fn look_afterwards<N: Name, R: Wait + Abort>(
     rt: &R,
     desk: &Desk<N, Always, &R>,
     row: &Row,
+    body: &Ends,
     report: &Report<N>,
 ) -> Result<(), Fail> {
-    let listed = assert_report(rt, row, report);
+    let listed = assert_report(rt, row, body, report);
     let mut later = desk.handle(rt)?;
-    let updates = report
-        .made
-        .wrapping_add(report.refused)
-        .wrapping_add(report.exits);
-    assert!(rt; later.front() == updates.wrapping_sub(report.restarts));
-    assert_active(rt, &mut later, row.down, listed);
+    assert_seen(rt, &mut later, row.down, listed, report);
     Ok(())
 }
 
-/// That the handle finds its supervisor down, or this many children.
-fn assert_active<N: Name, R: Wait + Abort>(
+/// That the handle has seen each update, and finds its supervisor down, or this many children.
+fn assert_seen<N: Name, R: Wait + Abort>(
     rt: &R,
     handle: &mut Handle<'_, N, Always, &R>,
     down: bool,
     active: u64,
+    report: &Report<N>,
 ) {
+    let updates = report
+        .made
+        .wrapping_add(report.refused)
+        .wrapping_add(report.exits);
+    assert!(rt; handle.front() == updates.wrapping_sub(report.restarts));
     match handle.count_children() {
         Ok(Seen::Up(counts)) => assert!(rt; !down && counts.active == active),
         Ok(Seen::Down) => assert!(rt; down),
@@ -308,7 +313,7 @@ fn each_child_of_a_run_is_told_of(rt: HostRuntime) -> Result<(), Fail> {
 
 /// Runs the usual crew beside a handle: each child that was made ended or is listed, and a run that is refused has entered
 /// nothing. None where memory ends before the run, and else the fault that refused the run.
-pub fn run_usual<N: Name + Send + Sync, R: Threads + Wait + Abort + Sync>(
+fn run_usual<N: Name + Send + Sync, R: Threads + Wait + Abort + Sync>(
     rt: &R,
     alloc: Global,
     ground: Ground<&R>,
@@ -368,12 +373,19 @@ fn assert_nothing_entered<N: Name, R: Wait + Abort>(
     }
 }
 
-#[test]
-fn a_desk_with_too_few_handles_begins_no_run(rt: HostRuntime) -> Result<(), Fail> {
-    let ground = Ground::new(rt.alloc(), &rt, template(&rt, &USUAL), 2)?;
-    match run_usual::<Brand, HostRuntime>(&rt, rt.alloc(), ground) {
-        Some(ran) => assert!(rt; ran == Err(CrewFault::NoHandle)),
-        None => return Err(Fail::from("no memory")),
+/// The usual run on a desk with so many handles.
+pub fn run_with<R: Threads + Wait + Abort + Sync>(
+    rt: &R,
+    alloc: Global,
+    handles: u64,
+) -> Option<Result<(), CrewFault>> {
+    match Ground::new(alloc, rt, template(rt, &USUAL), handles) {
+        Ok(ground) => run_usual::<Brand, R>(rt, alloc, ground),
+        Err(_) => None,
     }
-    Ok(())
+}
+
+#[test]
+fn a_desk_with_too_few_handles_begins_no_run(rt: HostRuntime) {
+    assert!(rt; run_with(&rt, rt.alloc(), 2) == Some(Err(CrewFault::NoHandle)));
 }

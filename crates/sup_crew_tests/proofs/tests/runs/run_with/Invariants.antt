@@ -1,4 +1,4 @@
-use Rattle.sup_crew_tests.proofs.tests.runs.a_desk_with_too_few_handles_begins_no_run.Given as goal
+use Rattle.sup_crew_tests.proofs.tests.runs.run_with.Given as goal
 
 -- the ground that was just made
 abbrev pub ghosts-run_usual : goal.ghosts-run_usual
