@@ -1,11 +1,14 @@
-//! What no clause says: threads, the end of a press, and growth that is refused.
-ghost use Rattle.std.specs.Prelude.{◌≡◌, ◌^◌};
+//! What no clause says: threads, the end of a press, and growth that is refused. A function that owns a press or a lens
+//! leaves the comparing to functions that borrow it: what a check of it costs grows with the ways out of it.
+ghost use Rattle.std.specs.Prelude.{◌≡◌, ◌^◌, ◌<◌, ◌+◌, ◌++◌, ◌∷◌, [], length};
 
 mod ending;
 mod growth;
 mod threads;
 
 use std::process::Abort;
+use std::sync::Wait;
+use sup_log::{Lens, Press};
 use sup_types::{Answer, Entry, Operation, Template, Text};
 
 /// Permanent workers, 10 of them at most.
@@ -18,10 +21,13 @@ fn template(rt: &impl Abort) -> Template
     }
 }
 
+fn text(rt: &impl Abort, text: &str) -> Text {
+    Text::new(text.as_bytes()).expect(rt, "a text")
+}
+
 /// The start of a child with this argument, which runs.
 fn started(rt: &impl Abort, arg: &str) -> Entry {
-    let arg = Text::new(arg.as_bytes()).expect(rt, "a text");
-    entry(Operation::Start(arg))
+    entry(Operation::Start(text(rt, arg)))
 }
 
 fn entry(operation: Operation) -> Entry {
@@ -31,5 +37,26 @@ fn entry(operation: Operation) -> Entry {
         moment: 0,
         operation,
         answer: Answer::Running,
+    }
+}
+
+/// A lens, for which there is a place.
+fn lens<R: Wait + Drop>(rt: &impl Abort, press: &mut Press<R>) -> Lens
+    ensures { (press.new ≡ press.old) × (result.press ≡ press.old.press) }
+{
+    match press.lens() {
+        Ok(lens) => lens,
+        Err(_) => panic!(rt; "a place"),
+    }
+}
+
+/// Makes an entry pending, for which there is memory.
+fn append<R: Wait + Drop>(rt: &impl Abort, press: &mut Press<R>, entry: Entry)
+    requires { length press.old.published + length press.old.pending < press.old.template.entries }
+    ensures { press.new ≡ record press.old { pending = press.old.pending ++ entry ∷ [] } }
+{
+    match press.append(entry) {
+        Ok(()) => {}
+        Err(_) => panic!(rt; "memory"),
     }
 }

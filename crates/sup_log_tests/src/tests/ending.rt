@@ -1,69 +1,85 @@
 //! Lenses that outlive their press, and what is seen of a supervisor that is down.
 ghost use Rattle.std.specs.Prelude.{◌≡◌, ◌^◌, ◌<◌, ◌+◌, [], length};
 
-use super::{entry, started, template};
+use super::{append, entry, lens, started, template};
 use std::process::Abort;
 use std::sync::Wait;
 use std::test::*;
-use sup_log::{Gone, Lens, Press};
-use sup_types::Operation;
+use sup_log::{Gone, Lens, Press, View};
+use sup_types::{Counts, Operation};
 
 /// A lens whose press has ended.
-fn outlived<R: Wait + Drop + Abort>(rt: &R, press: Press<&R>) -> Option<Lens>
+fn outlived<R: Wait + Drop + Abort>(rt: &R, press: Press<&R>) -> Lens
     requires { (press.template.entries ≡ 2 ^ 62) × (press.published ≡ []) × (press.pending ≡ []) }
 {
     let mut press = press;
-    let Ok(mut lens) = press.lens() else {
-        return None;
-    };
-    press.append(started(rt, "a")).ok()?;
+    let mut lens = lens(rt, &mut press);
+    append(rt, &mut press, started(rt, "a"));
     press.publish();
-    assert_eq!(rt; lens.look(|view| view.counts().active).ok(), Some(1));
-    Some(lens)
+    sees_one(rt, &mut lens);
+    lens
+}
+
+fn sees_one(rt: &impl Abort, lens: &mut Lens) {
+    assert!(rt; lens.look(|view| view.counts().active).ok() == Some(1));
+}
+
+/// The press of this lens, which saw one entry, has ended.
+fn is_gone(rt: &impl Abort, lens: &mut Lens) {
+    let mut called = false;
+    let answer = lens.look(|_| called = true);
+    let gone = answer.err().map(|gone| gone.number());
+    assert!(rt; gone == Some(Gone.number()));
+    assert!(rt; !called);
+    assert!(rt; lens.front().stamp() == 1);
 }
 
 #[test]
 fn a_lens_that_outlives_its_press_is_answered_gone(rt: HostRuntime) -> Result<(), Fail> {
     let press = Press::new(rt.alloc(), &rt, template(&rt), 1)?;
-    let mut lens = outlived(&rt, press).ok_or("memory and places")?;
-    let mut called = false;
-    let answer = lens.look(|_| called = true);
-    assert_eq!(rt; answer.err().map(|gone| gone.number()), Some(Gone.number()));
-    assert!(rt; !called);
-    assert_eq!(rt; lens.front().stamp(), 1);
+    is_gone(&rt, &mut outlived(&rt, press));
     Ok(())
 }
 
-fn stopped<R: Wait + Drop + Abort>(rt: &R, press: Press<&R>) -> Option<()>
+fn stopped<R: Wait + Drop + Abort>(rt: &R, press: Press<&R>)
     requires { (press.template.entries ≡ 2 ^ 62) × (press.published ≡ []) × (press.pending ≡ []) }
 {
     let mut press = press;
-    let Ok(mut lens) = press.lens() else {
-        return None;
-    };
-    press.append(started(rt, "a")).ok()?;
-    press.append(entry(Operation::Stop)).ok()?;
+    let mut lens = lens(rt, &mut press);
+    append(rt, &mut press, started(rt, "a"));
+    append(rt, &mut press, entry(Operation::Stop));
     press.publish();
-    let (down, counts, first, rows) = lens
-        .look(|view| (view.is_down(), view.counts(), view.get(1), view.rows().ok()))
-        .ok()?;
-    assert!(rt; down && first.is_none());
-    assert_eq!(rt;
-        (
-            counts.specs,
-            counts.active,
-            counts.supervisors,
-            counts.workers
-        ),
-        (1, 0, 0, 0)
-    );
-    assert_eq!(rt; rows?.len(), 0);
-    assert_eq!(rt; press.editions(), 1);
-    Some(())
+    sees_nothing(rt, &mut lens);
+    assert!(rt; press.editions() == 1);
+}
+
+/// It is down, and lists no child.
+fn sees_nothing(rt: &impl Abort, lens: &mut Lens) {
+    let seen = lens.look(|view| (
+        view.is_down(),
+        view.counts(),
+        view.get(1).is_none(),
+        rows(view),
+    ));
+    let counts = Counts {
+        specs: 1,
+        active: 0,
+        supervisors: 0,
+        workers: 0,
+    };
+    assert!(rt; seen.ok() == Some((true, counts, true, Some(0))));
+}
+
+/// How many rows are listed, where there is memory for them.
+fn rows(view: &View) -> Option<usize> {
+    match view.rows() {
+        Ok(rows) => Some(rows.len()),
+        Err(_) => None,
+    }
 }
 
 #[test]
 fn nothing_is_listed_once_it_is_down(rt: HostRuntime) -> Result<(), Fail> {
-    stopped(&rt, Press::new(rt.alloc(), &rt, template(&rt), 1)?).ok_or("memory and places")?;
+    stopped(&rt, Press::new(rt.alloc(), &rt, template(&rt), 1)?);
     Ok(())
 }

@@ -15,7 +15,7 @@ fn listed(rt: &impl Abort, lens: &mut Lens, workers: u64) -> Option<usize> {
         let (rows, seen) = lens
             .look(|view| (view.rows(), (view.stamp(), view.counts().workers)))
             .ok()?;
-        assert_eq!(rt; seen, (workers, workers));
+        assert!(rt; seen == (workers, workers));
         if let Ok(rows) = rows {
             return Some(rows.len());
         }
@@ -23,33 +23,41 @@ fn listed(rt: &impl Abort, lens: &mut Lens, workers: u64) -> Option<usize> {
     None
 }
 
-/// Each call is answered or refused. What was refused is not published.
-fn bears<R: Wait + Drop + Abort>(rt: &R, press: Press<&R>) -> Option<()>
-    requires { (press.template.entries ≡ 2 ^ 62) × (press.published ≡ []) × (press.pending ≡ []) }
+/// Each of two entries is appended or refused. What was refused is not pending. How many were appended.
+fn append_two<R: Wait + Drop + Abort>(rt: &R, press: &mut Press<&R>) -> u64
+    requires { (press.old.template.entries ≡ 2 ^ 62) × (press.old.published ≡ []) × (press.old.pending ≡ []) }
 {
-    let mut press = press;
     let first = press.append(started(rt, "a")).is_ok();
     let second = press.append(started(rt, "b")).is_ok();
     let entered = u64::from(first) + u64::from(second);
-    assert_eq!(rt; press.pending().len() as u64, entered);
+    assert!(rt; press.pending().len() as u64 == entered);
+    entered
+}
+
+/// What was appended is published, and no more.
+fn publish<R: Wait + Drop + Abort>(rt: &R, press: &mut Press<&R>, entered: u64) {
     press.publish();
     assert!(rt; press.pending().is_empty());
-    assert_eq!(rt; press.tell().stamp(), entered);
-    assert_eq!(rt; press.editions(), u64::from(entered > 0));
-    let Ok(mut lens) = press.lens() else {
-        return None;
-    };
-    assert_eq!(rt; listed(rt, &mut lens, entered), Some(entered as usize));
-    Some(())
+    assert!(rt; press.tell().stamp() == entered);
+    assert!(rt; press.editions() == u64::from(entered > 0));
+}
+
+/// Each call is answered or refused. What was refused is not published.
+fn bears<R: Wait + Drop + Abort>(rt: &R, press: &mut Press<&R>)
+    requires { (press.old.template.entries ≡ 2 ^ 62) × (press.old.published ≡ []) × (press.old.pending ≡ []) }
+{
+    let entered = append_two(rt, press);
+    publish(rt, press, entered);
+    if let Ok(mut lens) = press.lens() {
+        assert!(rt; listed(rt, &mut lens, entered) == Some(entered as usize));
+    }
 }
 
 /// It passes whichever allocation is refused.
 #[test]
 fn a_refused_entry_is_not_published(rt: HostRuntime) -> Result<(), Fail> {
     match Press::new(rt.alloc(), &rt, template(&rt), 1) {
-        Ok(press) => {
-            let _ = bears(&rt, press);
-        }
+        Ok(mut press) => bears(&rt, &mut press),
         Err(OutOfMemory) => {}
     }
     Ok(())

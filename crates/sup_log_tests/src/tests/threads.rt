@@ -1,7 +1,7 @@
 //! Lenses in threads of their own.
-ghost use Rattle.std.specs.Prelude.{◌≡◌, ◌+◌, ◌≤◌, ◌<◌, ◌^◌, [], length, IfSome};
+ghost use Rattle.std.specs.Prelude.{◌≡◌, ◌+◌, ◌≤◌, ◌<◌, ◌^◌, [], length};
 
-use super::{entry, started, template};
+use super::{append, entry, lens, started, template, text};
 use std::process::Abort;
 use std::sync::Wait;
 use std::test::*;
@@ -18,83 +18,111 @@ fn look_after(lens: Lens, ticket: &Ticket) -> Result<(u64, Option<Row>), Gone>
     lens.look(|view| (view.stamp(), view.get(1)))
 }
 
-fn publish_two<R: Wait + Drop>(
-    press: Press<R>,
-    entries: (Entry, Entry),
-) -> Option<(Press<R>, Ticket)>
+fn publish_two<R: Wait + Drop>(rt: &impl Abort, press: Press<R>) -> (Press<R>, Ticket)
     requires { (length press.published + 2 ≤ press.template.entries) × (press.pending ≡ []) }
-    ensures { IfSome result (λ r. r.1.press ≡ press.press) }
+    ensures { result.1.press ≡ press.press }
 {
     let mut press = press;
-    press.append(entries.0).ok()?;
-    press.append(entries.1).ok()?;
+    append(rt, &mut press, started(rt, "b"));
+    append(rt, &mut press, started(rt, "c"));
     press.publish();
     let ticket = press.tell();
-    Some((press, ticket))
+    (press, ticket)
 }
 
-/// Two lenses of a press that has published one entry, and a ticket for it.
+/// No other lens has a place.
+fn is_full<R: Wait + Drop>(rt: &impl Abort, press: &mut Press<R>)
+    ensures { press.new ≡ press.old }
+{
+    assert!(rt; press.lens().is_err());
+}
+
+/// The lens sees a front of this length.
+fn sees(rt: &impl Abort, lens: &mut Lens, stamp: u64)
+    ensures { lens.new.press ≡ lens.old.press }
+{
+    assert!(rt; lens.look(|view| view.stamp()).ok() == Some(stamp));
+}
+
+/// The two lenses of a press that has published one entry, and a ticket for it.
 fn first_publication<'r, R: Wait + Abort>(
     rt: &'r R,
     press: Press<&'r R>,
-) -> Option<(Press<&'r R>, Lens, Lens, Ticket)>
+) -> (Press<&'r R>, Lens, Lens, Ticket)
     requires { (press.template.entries ≡ 2 ^ 62) × (press.published ≡ []) × (press.pending ≡ []) }
-    ensures { IfSome result (λ r. (r.1.press ≡ r.0.press) × (r.2.press ≡ r.0.press) × (r.3.press ≡ r.0.press)
-        × (length r.0.published + 2 ≤ r.0.template.entries) × (r.0.pending ≡ [])) }
+    ensures { (result.1.press ≡ result.0.press) × (result.2.press ≡ result.0.press) × (result.3.press ≡ result.0.press)
+        × (length result.0.published + 2 ≤ result.0.template.entries) × (result.0.pending ≡ []) }
 {
     let mut press = press;
-    let Ok(mut one) = press.lens() else {
-        return None;
-    };
-    let Ok(two) = press.lens() else {
-        return None;
-    };
-    press.append(started(rt, "a")).ok()?;
-    assert_eq!(rt; one.look(|view| view.stamp()).ok(), Some(0));
+    let mut one = lens(rt, &mut press);
+    let two = lens(rt, &mut press);
+    append(rt, &mut press, started(rt, "a"));
+    sees(rt, &mut one, 0);
     press.publish();
+    is_full(rt, &mut press);
     let ticket = press.tell();
-    Some((press, one, two, ticket))
+    assert!(rt; ticket.stamp() == 1);
+    (press, one, two, ticket)
 }
 
-fn lenses_learn<R: Threads + Wait + Abort + Sync>(rt: &R, press: Press<&R>) -> Option<()>
-    requires { (press.template.entries ≡ 2 ^ 62) × (press.published ≡ []) × (press.pending ≡ []) }
+/// What the lens sees at once with the publication of two more entries, and a ticket for them.
+fn learn_and_publish<'r, R: Threads + Wait + Abort + Sync>(
+    rt: &'r R,
+    press: Press<&'r R>,
+    one: Lens,
+    ticket: &Ticket,
+) -> (Result<(u64, Option<Row>), Gone>, (Press<&'r R>, Ticket))
+    requires { (ticket.now.press ≡ one.press) × (length press.published + 2 ≤ press.template.entries) × (press.pending ≡ []) }
+    ensures { result.1.1.press ≡ press.entry.press }
 {
-    let Some((mut press, one, mut two, ticket)) = first_publication(rt, press) else {
-        return None;
-    };
-    assert!(rt; press.lens().is_err());
-    assert_eq!(rt; ticket.stamp(), 1);
-    let entries = (started(rt, "b"), started(rt, "c"));
-    let (seen, published) = join(
+    join(
         rt,
         || -> Result<(u64, Option<Row>), Gone>
-            requires { ticket.press ≡ one.press }
-        { look_after(one, &ticket) },
-        || -> Option<(Press<&R>, Ticket)>
+            requires { ticket.now.press ≡ one.press }
+        { look_after(one, ticket) },
+        || -> (Press<&R>, Ticket)
             requires { (length press.published + 2 ≤ press.template.entries) × (press.pending ≡ []) }
-            ensures { IfSome result (λ r. r.1.press ≡ press.entry.press) }
-        { publish_two(press, entries) },
-    );
-    let (stamp, first) = seen.ok()?;
-    assert!(rt; stamp == 1 || stamp == 3);
-    let first = first?;
-    assert_eq!(rt; (first.number, first.status), (1, Status::Running));
-    assert_eq!(rt; first.arg.bytes(), b"a".as_slice());
-    let Some((press, last)) = published else {
-        return None;
+            ensures { result.1.press ≡ press.entry.press }
+        { publish_two(rt, press) },
+    )
+}
+
+/// The first child is listed, and all of a publication or nothing of it is seen.
+fn is_first(rt: &impl Abort, seen: Result<(u64, Option<Row>), Gone>) {
+    let Ok((stamp, Some(first))) = seen else {
+        panic!(rt; "the first child is listed");
     };
-    assert_eq!(rt; (last.stamp(), press.editions()), (3, 2));
-    two.learn(&last).ok()?;
-    let rows = two.look(|view| view.rows().ok()).ok()??;
-    assert_eq!(rt; two.front().stamp(), 3);
-    assert_eq!(rt; rows.len(), 3);
+    assert!(rt; stamp == 1 || stamp == 3);
+    assert!(rt; (first.number, first.status) == (1, Status::Running));
+    assert!(rt; first.arg.bytes() == b"a".as_slice());
+}
+
+/// Once the lens has learnt of the three children, it lists them.
+fn lists_three(rt: &impl Abort, lens: &mut Lens, last: &Ticket)
+    requires { last.now.press ≡ lens.old.press }
+{
+    assert!(rt; lens.learn(last).is_ok());
+    let Ok(Ok(rows)) = lens.look(|view| view.rows()) else {
+        panic!(rt; "the children are listed");
+    };
+    assert!(rt; lens.front().stamp() == 3);
+    assert!(rt; rows.len() == 3);
     assert!(rt; rows.iter().all(|row| row.is_running()));
-    Some(())
+}
+
+fn lenses_learn<R: Threads + Wait + Abort + Sync>(rt: &R, press: Press<&R>)
+    requires { (press.template.entries ≡ 2 ^ 62) × (press.published ≡ []) × (press.pending ≡ []) }
+{
+    let (press, one, mut two, ticket) = first_publication(rt, press);
+    let (seen, (press, last)) = learn_and_publish(rt, press, one, &ticket);
+    is_first(rt, seen);
+    assert!(rt; (last.stamp(), press.editions()) == (3, 2));
+    lists_three(rt, &mut two, &last);
 }
 
 #[test]
 fn two_lenses_learn(rt: HostRuntime) -> Result<(), Fail> {
-    lenses_learn(&rt, Press::new(rt.alloc(), &rt, template(&rt), 2)?).ok_or("memory and places")?;
+    lenses_learn(&rt, Press::new(rt.alloc(), &rt, template(&rt), 2)?);
     Ok(())
 }
 
@@ -116,41 +144,41 @@ fn workers_at(stamp: u64) -> u64 {
     if place <= 10 { place } else { 20 - place }
 }
 
-fn publish_one<R: Wait + Drop>(press: &mut Press<R>, entry: Entry) -> Option<()>
+fn publish_one<R: Wait + Drop>(rt: &impl Abort, press: &mut Press<R>, entry: Entry)
     requires { (length press.old.published + 1 ≤ press.old.template.entries) × (press.old.pending ≡ []) }
-    ensures { IfSome result (λ _. (length press.new.published ≡ length press.old.published + 1) × (press.new.pending ≡ []) × (press.new.template ≡ press.old.template)) }
+    ensures { (length press.new.published ≡ length press.old.published + 1) × (press.new.pending ≡ []) × (press.new.template ≡ press.old.template) }
 {
-    press.append(entry).ok()?;
+    append(rt, press, entry);
     press.publish();
-    Some(())
 }
 
-fn publish_all<R: Wait + Drop>(press: Press<R>, arg: &Text) -> Option<Press<R>>
+fn publish_all<R: Wait + Drop>(rt: &impl Abort, press: Press<R>, arg: &Text) -> Press<R>
     requires { (press.template.entries ≡ 2 ^ 62) × (press.published ≡ []) × (press.pending ≡ []) }
 {
     let mut press = press;
     for place in 0..ENTRIES {
-        publish_one(&mut press, stroke(arg, place))?;
+        publish_one(rt, &mut press, stroke(arg, place));
     }
-    Some(press)
+    press
 }
 
-/// Looks until all is published. The stamps never fall, and each view counts the children of its stamp.
-fn watch<R: Abort>(rt: &R, lens: Lens) -> u64 {
+/// The stamp that the lens sees, which is this one or a later one. The view counts the children of its stamp.
+fn sees_from(rt: &impl Abort, lens: &mut Lens, last: u64) -> u64 {
+    let Ok((stamp, counts)) = lens.look(|view| (view.stamp(), view.counts())) else {
+        panic!(rt; "the press is there");
+    };
+    assert!(rt; last <= stamp);
+    let workers = workers_at(stamp);
+    assert!(rt; (counts.workers, counts.active) == (workers, workers));
+    stamp
+}
+
+/// Looks until all is published. The stamps never fall.
+fn watch(rt: &impl Abort, lens: Lens) -> u64 {
     let mut lens = lens;
     let mut last = 0;
     for _ in 0..1_000_000_000u64 {
-        match lens.look(|view| (view.stamp(), view.counts())) {
-            Ok((stamp, counts)) => {
-                assert!(rt; last <= stamp);
-                assert_eq!(rt;
-                    (counts.workers, counts.active),
-                    (workers_at(stamp), workers_at(stamp))
-                );
-                last = stamp;
-            }
-            Err(Gone) => panic!(rt; "the press is there"),
-        }
+        last = sees_from(rt, &mut lens, last);
         if last == ENTRIES {
             break;
         }
@@ -158,38 +186,31 @@ fn watch<R: Abort>(rt: &R, lens: Lens) -> u64 {
     last
 }
 
-fn crowd<R: Threads + Wait + Abort + Sync>(rt: &R, press: Press<&R>) -> Option<()>
+fn crowd<R: Threads + Wait + Abort + Sync>(rt: &R, press: Press<&R>)
     requires { (press.template.entries ≡ 2 ^ 62) × (press.published ≡ []) × (press.pending ≡ []) }
 {
-    let arg = Text::new(b"a")?;
+    let arg = text(rt, "a");
     let mut press = press;
-    let Ok(one) = press.lens() else {
-        return None;
-    };
-    let Ok(two) = press.lens() else {
-        return None;
-    };
-    let Ok(three) = press.lens() else {
-        return None;
-    };
+    let one = lens(rt, &mut press);
+    let two = lens(rt, &mut press);
+    let three = lens(rt, &mut press);
     let (press, seen) = join(
         rt,
-        || -> Option<Press<&R>>
+        || -> Press<&R>
             requires { (press.template.entries ≡ 2 ^ 62) × (press.published ≡ []) × (press.pending ≡ []) }
-        { publish_all(press, &arg) },
+        { publish_all(rt, press, &arg) },
         || join(
             rt,
             || watch(rt, one),
             || join(rt, || watch(rt, two), || watch(rt, three)),
         ),
     );
-    assert_eq!(rt; seen, (ENTRIES, (ENTRIES, ENTRIES)));
-    assert_eq!(rt; press?.editions(), ENTRIES);
-    Some(())
+    assert!(rt; seen == (ENTRIES, (ENTRIES, ENTRIES)));
+    assert!(rt; press.editions() == ENTRIES);
 }
 
 #[test]
 fn three_lenses_watch_a_hundred_thousand_entries(rt: HostRuntime) -> Result<(), Fail> {
-    crowd(&rt, Press::new(rt.alloc(), &rt, template(&rt), 3)?).ok_or("memory and places")?;
+    crowd(&rt, Press::new(rt.alloc(), &rt, template(&rt), 3)?);
     Ok(())
 }
