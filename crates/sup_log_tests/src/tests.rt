@@ -1,11 +1,12 @@
 //! What no clause says: threads, the end of a press, and growth that is refused. A function that owns a press or a lens
 //! leaves the comparing to functions that borrow it: what a check of it costs grows with the ways out of it.
-ghost use Rattle.std.specs.Prelude.{◌≡◌, ◌^◌, ◌<◌, ◌+◌, ◌++◌, ◌∷◌, [], length};
+ghost use Rattle.std.specs.Prelude.{◌≡◌, ◌^◌, ◌<◌, ◌≤◌, ◌+◌, ◌++◌, ◌∷◌, [], length};
 
 mod ending;
 mod growth;
 mod threads;
 
+use std::alloc::Global;
 use std::process::Abort;
 use std::sync::Wait;
 use sup_log::{Lens, Press};
@@ -37,6 +38,17 @@ fn entry(operation: Operation) -> Entry {
         moment: 0,
         operation,
         answer: Answer::Running,
+    }
+}
+
+/// A press of such a template with so many places, for which there is memory.
+fn press<R: Wait + Abort>(rt: &R, alloc: Global, places: usize) -> Press<&R>
+    requires { (0 < places) × (places ≤ 1024) }
+    ensures { (result.template.entries ≡ 2 ^ 62) × (result.published ≡ []) × (result.pending ≡ []) }
+{
+    match Press::new(alloc, rt, template(rt), places) {
+        Ok(press) => press,
+        Err(_) => panic!(rt; "memory"),
     }
 }
 

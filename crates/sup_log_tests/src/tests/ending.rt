@@ -1,10 +1,9 @@
 //! Lenses that outlive their press, and what is seen of a supervisor that is down.
 ghost use Rattle.std.specs.Prelude.{◌≡◌, ◌^◌, ◌<◌, ◌+◌, [], length};
 
-use super::{append, entry, lens, started, template};
+use super::{append, entry, lens, press, started};
 use std::process::Abort;
 use std::sync::Wait;
-use std::test::*;
 use sup_log::{Gone, Lens, Press, View};
 use sup_types::{Counts, Operation};
 
@@ -35,10 +34,8 @@ fn is_gone(rt: &impl Abort, lens: &mut Lens) {
 }
 
 #[test]
-fn a_lens_that_outlives_its_press_is_answered_gone(rt: HostRuntime) -> Result<(), Fail> {
-    let press = Press::new(rt.alloc(), &rt, template(&rt), 1)?;
-    is_gone(&rt, &mut outlived(&rt, press));
-    Ok(())
+fn a_lens_that_outlives_its_press_is_answered_gone(rt: HostRuntime) {
+    is_gone(&rt, &mut outlived(&rt, press(&rt, rt.alloc(), 1)));
 }
 
 fn stopped<R: Wait + Drop + Abort>(rt: &R, press: Press<&R>)
@@ -79,7 +76,6 @@ fn rows(view: &View) -> Option<usize> {
 }
 
 #[test]
-fn nothing_is_listed_once_it_is_down(rt: HostRuntime) -> Result<(), Fail> {
-    stopped(&rt, Press::new(rt.alloc(), &rt, template(&rt), 1)?);
-    Ok(())
+fn nothing_is_listed_once_it_is_down(rt: HostRuntime) {
+    stopped(&rt, press(&rt, rt.alloc(), 1));
 }

@@ -1,10 +1,9 @@
 //! Lenses in threads of their own.
 ghost use Rattle.std.specs.Prelude.{◌≡◌, ◌+◌, ◌≤◌, ◌<◌, ◌^◌, [], length};
 
-use super::{append, entry, lens, started, template, text};
+use super::{append, entry, lens, press, started, text};
 use std::process::Abort;
 use std::sync::Wait;
-use std::test::*;
 use std::thread::{Threads, join};
 use sup_log::{Gone, Lens, Press, Ticket};
 use sup_types::{Entry, Operation, Row, Status, Text};
@@ -106,24 +105,32 @@ fn lists_three(rt: &impl Abort, lens: &mut Lens, last: &Ticket)
         panic!(rt; "the children are listed");
     };
     assert!(rt; lens.front().stamp() == 3);
+    are_three(rt, rows.as_slice());
+}
+
+fn are_three(rt: &impl Abort, rows: &[Row]) {
     assert!(rt; rows.len() == 3);
     assert!(rt; rows.iter().all(|row| row.is_running()));
+}
+
+/// Three entries are published, by two publications.
+fn is_twice_published<R: Wait + Drop>(rt: &impl Abort, press: &Press<R>, last: &Ticket) {
+    assert!(rt; (last.stamp(), press.editions()) == (3, 2));
 }
 
 fn lenses_learn<R: Threads + Wait + Abort + Sync>(rt: &R, press: Press<&R>)
     requires { (press.template.entries ≡ 2 ^ 62) × (press.published ≡ []) × (press.pending ≡ []) }
 {
     let (press, one, mut two, ticket) = first_publication(rt, press);
-    let (seen, (press, last)) = learn_and_publish(rt, press, one, &ticket);
+    let (seen, published) = learn_and_publish(rt, press, one, &ticket);
     is_first(rt, seen);
-    assert!(rt; (last.stamp(), press.editions()) == (3, 2));
-    lists_three(rt, &mut two, &last);
+    is_twice_published(rt, &published.0, &published.1);
+    lists_three(rt, &mut two, &published.1);
 }
 
 #[test]
-fn two_lenses_learn(rt: HostRuntime) -> Result<(), Fail> {
-    lenses_learn(&rt, Press::new(rt.alloc(), &rt, template(&rt), 2)?);
-    Ok(())
+fn two_lenses_learn(rt: HostRuntime) {
+    lenses_learn(&rt, press(&rt, rt.alloc(), 2));
 }
 
 const ENTRIES: u64 = 100_000;
@@ -210,7 +217,6 @@ fn crowd<R: Threads + Wait + Abort + Sync>(rt: &R, press: Press<&R>)
 }
 
 #[test]
-fn three_lenses_watch_a_hundred_thousand_entries(rt: HostRuntime) -> Result<(), Fail> {
-    crowd(&rt, Press::new(rt.alloc(), &rt, template(&rt), 3)?);
-    Ok(())
+fn three_lenses_watch_a_hundred_thousand_entries(rt: HostRuntime) {
+    crowd(&rt, press(&rt, rt.alloc(), 3));
 }
