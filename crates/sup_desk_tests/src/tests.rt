@@ -1,6 +1,7 @@
 //! What no clause says: worked rows, threads, and growth that is refused. Each function looks at little: what a check
-//! of a test costs grows faster than its length.
-ghost use Rattle.std.specs.Prelude.{◌≡◌, ◌^◌};
+//! of a test costs grows faster than its length. One that owns a desk and its handles leaves the comparing to functions
+//! that borrow them.
+ghost use Rattle.std.specs.Prelude.{◌≡◌, IfOk};
 
 mod batches;
 mod growth;
@@ -12,8 +13,11 @@ use std::alloc::{AllocError, Global};
 use std::collections::VecDeque;
 use std::process::Abort;
 use std::sync::Wait;
-use sup_desk::{Desk, Done, Handle, HandleFault, Name, UpdateFault};
-use sup_types::{Answer, Kind, Operation, Reason, Reply, Restart, Starter, Template, Text};
+use sup_desk::{Desk, Done, Ground, Handle, HandleFault, Name, QueryFault, UpdateFault};
+use sup_log::Gone;
+use sup_types::{
+    Answer, Counts, Kind, Operation, Reason, Reply, Restart, Seen, Starter, Template, Text,
+};
 
 /// Each start is answered `Running`.
 #[derive(Drop)]
@@ -41,12 +45,24 @@ fn template(rt: &impl Abort, restart: Restart, max: u64, entries: u64) -> Templa
     }
 }
 
+/// A ground on which so many handles can be made.
+fn ground<R: Wait + Abort>(rt: &R, alloc: Global, template: Template, handles: u64) -> Ground<&R> {
+    match Ground::new(alloc, rt, template, handles) {
+        Ok(ground) => ground,
+        Err(_) => panic!(rt; "a ground"),
+    }
+}
+
+fn reply_of(done: Result<Done, UpdateFault>) -> Result<Reply, UpdateFault> {
+    match done {
+        Ok(done) => Ok(done.reply),
+        Err(fault) => Err(fault),
+    }
+}
+
 /// The update was entered, with this reply.
 fn replied(rt: &impl Abort, done: Result<Done, UpdateFault>, reply: Reply) {
-    match done {
-        Ok(done) => assert_eq!(rt; done.reply, reply),
-        Err(_) => panic!(rt; "the update is entered"),
-    }
+    assert!(rt; reply_of(done) == Ok(reply));
 }
 
 /// The call of this operation.
@@ -88,18 +104,98 @@ fn four(rt: &impl Abort, alloc: Global) -> Result<VecDeque<Operation>, AllocErro
     Ok(operations)
 }
 
+/// As `four`, with memory for them.
+fn queue(rt: &impl Abort, alloc: Global) -> VecDeque<Operation> {
+    match four(rt, alloc) {
+        Ok(operations) => operations,
+        Err(_) => panic!(rt; "memory"),
+    }
+}
+
 /// A handle. Where it is refused nothing has changed, and the next one is made.
 fn made<'d, 'r, N: Name, S: Starter + Drop, R: Wait + Abort>(
     rt: &'r R,
     desk: &'d Desk<N, S, &'r R>,
 ) -> Handle<'d, N, S, &'r R> {
-    let mut made = desk.handle(rt);
-    if let Err(fault) = made {
-        assert_eq!(rt; fault, HandleFault::NoPlace);
-        made = desk.handle(rt);
-    }
-    match made {
+    match desk.handle(rt) {
         Ok(handle) => handle,
-        Err(_) => panic!(rt; "a handle"),
+        Err(fault) => {
+            assert!(rt; fault == HandleFault::NoPlace);
+            desk.handle(rt).expect(rt, "a handle")
+        }
+    }
+}
+
+/// The handle has seen so many entries.
+fn has_seen<N: Name, S: Starter + Drop, R: Wait + Abort>(
+    rt: &R,
+    handle: &Handle<'_, N, S, &R>,
+    front: u64,
+) {
+    assert!(rt; handle.front() == front);
+}
+
+/// It is up, and there is no worker.
+fn is_idle(rt: &impl Abort, counts: Result<Seen<Counts>, Gone>) {
+    assert!(rt; matches!(counts, Ok(Seen::Up(counts)) if counts.workers == 0));
+}
+
+/// The child is listed, and runs.
+fn is_running<N: Name, S: Starter + Drop, R: Wait + Abort>(
+    rt: &R,
+    handle: &mut Handle<'_, N, S, &R>,
+    number: u64,
+) {
+    assert!(rt; matches!(handle.child(number), Ok(Seen::Up(Some(row))) if row.is_running()));
+}
+
+/// The stamp of the ticket that the handle gives.
+fn stamp<N: Name, S: Starter + Drop, R: Wait>(
+    rt: &R,
+    handle: &mut Handle<'_, N, S, &R>,
+) -> Option<u64> {
+    match handle.ticket(rt) {
+        Ok(ticket) => Some(ticket.stamp()),
+        Err(_) => None,
+    }
+}
+
+/// The update was entered, and the handle learns its ticket. The reply.
+fn learns<N: Name, S: Starter + Drop, R: Wait + Abort>(
+    rt: &R,
+    handle: &mut Handle<'_, N, S, &R>,
+    done: Result<Done, UpdateFault>,
+) -> Reply
+    requires { IfOk done (λ d. d.ticket.press ≡ N.press) }
+{
+    let Ok(done) = done else {
+        panic!(rt; "the update is entered");
+    };
+    assert!(rt; handle.learn(&done.ticket).is_ok());
+    done.reply
+}
+
+/// How many children are listed, where it is up. A list that is refused leaves what is seen, and is made a second time.
+fn listed<N: Name, R: Wait + Abort>(
+    rt: &R,
+    handle: &mut Handle<'_, N, Always, &R>,
+) -> Option<usize> {
+    let front = handle.front();
+    match length(handle) {
+        Ok(listed) => listed,
+        Err(fault) => {
+            assert!(rt; (fault, handle.front()) == (QueryFault::OutOfMemory, front));
+            length(handle).expect(rt, "the children are listed")
+        }
+    }
+}
+
+fn length<N: Name, R: Wait>(
+    handle: &mut Handle<'_, N, Always, &R>,
+) -> Result<Option<usize>, QueryFault> {
+    match handle.which_children() {
+        Ok(Seen::Up(rows)) => Ok(Some(rows.len())),
+        Ok(Seen::Down) => Ok(None),
+        Err(fault) => Err(fault),
     }
 }

@@ -2,14 +2,14 @@
 //! refused, and looks at what a refusal leaves.
 ghost use Rattle.std.specs.Prelude.{◌≡◌};
 
-use super::{Always, call, four, made, replied, template, text};
+use super::{Always, call, four, listed, made, replied, reply_of, template, text};
 use std::alloc::Global;
 use std::collections::VecDeque;
 use std::marker::Brand;
 use std::process::Abort;
 use std::sync::Wait;
 use std::test::*;
-use sup_desk::{Desk, DeskFault, Done, Dones, Ground, Handle, Name, Part, QueryFault, UpdateFault};
+use sup_desk::{Desk, DeskFault, Done, Dones, Ground, Handle, Name, Part, UpdateFault};
 use sup_types::{Counts, Operation, Reason, Reply, Restart, Seen};
 
 /// How many children are listed after each update of the row of five.
@@ -50,27 +50,9 @@ fn update<N: Name, R: Wait + Abort>(
     if done.is_ok() {
         return done;
     }
-    assert_eq!(rt; done.err(), Some(UpdateFault::OutOfMemory));
-    assert_eq!(rt; seen(handle), before);
+    assert!(rt; reply_of(done) == Err(UpdateFault::OutOfMemory));
+    assert!(rt; seen(handle) == before);
     call(rt, handle, 0, operation(rt, place))
-}
-
-/// How many children are listed, where it is up. A list that is refused leaves what is seen, and is made a second time.
-fn listed<N: Name, R: Wait + Abort>(
-    rt: &R,
-    handle: &mut Handle<'_, N, Always, &R>,
-) -> Option<usize> {
-    let front = handle.front();
-    let mut rows = handle.which_children();
-    if let Err(fault) = rows {
-        assert_eq!(rt; (fault, handle.front()), (QueryFault::OutOfMemory, front));
-        rows = handle.which_children();
-    }
-    match rows {
-        Ok(Seen::Up(rows)) => Some(rows.len()),
-        Ok(Seen::Down) => None,
-        Err(_) => panic!(rt; "the children are listed"),
-    }
 }
 
 fn bear_updates<N: Name, R: Wait + Abort>(rt: &R, ground: Ground<&R>)
@@ -78,12 +60,16 @@ fn bear_updates<N: Name, R: Wait + Abort>(rt: &R, ground: Ground<&R>)
 {
     let desk: Desk<N, Always, &R> = Desk::new(ground, Always);
     let mut handle = made(rt, &desk);
+    enter_five(rt, &mut handle);
+}
+
+fn enter_five<N: Name, R: Wait + Abort>(rt: &R, handle: &mut Handle<'_, N, Always, &R>) {
     for place in 0..5 {
-        let done = update(rt, &mut handle, place);
+        let done = update(rt, handle, place);
         replied(rt, done, REPLIES[place]);
-        assert_eq!(rt; listed(rt, &mut handle), LISTED[place]);
+        assert!(rt; listed(rt, handle) == LISTED[place]);
     }
-    assert_eq!(rt; (handle.number(), handle.front()), (1, 5));
+    assert!(rt; (handle.number(), handle.front()) == (1, 5));
 }
 
 #[test]
@@ -91,7 +77,7 @@ fn a_refused_update_is_entered_the_next_time(rt: HostRuntime) -> Result<(), Fail
     let template = template(&rt, Restart::Permanent, 10, 1 << 62);
     match Ground::new(rt.alloc(), &rt, template, 1) {
         Ok(ground) => bear_updates::<Brand, HostRuntime>(&rt, ground),
-        Err(fault) => assert_eq!(rt; fault, DeskFault::OutOfMemory),
+        Err(fault) => assert!(rt; fault == DeskFault::OutOfMemory),
     }
     Ok(())
 }
@@ -101,32 +87,37 @@ fn entered(rt: &impl Abort, applied: Result<Dones, Part>) -> usize {
     match applied {
         Ok(done) => done.replies.len(),
         Err(part) => {
-            assert_eq!(rt; part.fault, UpdateFault::OutOfMemory);
+            assert!(rt; part.fault == UpdateFault::OutOfMemory);
             part.replies.len()
         }
     }
 }
 
-/// Four operations and an exit of no child. The list of what is not yet published grows at the first and at the fifth.
 fn bear_batch<N: Name, R: Wait + Abort>(
     rt: &R,
     alloc: Global,
     ground: Ground<&R>,
-    operations: VecDeque<Operation>,
+    operations: &mut VecDeque<Operation>,
 )
     requires { (ground.press ≡ N.press) × (ground.template ≡ N.template) }
 {
     let desk: Desk<N, Always, &R> = Desk::new(ground, Always);
     let mut handle = made(rt, &desk);
-    let mut operations = operations;
-    let first = entered(rt, handle.apply_all(rt, alloc, 0, &mut operations));
+    apply_twice(rt, alloc, &mut handle, operations);
+}
+
+/// Four operations and an exit of no child. The list of what is not yet published grows at the first and at the fifth.
+fn apply_twice<N: Name, R: Wait + Abort>(
+    rt: &R,
+    alloc: Global,
+    handle: &mut Handle<'_, N, Always, &R>,
+    operations: &mut VecDeque<Operation>,
+) {
+    let first = entered(rt, handle.apply_all(rt, alloc, 0, operations));
     let left = operations.len();
-    assert_eq!(rt;
-        (handle.front(), Some(left)),
-        (first as u64, 5usize.checked_sub(first))
-    );
-    let others = entered(rt, handle.apply_all(rt, alloc, 0, &mut operations));
-    assert_eq!(rt; (others, handle.front()), (left, 5));
+    assert!(rt; (handle.front(), Some(left)) == (first as u64, 5usize.checked_sub(first)));
+    let others = entered(rt, handle.apply_all(rt, alloc, 0, operations));
+    assert!(rt; (others, handle.front()) == (left, 5));
 }
 
 #[test]
@@ -142,8 +133,8 @@ fn a_batch_leaves_in_its_queue_what_is_refused(rt: HostRuntime) -> Result<(), Fa
         return Ok(());
     }
     match Ground::new(rt.alloc(), &rt, template, 1) {
-        Ok(ground) => bear_batch::<Brand, HostRuntime>(&rt, rt.alloc(), ground, operations),
-        Err(fault) => assert_eq!(rt; fault, DeskFault::OutOfMemory),
+        Ok(ground) => bear_batch::<Brand, HostRuntime>(&rt, rt.alloc(), ground, &mut operations),
+        Err(fault) => assert!(rt; fault == DeskFault::OutOfMemory),
     }
     Ok(())
 }

@@ -1,7 +1,7 @@
 //! A query while an update is under way, and what tickets carry.
 ghost use Rattle.std.specs.Prelude.{◌≡◌, IfOk};
 
-use super::{made, template, text};
+use super::{ground, is_idle, is_running, learns, made, stamp, template, text};
 use std::marker::Brand;
 use std::process::Abort;
 use std::sync::Wait;
@@ -9,7 +9,7 @@ use std::sync::atomic::{AtomicBool, Ordering};
 use std::test::*;
 use std::thread::{Threads, join, yield_now};
 use sup_desk::{Desk, Done, Ground, Handle, Name, UpdateFault};
-use sup_log::{Gone, Ticket};
+use sup_log::Gone;
 use sup_types::{Answer, Counts, Reply, Restart, Seen, Starter, Text};
 
 /// How often a mark is looked for at most.
@@ -83,16 +83,14 @@ fn count_meanwhile<'m, N: Name, R: Wait>(
 }
 
 #[test]
-fn a_query_is_answered_while_an_update_has_the_lock(rt: HostRuntime) -> Result<(), Fail> {
+fn a_query_is_answered_while_an_update_has_the_lock(rt: HostRuntime) {
     let template = template(&rt, Restart::Permanent, 10, 1 << 62);
-    let ground = Ground::new(rt.alloc(), &rt, template, 2)?;
     let marks = Marks {
         entered: AtomicBool::new(false),
         asked: AtomicBool::new(false),
         was_asked: AtomicBool::new(false),
     };
-    ask_meanwhile::<Brand, HostRuntime>(&rt, ground, &marks);
-    Ok(())
+    ask_meanwhile::<Brand, HostRuntime>(&rt, ground(&rt, rt.alloc(), template, 2), &marks);
 }
 
 fn ask_meanwhile<N: Name + Send + Sync, R: Threads + Wait + Abort + Sync>(
@@ -105,15 +103,24 @@ fn ask_meanwhile<N: Name + Send + Sync, R: Threads + Wait + Abort + Sync>(
     let desk: Desk<N, Waiting, &R> = Desk::new(ground, Waiting { marks });
     let mut first = made(rt, &desk);
     let mut second = made(rt, &desk);
+    let done = ask_at_once(rt, &mut first, &mut second, marks);
+    learn_both(rt, &mut first, &mut second, done);
+}
+
+/// The query is asked and answered, without the child, before the start is done.
+fn ask_at_once<'m, N: Name + Send + Sync, R: Threads + Wait + Abort + Sync>(
+    rt: &R,
+    first: &mut Handle<'_, N, Waiting<'m>, &R>,
+    second: &mut Handle<'_, N, Waiting<'m>, &R>,
+    marks: &Marks,
+) -> Result<Done, UpdateFault>
+    ensures { IfOk result (λ d. d.ticket.press ≡ N.press) }
+{
     let arg = text(rt, "a");
-    let (done, counts) = start_and_count(rt, &mut first, &mut second, &arg, marks);
+    let (done, counts) = start_and_count(rt, first, second, &arg, marks);
     assert!(rt; marks.was_asked.load(Ordering::SeqCst));
-    assert!(rt; matches!(counts, Ok(Seen::Up(counts)) if counts.workers == 0));
-    let Ok(done) = done else {
-        panic!(rt; "the start is entered");
-    };
-    assert_eq!(rt; done.reply, Reply::Started(1));
-    learn_both(rt, &mut first, &mut second, &done.ticket);
+    is_idle(rt, counts);
+    done
 }
 
 /// One handle learns of a start and of the termination by the other.
@@ -121,17 +128,13 @@ fn learn_both<'m, N: Name, R: Wait + Abort>(
     rt: &R,
     first: &mut Handle<'_, N, Waiting<'m>, &R>,
     second: &mut Handle<'_, N, Waiting<'m>, &R>,
-    started: &Ticket,
+    started: Result<Done, UpdateFault>,
 )
-    requires { started.now.press ≡ N.press }
+    requires { IfOk started (λ d. d.ticket.press ≡ N.press) }
 {
-    assert!(rt; second.learn(started).is_ok());
-    assert!(rt; matches!(second.child(1), Ok(Seen::Up(Some(row))) if row.is_running()));
-    let Ok(ended) = first.terminate_child(rt, 1, 1) else {
-        panic!(rt; "the termination is entered");
-    };
-    assert!(rt; second.learn(&ended.ticket).is_ok());
+    assert!(rt; learns(rt, second, started) == Reply::Started(1));
+    is_running(rt, second, 1);
+    learns(rt, second, first.terminate_child(rt, 1, 1));
     assert!(rt; matches!(second.child(1), Ok(Seen::Up(None))));
-    let ticket = second.ticket(rt);
-    assert_eq!(rt; ticket.ok().map(|ticket| ticket.stamp()), Some(2));
+    assert!(rt; stamp(rt, second) == Some(2));
 }

@@ -1,13 +1,16 @@
 //! Worked rows, call by call.
 ghost use Rattle.std.specs.Prelude.{◌≡◌};
 
-use super::{Always, call, made, replied, start, template, text};
+use super::{
+    Always, call, ground, has_seen, is_running, learns, listed, made, replied, reply_of, stamp,
+    start, template, text,
+};
 use std::marker::Brand;
 use std::process::Abort;
 use std::sync::Wait;
 use std::test::*;
 use sup_desk::{Desk, DeskFault, Ground, Handle, HandleFault, Name, UpdateFault};
-use sup_types::{AutoShutdown, Counts, Operation, Reason, Refusal, Reply, Restart, Seen};
+use sup_types::{AutoShutdown, Counts, Operation, Reason, Refusal, Reply, Restart, Seen, Text};
 
 /// The query is answered so.
 fn counted<N: Name, R: Wait + Abort>(
@@ -22,7 +25,7 @@ fn counted<N: Name, R: Wait + Abort>(
         supervisors: 0,
         workers,
     };
-    assert_eq!(rt; handle.count_children().ok(), Some(Seen::Up(counts)));
+    assert!(rt; handle.count_children().ok() == Some(Seen::Up(counts)));
 }
 
 #[test]
@@ -30,17 +33,20 @@ fn refuses_numbers_of_handles_out_of_range(rt: HostRuntime) -> Result<(), Fail> 
     let template = template(&rt, Restart::Permanent, 10, 1 << 62);
     for handles in [0, 1025] {
         let refused = Ground::new(rt.alloc(), &rt, template, handles).err();
-        assert_eq!(rt; refused, Some(DeskFault::BadTemplate));
+        assert!(rt; refused == Some(DeskFault::BadTemplate));
     }
     Ok(())
 }
 
+/// The query is answered that it is down.
+fn is_down<N: Name, R: Wait + Abort>(rt: &R, handle: &mut Handle<'_, N, Always, &R>) {
+    assert!(rt; handle.count_children().ok() == Some(Seen::Down));
+}
+
 #[test]
-fn makes_as_many_handles_and_entries_as_it_was_told(rt: HostRuntime) -> Result<(), Fail> {
+fn makes_as_many_handles_and_entries_as_it_was_told(rt: HostRuntime) {
     let template = template(&rt, Restart::Permanent, 10, 2);
-    let ground = Ground::new(rt.alloc(), &rt, template, 1)?;
-    fill::<Brand, HostRuntime>(&rt, ground);
-    Ok(())
+    fill::<Brand, HostRuntime>(&rt, ground(&rt, rt.alloc(), template, 1));
 }
 
 fn fill<N: Name, R: Wait + Abort>(rt: &R, ground: Ground<&R>)
@@ -48,26 +54,33 @@ fn fill<N: Name, R: Wait + Abort>(rt: &R, ground: Ground<&R>)
 {
     let desk: Desk<N, Always, &R> = Desk::new(ground, Always);
     let mut handle = made(rt, &desk);
-    assert_eq!(rt; handle.number(), 1);
-    assert_eq!(rt; desk.handle(rt).err(), Some(HandleFault::NoHandle));
+    is_only(rt, &desk, &handle);
     fill_history(rt, &mut handle);
+}
+
+/// No other handle is made.
+fn is_only<N: Name, R: Wait + Abort>(
+    rt: &R,
+    desk: &Desk<N, Always, &R>,
+    handle: &Handle<'_, N, Always, &R>,
+) {
+    assert!(rt; handle.number() == 1);
+    assert!(rt; desk.handle(rt).err() == Some(HandleFault::NoHandle));
 }
 
 fn fill_history<N: Name, R: Wait + Abort>(rt: &R, handle: &mut Handle<'_, N, Always, &R>) {
     start(rt, handle, 1);
     start(rt, handle, 2);
-    let refused = handle.start_child(rt, 0, text(rt, "c")).err();
-    assert_eq!(rt; refused, Some(UpdateFault::HistoryFull));
+    let refused = reply_of(handle.start_child(rt, 0, text(rt, "c")));
+    assert!(rt; refused == Err(UpdateFault::HistoryFull));
     counted(rt, handle, 2, 2);
-    assert_eq!(rt; handle.front(), 2);
+    has_seen(rt, handle, 2);
 }
 
 #[test]
-fn is_down_once_it_is_stopped(rt: HostRuntime) -> Result<(), Fail> {
+fn is_down_once_it_is_stopped(rt: HostRuntime) {
     let template = template(&rt, Restart::Permanent, 10, 1 << 62);
-    let ground = Ground::new(rt.alloc(), &rt, template, 1)?;
-    stop_it::<Brand, HostRuntime>(&rt, ground);
-    Ok(())
+    stop_it::<Brand, HostRuntime>(&rt, ground(&rt, rt.alloc(), template, 1));
 }
 
 fn stop_it<N: Name, R: Wait + Abort>(rt: &R, ground: Ground<&R>)
@@ -75,6 +88,13 @@ fn stop_it<N: Name, R: Wait + Abort>(rt: &R, ground: Ground<&R>)
 {
     let desk: Desk<N, Always, &R> = Desk::new(ground, Always);
     let mut handle = made(rt, &desk);
+    enter_all(rt, &mut handle);
+    answers_down(rt, &mut handle);
+    refuses_identifiers(rt, &handle, &text(rt, "x"));
+    has_seen(rt, &handle, 8);
+}
+
+fn enter_all<N: Name, R: Wait + Abort>(rt: &R, handle: &mut Handle<'_, N, Always, &R>) {
     let row = [
         (Operation::Start(text(rt, "a")), Reply::Started(1)),
         (Operation::Terminate(1), Reply::Ended),
@@ -85,10 +105,7 @@ fn stop_it<N: Name, R: Wait + Abort>(rt: &R, ground: Ground<&R>)
         (Operation::Stop, Reply::Stopped),
         (Operation::Start(text(rt, "c")), Reply::Down),
     ];
-    enter_row(rt, &mut handle, &row);
-    answers_down(rt, &mut handle);
-    refuses_identifiers(rt, &handle);
-    assert_eq!(rt; handle.front(), 8);
+    enter_row(rt, handle, &row);
 }
 
 /// Enters these operations, each a second after the one before, with these replies.
@@ -104,24 +121,28 @@ fn enter_row<N: Name, R: Wait + Abort>(
 }
 
 fn answers_down<N: Name, R: Wait + Abort>(rt: &R, handle: &mut Handle<'_, N, Always, &R>) {
-    assert_eq!(rt; handle.count_children().ok(), Some(Seen::Down));
-    assert!(rt; matches!(handle.which_children(), Ok(Seen::Down)));
+    is_down(rt, handle);
+    assert!(rt; listed(rt, handle).is_none());
     assert!(rt; matches!(handle.child(2), Ok(Seen::Down)));
 }
 
-fn refuses_identifiers<N: Name, R: Wait + Abort>(rt: &R, handle: &Handle<'_, N, Always, &R>) {
-    let id = text(rt, "x");
-    assert_eq!(rt; handle.delete_child(&id), Refusal::SimpleOneForOne);
-    assert_eq!(rt; handle.restart_child(&id), Refusal::SimpleOneForOne);
-    assert_eq!(rt; handle.terminate_id(&id), Refusal::SimpleOneForOne);
+fn refuses_identifiers<N: Name, R: Wait + Abort>(
+    rt: &R,
+    handle: &Handle<'_, N, Always, &R>,
+    id: &Text,
+) {
+    let refused = [
+        handle.delete_child(id),
+        handle.restart_child(id),
+        handle.terminate_id(id),
+    ];
+    assert!(rt; refused == [Refusal::SimpleOneForOne; 3]);
 }
 
 #[test]
-fn a_query_enters_anew(rt: HostRuntime) -> Result<(), Fail> {
+fn a_query_enters_anew(rt: HostRuntime) {
     let template = template(&rt, Restart::Permanent, 10, 1 << 62);
-    let ground = Ground::new(rt.alloc(), &rt, template, 3)?;
-    ask_anew::<Brand, HostRuntime>(&rt, ground);
-    Ok(())
+    ask_anew::<Brand, HostRuntime>(&rt, ground(&rt, rt.alloc(), template, 3));
 }
 
 fn ask_anew<N: Name, R: Wait + Abort>(rt: &R, ground: Ground<&R>)
@@ -133,7 +154,7 @@ fn ask_anew<N: Name, R: Wait + Abort>(rt: &R, ground: Ground<&R>)
     ask_of_each(rt, &mut first, &mut second);
     ask_view(rt, &mut first, &mut second);
     let mut third = made(rt, &desk);
-    assert_eq!(rt; third.front(), 4);
+    has_seen(rt, &third, 4);
     counted(rt, &mut third, 4, 4);
     ask_stopped(rt, &mut first, &mut second);
 }
@@ -146,11 +167,11 @@ fn ask_of_each<N: Name, R: Wait + Abort>(
 ) {
     start(rt, first, 1);
     counted(rt, second, 1, 1);
-    assert_eq!(rt; second.front(), 1);
+    has_seen(rt, second, 1);
     start(rt, first, 2);
-    assert!(rt; matches!(second.child(2), Ok(Seen::Up(Some(row))) if row.is_running()));
+    is_running(rt, second, 2);
     start(rt, first, 3);
-    assert!(rt; matches!(second.which_children(), Ok(Seen::Up(rows)) if rows.len() == 3));
+    assert!(rt; listed(rt, second) == Some(3));
 }
 
 /// The same of a look at the fourth, which a ticket then carries.
@@ -161,9 +182,8 @@ fn ask_view<N: Name, R: Wait + Abort>(
 ) {
     start(rt, first, 4);
     let seen = second.inspect(|view| (view.stamp(), view.counts().active));
-    assert_eq!(rt; seen.ok(), Some(Seen::Up((4, 4))));
-    let ticket = second.ticket(rt);
-    assert_eq!(rt; ticket.ok().map(|ticket| ticket.stamp()), Some(4));
+    assert!(rt; seen.ok() == Some(Seen::Up((4, 4))));
+    assert!(rt; stamp(rt, second) == Some(4));
 }
 
 /// A function is not called once a stop was learnt.
@@ -172,13 +192,10 @@ fn ask_stopped<N: Name, R: Wait + Abort>(
     first: &mut Handle<'_, N, Always, &R>,
     second: &mut Handle<'_, N, Always, &R>,
 ) {
-    let Ok(stopped) = first.stop(rt, 1) else {
-        panic!(rt; "the update is entered");
-    };
-    assert!(rt; second.learn(&stopped.ticket).is_ok());
+    learns(rt, second, first.stop(rt, 1));
     let mut called = false;
     let seen = second.inspect(|_| called = true);
-    assert_eq!(rt; seen.ok(), Some(Seen::Down));
+    assert!(rt; seen.ok() == Some(Seen::Down));
     assert!(rt; !called);
 }
 
@@ -186,8 +203,7 @@ fn ask_stopped<N: Name, R: Wait + Abort>(
 fn goes_down_with_a_significant_child(rt: HostRuntime) -> Result<(), Fail> {
     let template = template(&rt, Restart::Temporary, 10, 1 << 62);
     let significant = template.with_shutdown(true, AutoShutdown::Any)?;
-    let ground = Ground::new(rt.alloc(), &rt, significant, 1)?;
-    shut_down::<Brand, HostRuntime>(&rt, ground);
+    shut_down::<Brand, HostRuntime>(&rt, ground(&rt, rt.alloc(), significant, 1));
     Ok(())
 }
 
@@ -196,8 +212,15 @@ fn shut_down<N: Name, R: Wait + Abort>(rt: &R, ground: Ground<&R>)
 {
     let desk: Desk<N, Always, &R> = Desk::new(ground, Always);
     let mut handle = made(rt, &desk);
-    start(rt, &mut handle, 1);
-    let done = handle.exit(rt, 1, 1, Reason::Normal);
-    replied(rt, done, Reply::ShutDown(1));
-    assert_eq!(rt; handle.count_children().ok(), Some(Seen::Down));
+    goes_down(rt, &mut handle);
+}
+
+fn goes_down<N: Name, R: Wait + Abort>(rt: &R, handle: &mut Handle<'_, N, Always, &R>) {
+    start(rt, handle, 1);
+    replied(
+        rt,
+        handle.exit(rt, 1, 1, Reason::Normal),
+        Reply::ShutDown(1),
+    );
+    is_down(rt, handle);
 }

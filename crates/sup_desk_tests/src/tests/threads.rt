@@ -1,15 +1,15 @@
 //! Handles in threads of their own.
 ghost use Rattle.std.specs.Prelude.{◌≡◌};
 
-use super::{Always, made, template, text};
+use super::{Always, ground, is_idle, made, template, text};
 use std::marker::{Brand, PhantomData};
 use std::process::Abort;
 use std::sync::{Mutex, Wait};
 use std::test::*;
-use std::thread::{Threads, for_each_mut, join};
+use std::thread::{Threads, for_each_mut};
 use sup_desk::{Desk, Ground, Handle, Name, TicketFault};
 use sup_log::Ticket;
-use sup_types::{Reply, Restart, Seen, Text};
+use sup_types::{Reply, Restart, Row, Seen, Text};
 
 /// What an audit of these handles answers: the length of the history.
 fn audited<'r, N: Name, R: Wait>(
@@ -20,7 +20,10 @@ fn audited<'r, N: Name, R: Wait>(
     if !Handle::are_in_order(handles) {
         return None;
     }
-    Some(desk.audit(rt, handles).map(|ticket| ticket.stamp()))
+    match desk.audit(rt, handles) {
+        Ok(ticket) => Some(Ok(ticket.stamp())),
+        Err(fault) => Some(Err(fault)),
+    }
 }
 
 /// The numbers of so many children that one handle starts.
@@ -42,34 +45,29 @@ fn start_all<N: Name, R: Wait>(
     started
 }
 
-/// The numbers of children that two handles start at once, so many each.
-fn start_both<N: Name + Send + Sync, R: Threads + Wait + Sync>(
-    rt: &R,
-    first: &mut Handle<'_, N, Always, &R>,
-    second: &mut Handle<'_, N, Always, &R>,
-    arg: &Text,
-    count: u64,
-) -> (u64, u64) {
-    join(
+/// Two handles start children at once, 100 each.
+fn start_both<'d, 'r, N: Name + Send + Sync, R: Threads + Wait + Abort + Sync>(
+    rt: &'r R,
+    handles: &mut [Handle<'d, N, Always, &'r R>],
+) {
+    let arg = text(rt, "a");
+    for_each_mut(
         rt,
-        || start_all(rt, first, arg, count),
-        || start_all(rt, second, arg, count),
-    )
+        handles,
+        2,
+        &|_, handle| assert!(rt; start_all(rt, handle, &arg, 100) == 100),
+    );
 }
 
 fn crowd<'d, 'r, N: Name + Send + Sync, R: Threads + Wait + Abort + Sync>(
     rt: &'r R,
     desk: &'d Desk<N, Always, &'r R>,
 ) {
-    let arg = text(rt, "a");
-    let mut first = made(rt, desk);
-    let mut second = made(rt, desk);
-    let started = start_both(rt, &mut first, &mut second, &arg, 100);
-    assert_eq!(rt; started, (100, 100));
-    let mut handles = [first, second];
+    let mut handles = [made(rt, desk), made(rt, desk)];
+    start_both(rt, &mut handles);
     let alone = audited(rt, desk, &mut handles[..1]);
-    assert_eq!(rt; alone, Some(Err(TicketFault::Split)));
-    assert_eq!(rt; audited(rt, desk, &mut handles), Some(Ok(200)));
+    assert!(rt; alone == Some(Err(TicketFault::Split)));
+    assert!(rt; audited(rt, desk, &mut handles) == Some(Ok(200)));
     lists_all(rt, &mut handles[1]);
 }
 
@@ -78,9 +76,13 @@ fn lists_all<N: Name, R: Wait + Abort>(rt: &R, handle: &mut Handle<'_, N, Always
     let Ok(Seen::Up(rows)) = handle.which_children() else {
         panic!(rt; "it is up");
     };
-    assert_eq!(rt; rows.len(), 200);
+    are_all(rt, rows.as_slice());
+}
+
+fn are_all(rt: &impl Abort, rows: &[Row]) {
+    assert!(rt; rows.len() == 200);
     for (row, number) in rows.iter().zip(1..201) {
-        assert_eq!(rt; row.number, number);
+        assert!(rt; row.number == number);
     }
 }
 
@@ -92,11 +94,9 @@ fn crowd_on<N: Name + Send + Sync, R: Threads + Wait + Abort + Sync>(rt: &R, gro
 }
 
 #[test]
-fn two_handles_start_children_at_once(rt: HostRuntime) -> Result<(), Fail> {
+fn two_handles_start_children_at_once(rt: HostRuntime) {
     let template = template(&rt, Restart::Permanent, 200, 1 << 62);
-    let ground = Ground::new(rt.alloc(), &rt, template, 2)?;
-    crowd_on::<Brand, HostRuntime>(&rt, ground);
-    Ok(())
+    crowd_on::<Brand, HostRuntime>(&rt, ground(&rt, rt.alloc(), template, 2));
 }
 
 /// A ticket of the desk that N names.
@@ -127,7 +127,7 @@ fn exchange<N: Name, R: Wait + Abort>(
         let Ok(ended) = handle.terminate_child(rt, moment, number) else {
             panic!(rt; "the termination is entered");
         };
-        assert_eq!(rt; ended.reply, Reply::Ended);
+        assert!(rt; ended.reply == Reply::Ended);
         swap(rt, handle, passed, ended.ticket);
     }
 }
@@ -151,6 +151,19 @@ fn swap<N: Name, R: Wait>(
 }
 
 /// Four handles make 10,000 updates each.
+fn exchange_each<'d, 'r, N: Name + Send + Sync, R: Threads + Wait + Abort + Sync>(
+    rt: &'r R,
+    handles: &mut [Handle<'d, N, Always, &'r R>],
+) {
+    let passed = Mutex::new(None);
+    for_each_mut(
+        rt,
+        handles,
+        4,
+        &|_, handle| exchange(rt, handle, &passed, 5_000),
+    );
+}
+
 fn exchange_all<'d, 'r, N: Name + Send + Sync, R: Threads + Wait + Abort + Sync>(
     rt: &'r R,
     desk: &'d Desk<N, Always, &'r R>,
@@ -161,15 +174,9 @@ fn exchange_all<'d, 'r, N: Name + Send + Sync, R: Threads + Wait + Abort + Sync>
         made(rt, desk),
         made(rt, desk),
     ];
-    let passed = Mutex::new(None);
-    for_each_mut(
-        rt,
-        &mut handles,
-        4,
-        &|_, handle| exchange(rt, handle, &passed, 5_000),
-    );
-    assert_eq!(rt; audited(rt, desk, &mut handles), Some(Ok(40_000)));
-    assert!(rt; matches!(handles[3].count_children(), Ok(Seen::Up(counts)) if counts.workers == 0));
+    exchange_each(rt, &mut handles);
+    assert!(rt; audited(rt, desk, &mut handles) == Some(Ok(40_000)));
+    is_idle(rt, handles[3].count_children());
 }
 
 fn exchange_on<N: Name + Send + Sync, R: Threads + Wait + Abort + Sync>(rt: &R, ground: Ground<&R>)
@@ -180,9 +187,7 @@ fn exchange_on<N: Name + Send + Sync, R: Threads + Wait + Abort + Sync>(rt: &R, 
 }
 
 #[test]
-fn four_handles_exchange_tickets(rt: HostRuntime) -> Result<(), Fail> {
+fn four_handles_exchange_tickets(rt: HostRuntime) {
     let template = template(&rt, Restart::Permanent, 4, 1 << 62);
-    let ground = Ground::new(rt.alloc(), &rt, template, 4)?;
-    exchange_on::<Brand, HostRuntime>(&rt, ground);
-    Ok(())
+    exchange_on::<Brand, HostRuntime>(&rt, ground(&rt, rt.alloc(), template, 4));
 }
