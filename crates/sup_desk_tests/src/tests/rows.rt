@@ -46,16 +46,32 @@ fn is_down<N: Name, R: Wait + Abort>(rt: &R, handle: &mut Handle<'_, N, Always, 
 #[test]
 fn makes_as_many_handles_and_entries_as_it_was_told(rt: HostRuntime) {
     let template = template(&rt, Restart::Permanent, 10, 2);
-    fill::<Brand, HostRuntime>(&rt, ground(&rt, rt.alloc(), template, 1));
+    on_one::<Brand, HostRuntime>(&rt, ground(&rt, rt.alloc(), template, 1), Case::History);
 }
 
-fn fill<N: Name, R: Wait + Abort>(rt: &R, ground: Ground<&R>)
+/// What is entered with the only handle of a desk.
+#[derive(Clone, Copy)]
+enum Case {
+    History,
+    Stop,
+    Significant,
+}
+
+fn on_one<N: Name, R: Wait + Abort>(rt: &R, ground: Ground<&R>, case: Case)
     requires { (ground.press ≡ N.press) × (ground.template ≡ N.template) }
 {
     let desk: Desk<N, Always, &R> = Desk::new(ground, Always);
     let mut handle = made(rt, &desk);
     is_only(rt, &desk, &handle);
-    fill_history(rt, &mut handle);
+    enter(rt, &mut handle, case);
+}
+
+fn enter<N: Name, R: Wait + Abort>(rt: &R, handle: &mut Handle<'_, N, Always, &R>, case: Case) {
+    match case {
+        Case::History => fill_history(rt, handle),
+        Case::Stop => stop_it(rt, handle),
+        Case::Significant => goes_down(rt, handle),
+    }
 }
 
 /// No other handle is made.
@@ -80,18 +96,14 @@ fn fill_history<N: Name, R: Wait + Abort>(rt: &R, handle: &mut Handle<'_, N, Alw
 #[test]
 fn is_down_once_it_is_stopped(rt: HostRuntime) {
     let template = template(&rt, Restart::Permanent, 10, 1 << 62);
-    stop_it::<Brand, HostRuntime>(&rt, ground(&rt, rt.alloc(), template, 1));
+    on_one::<Brand, HostRuntime>(&rt, ground(&rt, rt.alloc(), template, 1), Case::Stop);
 }
 
-fn stop_it<N: Name, R: Wait + Abort>(rt: &R, ground: Ground<&R>)
-    requires { (ground.press ≡ N.press) × (ground.template ≡ N.template) }
-{
-    let desk: Desk<N, Always, &R> = Desk::new(ground, Always);
-    let mut handle = made(rt, &desk);
-    enter_all(rt, &mut handle);
-    answers_down(rt, &mut handle);
-    refuses_identifiers(rt, &handle, &text(rt, "x"));
-    has_seen(rt, &handle, 8);
+fn stop_it<N: Name, R: Wait + Abort>(rt: &R, handle: &mut Handle<'_, N, Always, &R>) {
+    enter_all(rt, handle);
+    answers_down(rt, handle);
+    refuses_identifiers(rt, handle, &text(rt, "x"));
+    has_seen(rt, handle, 8);
 }
 
 fn enter_all<N: Name, R: Wait + Abort>(rt: &R, handle: &mut Handle<'_, N, Always, &R>) {
@@ -203,16 +215,12 @@ fn ask_stopped<N: Name, R: Wait + Abort>(
 fn goes_down_with_a_significant_child(rt: HostRuntime) -> Result<(), Fail> {
     let template = template(&rt, Restart::Temporary, 10, 1 << 62);
     let significant = template.with_shutdown(true, AutoShutdown::Any)?;
-    shut_down::<Brand, HostRuntime>(&rt, ground(&rt, rt.alloc(), significant, 1));
+    on_one::<Brand, HostRuntime>(
+        &rt,
+        ground(&rt, rt.alloc(), significant, 1),
+        Case::Significant,
+    );
     Ok(())
-}
-
-fn shut_down<N: Name, R: Wait + Abort>(rt: &R, ground: Ground<&R>)
-    requires { (ground.press ≡ N.press) × (ground.template ≡ N.template) }
-{
-    let desk: Desk<N, Always, &R> = Desk::new(ground, Always);
-    let mut handle = made(rt, &desk);
-    goes_down(rt, &mut handle);
 }
 
 fn goes_down<N: Name, R: Wait + Abort>(rt: &R, handle: &mut Handle<'_, N, Always, &R>) {

@@ -1,5 +1,5 @@
 use Rattle.sup_desk_tests.proofs.tests.rows.is_down_once_it_is_stopped.Given as goal
 
 -- the ground that was just made
-abbrev pub ghosts-stop_it : goal.ghosts-stop_it
-ghosts-stop_it g a = record { press = a.ground.press; template = a.ground.template }
+abbrev pub ghosts-on_one : goal.ghosts-on_one
+ghosts-on_one g a = record { press = a.ground.press; template = a.ground.template }
