@@ -1,4 +1,5 @@
-//! What no clause says: worked histories with the replies that OTP's rules give, each query, and growth that is refused.
+//! What no clause says: each query, the places of ended children, and growth that is refused. Worked histories with the
+//! replies that OTP's rules give are stored cases of the program.
 mod places;
 mod queries;
 mod spread;
