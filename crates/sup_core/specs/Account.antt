@@ -1,4 +1,4 @@
--- The supervisor of one thread, recounted from the whole account of a history.
+-- The reference semantics of the supervisor of one thread: each reply is computed from the whole account of a history.
 use Rattle.std.specs.Prelude.{◌≡◌, ℕ, zero, suc, ◌+◌, ◌-◌, ◌==◌, List, [], ◌∷◌, ◌++◌, Bool, false, not, ◌||◌, length, map, filter, fold, count_by, max, slice_index_or, Option, Some, None, if◌then◌else◌}
 use Rattle.std.specs.List.{list_any}
 use Rattle.sup_types.specs.declared.text.Text.{Text}
@@ -124,7 +124,7 @@ state_after template history = standing template (account template history)
 abbrev pub reply_after : Template → List Entry → Entry → Reply
 reply_after template history entry = reply_to (state_after template history) entry
 
--- the same with only the last attempts, one more than are borne
+-- the same with only the last attempts, one more than are allowed
 abbrev pub trimmed : State → State
 trimmed s = record s { attempts = keep_last (s.template.intensity + 1) s.attempts }
 

@@ -65,7 +65,7 @@ rows_after rows operation GaveUp = []
 rows_after rows operation _ = rows
 
 -- the state after an operation that has arrived and had this reply. Of the attempts it keeps the last, one more
--- than are borne
+-- than are allowed
 abbrev pub changed : State → Operation → Reply → State
 changed s operation reply =
     record {

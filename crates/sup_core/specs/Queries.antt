@@ -1,4 +1,4 @@
--- What the queries answer after a history, recounted from its account.
+-- What the queries answer after a history, computed from its account.
 use Rattle.std.specs.Prelude.{ℕ, List, Option}
 use Rattle.sup_types.specs.declared.template.Template.{Template}
 use Rattle.sup_types.specs.declared.view.Counts.{Counts}

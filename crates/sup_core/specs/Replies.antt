@@ -18,7 +18,7 @@ use Rattle.sup_window.specs.Attempts.{is_borne}
 use Rattle.sup_core.specs.Rows.{has_number, runs_as, waits_as, argument_at, without}
 use Rattle.sup_core.specs.State.{State, arrived}
 
--- whether one more attempt is borne at the latest moment
+-- whether one more attempt is allowed at the latest moment
 abbrev pub bears : State → Bool
 bears s = is_borne s.template.intensity s.template.period s.attempts s.latest
 

@@ -198,7 +198,7 @@ impl<A: Allocator + Copy> Sup<A> {
         }
     }
 
-    /// The argument of the listed child with this number and status, if one more attempt is borne.
+    /// The argument of the listed child with this number and status, if one more attempt is allowed.
     fn asked_again(&self, status: Status, number: u64, moment: u64) -> Option<Text>
         ensures { result ≡ if list_any (stands_as status number) self.now.rows then asked_again (arrived self.now moment) number else None }
     {
@@ -214,7 +214,7 @@ impl<A: Allocator + Copy> Sup<A> {
         ensures reply { result ≡ reply_to self.old entry.now }
         ensures next { self.new ≡ next_state self.old entry.now }
 
-        // By the recount of the whole history.
+        // By the reference semantics: from the whole history.
         ensures history { (history : List Entry) → IsAfter self.old history
             → (result ≡ reply_after self.old.template history entry.now) × IsAfter self.new (history ++ entry.now ∷ []) }
     {
@@ -413,7 +413,7 @@ impl<A: Allocator + Copy> Sup<A> {
         Some(Reply::Restarting(number, code))
     }
 
-    /// There were more attempts than are borne.
+    /// There were more attempts than are allowed.
     fn give_up(&mut self) -> Reply
         ensures reply { result ≡ Reply.GaveUp }
         ensures next { self.new ≡ record self.old { rows = []; down = true } }
@@ -422,7 +422,7 @@ impl<A: Allocator + Copy> Sup<A> {
         Reply::GaveUp
     }
 
-    /// Notes an attempt at the latest moment, and answers whether it is borne.
+    /// Notes an attempt at the latest moment, and answers whether it is allowed.
     fn note_attempt(&mut self) -> bool
         ensures value { result ≡ bears self.old }
         ensures next { self.new ≡ record self.old { attempts = keep_last (self.old.template.intensity + 1) (self.old.attempts ++ self.old.latest ∷ []) } }

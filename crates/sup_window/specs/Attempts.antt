@@ -10,7 +10,7 @@ still_counts period at made_at = nat_le at (made_at + period)
 abbrev pub attempts_within : ℕ → List ℕ → ℕ → ℕ
 attempts_within period attempts at = count_by (still_counts period at) attempts
 
--- whether one more attempt at this moment is borne
+-- whether one more attempt at this moment is allowed
 abbrev pub is_borne : ℕ → ℕ → List ℕ → ℕ → Bool
 is_borne intensity period attempts at = nat_le (attempts_within period attempts at + 1) intensity
 

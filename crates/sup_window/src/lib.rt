@@ -1,10 +1,10 @@
-//! How many restarts a supervisor bears within a period (OTP's manual of `supervisor`, "Supervision principles", maximum
-//! restart intensity).
+//! How many restarts a supervisor allows within a period (OTP's manual of `supervisor`, "Supervision principles",
+//! maximum restart intensity).
 //!
-//! What the layer above may rely on: an attempt is borne exactly where the attempts that count at its moment, itself
+//! What the layer above may rely on: an attempt is allowed exactly where the attempts that count at its moment, itself
 //! included, are at most the intensity. An attempt made at moment `m` counts at moment `t` where `t <= m + period`.
 //! The window decides as counting over all attempts ever made would, and keeps only the last of them, one more than
-//! are borne. After it is made it takes no memory.
+//! are allowed. After it is made it takes no memory.
 //!
 //! ```text
 //! let mut window = Window::new(alloc, 1, 5)?;
@@ -26,7 +26,7 @@ use std::alloc::{Allocator, Global};
 use std::marker::Model;
 use sup_types::OutOfMemory;
 
-/// The moments of the last attempts to restart, one more of them than are borne within a period.
+/// The moments of the last attempts to restart, one more of them than are allowed within a period.
 #[derive(Drop)]
 pub struct Window<A: Allocator = Global> {
     intensity: u64,
@@ -55,7 +55,7 @@ fn still_counts(period: u64, at: u64, made_at: u64) -> bool
 }
 
 impl<A: Allocator> Window<A> {
-    /// A window that has seen no attempt, and bears this many within this many seconds. The intensity is at most 1000.
+    /// A window that has seen no attempt, and allows this many within this many seconds. The intensity is at most 1000.
     /// It makes room for all that it will keep, and is refused only for want of memory.
     pub fn new(alloc: A, intensity: u64, period: u64) -> Result<Self, OutOfMemory>
         requires { intensity ≤ 1000 }
@@ -70,8 +70,8 @@ impl<A: Allocator> Window<A> {
         })
     }
 
-    /// Whether one more attempt at this moment is borne. A moment lower than that of an earlier attempt is taken as the
-    /// highest so far. Nothing changes.
+    /// Whether one more attempt at this moment is allowed. A moment lower than that of an earlier attempt is taken as
+    /// the highest so far. Nothing changes.
     pub fn would_allow(&self, moment: u64) -> bool
         ensures value { result ≡ is_borne self.now.intensity self.now.period self.now.moments (max self.now.latest moment) }
         ensures seen { (attempts : List ℕ) → HasSeen self.now attempts
@@ -94,8 +94,8 @@ impl<A: Allocator> Window<A> {
         !counts_at(&self.moments, oldest, self.period, at)
     }
 
-    /// Notes an attempt, and answers whether it is borne; one that is not counts as well. A moment lower than that of an
-    /// earlier attempt is taken as the highest so far.
+    /// Notes an attempt, and answers whether it is allowed; one that is not counts as well. A moment lower than that of
+    /// an earlier attempt is taken as the highest so far.
     pub fn attempt(&mut self, moment: u64) -> bool
         ensures value { result ≡ is_borne self.old.intensity self.old.period self.old.moments (max self.old.latest moment) }
         ensures next { self.new ≡ with_attempt self.old moment }
@@ -106,7 +106,7 @@ impl<A: Allocator> Window<A> {
         self.note(moment)
     }
 
-    // Once it is noted, an attempt is borne where the ring is not full, or its oldest moment counts no more.
+    // Once it is noted, an attempt is allowed where the ring is not full, or its oldest moment counts no more.
     fn note(&mut self, moment: u64) -> bool
         ensures value { result ≡ is_borne self.old.intensity self.old.period self.old.moments (max self.old.latest moment) }
         ensures next { self.new ≡ with_attempt self.old moment }
