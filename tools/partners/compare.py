@@ -127,10 +127,10 @@ def parting(results):
 # The mutants
 
 
-def self_test(comparison, program):
+def self_test(comparison):
     """Tries each mutant as if it were the program: it is caught where a text is found on which it differs from OTP or, where
     OTP takes no part, from the program. The right recount must not differ."""
-    comparison.ready(None if comparison.has_otp else program)
+    comparison.ready(None if comparison.has_otp else runs.program())
     left = {it[0]: mutants.made(it) for it in comparison.changes}
     ran = 0
     while left and ran < comparison.most:
@@ -163,6 +163,8 @@ def words_given(comparison):
     parser.add_argument("--show", metavar="SEED", type=int, help="write the text of this seed, and run nothing")
     parser.add_argument("--self-test", action="store_true", help=f"try {len(comparison.changes)} mutants, within {comparison.most} "
                         "seeds each")
+    if not comparison.has_otp:
+        parser.add_argument("--with-otp", action="store_true", help="run them through the supervisor of the installed OTP, too")
     given = parser.parse_args()
     if given.count < 1 or given.first < 0 or given.jobs < 1:
         parser.error("there are numbers from 1, and seeds from 0")
@@ -182,10 +184,11 @@ def perform(comparison, given):
         runs.say(f"seed {given.show}: {kind}")
         sys.stdout.buffer.write(text)
         return 0
+    if given.self_test:
+        return self_test(comparison)
+    comparison.has_otp = comparison.has_otp or given.with_otp
     if comparison.has_otp:
         tell_release()
-    if given.self_test:
-        return self_test(comparison, None if comparison.has_otp else runs.program())
     begin = time.monotonic()
     outcome = run_all(comparison, runs.program(), range(given.first, given.first + given.count), given.jobs)
     seconds = time.monotonic() - begin

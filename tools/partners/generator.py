@@ -1,4 +1,4 @@
-"""Random scripts and histories by seed. One seed is one text, on every machine.
+"""Random scripts and histories. One seed makes one text.
 
 A walk follows the supervisor by the recount, only to choose what is likely to matter: numbers that are listed, retries where a
 row waits, moments about the edge of the period. What is right is not decided here.
@@ -32,6 +32,7 @@ class Walk:
     def __init__(self, rng):
         self.rng = rng
         self.kind = rng.choice(["script", "replay"])
+        self.is_long = rng.random() < 0.01
         fields = self.fields()
         self.header = self.header_of(fields)
         template = recount.Template([it.encode() for it in fields])
@@ -52,9 +53,9 @@ class Walk:
         fields = {
             "restart": rng.choice(["permanent", "transient", "transient", "temporary"]),
             "kind": rng.choice(["worker", "worker", "supervisor"]),
-            "intensity": str(rng.choice([0, 1, 1, 2, 2, 2, 3, 3, 5, 10, 1000])),
+            "intensity": str(rng.choice([30, 60, 100] if self.is_long else [0, 1, 1, 2, 2, 2, 3, 3, 5, 10, 1000])),
             "period": str(rng.choice([1, 2, 3, 5, 5, 5, 10, 10, 60, 86400])),
-            "max": str(rng.choice([1, 2, 3, 4, 6, 10, 10, 50, 65536])),
+            "max": str(rng.choice([30, 100, 300, 65536] if self.is_long else [1, 2, 3, 4, 6, 10, 10, 50, 65536])),
         }
         if rng.random() < 0.03:
             name = rng.choice(list(OUT_OF_RANGE))
@@ -70,7 +71,7 @@ class Walk:
             return ["significant", rng.choice(["never", "any", "all"])]
         if restart == "permanent" or which < 0.5:
             return ["plain", rng.choice(["never", "any", "all"])]
-        return ["significant", rng.choice(["any", "all"])]
+        return ["significant", rng.choice(["any", "all", "all"])]
 
     def header_of(self, fields):
         if self.kind == "script":
@@ -125,7 +126,8 @@ class Walk:
         if name == "start":
             return name, self.argument()
         if name == "exit":
-            return name, f"{self.number(running)} {rng.choice(CLEAN if rng.random() < self.clean else CRASHES)}"
+            clean = 0.7 if waiting and len(running) == 1 else self.clean
+            return name, f"{self.number(running)} {rng.choice(CLEAN if rng.random() < clean else CRASHES)}"
         if name == "stop":
             return name, ""
         return name, str(self.number(waiting or list(rows) if name == "retry" else list(rows)))
@@ -158,7 +160,7 @@ class Walk:
         weights = self.answers if name != "exit" else rng.choice([self.answers, [20, 5, 75]])
         answer = rng.choices(["running", "ignore", "failed"], weights)[0]
         if answer == "failed":
-            answer += f" {rng.choice([0, 1, 7, 4294967295])}"
+            answer += f" {rng.choice([0, 7, recount.MOST_CODE, recount.MOST_CODE])}"
         handle, serial = rng.choice(self.handles), place if rng.random() < 0.9 else rng.choice([0, MOST])
         return self.followed(f"{handle} {serial} {self.moment()} {f'{name} {words}'.rstrip()} {answer}")
 
@@ -181,7 +183,7 @@ class Walk:
 
     def text(self, is_damaged):
         rng = self.rng
-        lines, left = [self.header], rng.choice([4, 10, 20, 20, 40, 40, 60, 150])
+        lines, left = [self.header], 1000 if self.is_long else rng.choice([4, 10, 20, 20, 40, 40, 60, 150])
         while left > 0:
             lines.append(self.line(len(lines)))
             left = min(left - 1, ENDINGS) if self.sup.is_down else left - 1

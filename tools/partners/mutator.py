@@ -76,7 +76,8 @@ def word_changed(rng, line):
 def number_changed(rng, line):
     """Another number, at a limit or spelt otherwise, or the next one, where one stood."""
     words = line.split(b" ")
-    place = rng.choice([it for it, word in enumerate(words) if word.isdigit()] or [0])
+    places = [it for it, word in enumerate(words) if word.isdigit()] or [0]
+    place = rng.choice([*places, places[-1]])
     is_next = words[place].isdigit() and len(words[place]) <= 20 and rng.random() < 0.5
     words[place] = b"%d" % (int(words[place]) + 1) if is_next else rng.choice(NUMBERS)
     return b" ".join(words)
