@@ -23,9 +23,10 @@ READING = (
     ("a_code_may_pass_32_bits", "MOST_CODE = 4294967295", "MOST_CODE = 4294967296"),
     ("a_text_has_41_bytes", "{1,40}", "{1,41}"),
     ("a_text_has_the_byte_7f", r"\x7e]", r"\x7f]"),
-    ("a_reason_may_be_shutdown_with_nothing", 'if token.startswith(b"shutdown:") else', 'if token[9:] else'),
+    ("a_reason_may_be_shutdown_with_nothing", 'if token.startswith(b"shutdown:") else',
+     'if token.startswith(b"shutdown:") and token != b"shutdown:" else'),
     ("a_carriage_return_ends_a_line", 'whole.split(b"\\n")\n    return', 'whole.replace(b"\\r\\n", b"\\n").split(b"\\n")\n    return'),
-    ("an_open_last_line_is_left_out", "    if left:", "    if left and not entries:"),
+    ("an_open_last_line_is_left_out", "    if left:\n        raise Fault(9, len(lines) + 1)\n", ""),
     ("a_bad_template_is_a_bad_line", "raise Fault(7, line)", "raise Fault(9, line)"),
     ("an_open_last_line_is_the_line_before", "raise Fault(9, len(lines) + 1)", "raise Fault(9, len(lines))"),
 )

@@ -2,6 +2,7 @@
 error and exit status. Where something is missing, Missing says what and how to come by it."""
 import os
 import shutil
+import signal
 import struct
 import subprocess
 import sys
@@ -37,8 +38,11 @@ def program():
 
 
 def by_program(path, kind, text):
-    """Runs the program on a text; a program that is ended by a signal has its negated number as status."""
-    ran = subprocess.run([path, kind], input=text, capture_output=True, timeout=SECONDS, cwd="/", close_fds=False)
+    """Runs the program on a text. A program that is ended by a signal has its negated number as status."""
+    try:
+        ran = subprocess.run([path, kind], input=text, capture_output=True, timeout=SECONDS, cwd="/", close_fds=False)
+    except subprocess.TimeoutExpired:
+        return b"", b"it did not end within %d seconds\n" % SECONDS, -signal.SIGKILL
     return ran.stdout, ran.stderr, ran.returncode
 
 
