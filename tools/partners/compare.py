@@ -7,6 +7,7 @@ import os
 import re
 import signal
 import sys
+import tempfile
 import time
 
 import mutants
@@ -128,26 +129,54 @@ def parting(results):
 
 
 def self_test(comparison):
-    """Tries each mutant as if it were the program: it is caught where a text is found on which it differs from OTP or, where
-    OTP takes no part, from the program. The right recount must not differ."""
+    """Tries the mutants of the command and, where OTP takes part, that each difference from it is met."""
     comparison.ready(None if comparison.has_otp else runs.program())
-    left = {it[0]: mutants.made(it) for it in comparison.changes}
-    ran = 0
-    while left and ran < comparison.most:
-        kind, text = comparison.text(ran)
-        ran += 1
-        for partner, right in comparison.others(kind, text).items():
-            difference = Difference(ran - 1, kind, text, {partner: right, "recount": recount.answered(kind, text)})
-            if len(set(difference.results.values())) > 1:
-                print(told(difference))
-                return 1
-            for name in [it for it in left if left[it].answered(kind, text) != right]:
-                results = {partner: right, "mutant": left.pop(name).answered(kind, text)}
-                print(f"{name}: caught by seed {ran - 1}: {'; '.join(parting(results))}", flush=True)
+    if comparison.has_otp and int(comparison.otp.release) > 26:
+        raise runs.Missing(f"the self-test needs OTP 24 to 26, and {comparison.otp.release} is installed")
+    left = mutants_left(comparison)
+    if comparison.has_otp:
+        left += [it[1] for it in mutants.DIFFERENCES if not is_met(comparison, it)]
     for name in left:
-        print(f"{name}: NOT caught")
-    print(f"{comparison.name}: {len(comparison.changes) - len(left)} of {len(comparison.changes)} mutants caught by {ran} seeds")
+        print(f"{name}: NOT caught within {comparison.most} seeds")
+    tried = len(comparison.changes) + (len(mutants.DIFFERENCES) if comparison.has_otp else 0)
+    print(f"{comparison.name}: {tried - len(left)} of {tried} caught")
     return 1 if left else 0
+
+
+def mutants_left(comparison):
+    """Tries each mutant as if it were the program: it is caught where a text is found on which it differs from OTP or, where
+    OTP takes no part, from the program. The right recount must not differ. Returns the names of those that are not caught."""
+    left = {it[0]: mutants.made(it) for it in comparison.changes}
+    for seed in range(comparison.most):
+        kind, text = comparison.text(seed)
+        for partner, right in comparison.others(kind, text).items():
+            if recount.answered(kind, text) != right:
+                print(told(Difference(seed, kind, text, {partner: right, "recount": recount.answered(kind, text)})))
+                return [*left, "the recount without a change"]
+            for name in [it for it in left if left[it].answered(kind, text) != right]:
+                tell_caught(name, seed, {partner: right, "mutant": left.pop(name).answered(kind, text)})
+        if not left:
+            break
+    return list(left)
+
+
+def is_met(comparison, change):
+    """Whether a driver that does not translate this difference from OTP answers otherwise than the recount."""
+    with tempfile.TemporaryDirectory(prefix="partners-") as folder:
+        mutants.driver_made(change, folder)
+        otp = runs.Otp(folder)
+    for seed in range(comparison.most):
+        kind, text = comparison.text(seed)
+        results = {"OTP": otp.run(kind, text), "recount": recount.answered(kind, text)}
+        if results["OTP"] != results["recount"]:
+            otp.close()
+            tell_caught(change[1], seed, results)
+            return True
+    return False
+
+
+def tell_caught(name, seed, results):
+    print(f"{name}: caught by seed {seed}: {'; '.join(parting(results))}", flush=True)
 
 
 # The command
@@ -161,8 +190,8 @@ def words_given(comparison):
     parser.add_argument("--from", dest="first", metavar="SEED", type=int, default=0, help="the first seed (0)")
     parser.add_argument("--jobs", metavar="J", type=int, default=min(4, os.cpu_count() or 1), help="processes at a time")
     parser.add_argument("--show", metavar="SEED", type=int, help="write the text of this seed, and run nothing")
-    parser.add_argument("--self-test", action="store_true", help=f"try {len(comparison.changes)} mutants, within {comparison.most} "
-                        "seeds each")
+    parser.add_argument("--self-test", action="store_true", help=f"try mutants, each of which must be caught within "
+                        f"{comparison.most} seeds")
     if not comparison.has_otp:
         parser.add_argument("--with-otp", action="store_true", help="run them through the supervisor of the installed OTP, too")
     given = parser.parse_args()

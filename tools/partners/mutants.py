@@ -1,5 +1,7 @@
 """Mutants: wrong recounts, each made by one change of the text of recount.py. A mutant stands in for a wrong program, since
-to build one takes minutes. Each has a name, the text that it changes, and what it puts there."""
+to build one takes minutes. And drivers that do not translate one of the differences from OTP. Each has a name, the text that
+it changes, and what it puts there; a driver's has its file, too."""
+import shutil
 import types
 
 import runs
@@ -31,14 +33,34 @@ READING = (
     ("an_open_last_line_is_the_line_before", "raise Fault(9, len(lines) + 1)", "raise Fault(9, len(lines))"),
 )
 
+DIFFERENCES = (
+    ("otp_differences.erl", "a_dead_process_is_ended", "dead_process(ok) -> {error, not_found};", ""),
+    ("otp_differences.erl", "an_ended_waiting_row_is_counted", "fun(Count) -> Count - 1 end", "fun(Count) -> Count end"),
+    ("otp_differences.erl", "an_ignored_restart_keeps_its_row", "maps:remove(undefined, Rows)", "Rows"),
+    ("otp_differences.erl", "a_call_exits_when_down", "Why =:= noproc; Why =:= shutdown", "Why =:= never"),
+    ("otp_clock.erl", "a_retry_comes_by_itself", "{held, Message}), ok", "{held, Message}), gen_server:cast(Self, Message)"),
+)
+
+
+def changed(file, name, old, new):
+    """The text of a file with the change."""
+    with open(f"{runs.HERE}/{file}", encoding="utf-8") as it:
+        whole = it.read()
+    if whole.count(old) != 1:
+        raise runs.Missing(f"the text of the mutant {name} stands {whole.count(old)} times in {file}, and not once: {old}")
+    return whole.replace(old, new)
+
 
 def made(change):
     """The recount as a module with this change."""
-    name, old, new = change
-    with open(f"{runs.HERE}/recount.py", encoding="utf-8") as it:
-        whole = it.read()
-    if whole.count(old) != 1:
-        raise runs.Missing(f"the text of the mutant {name} stands {whole.count(old)} times in recount.py, and not once: {old}")
-    module = types.ModuleType(name)
-    exec(compile(whole.replace(old, new), name, "exec"), module.__dict__)
+    module = types.ModuleType(change[0])
+    exec(compile(changed("recount.py", *change), change[0], "exec"), module.__dict__)
     return module
+
+
+def driver_made(change, folder):
+    """Puts the driver with this change into a folder."""
+    for name in runs.DRIVER:
+        shutil.copy(f"{runs.HERE}/{name}.erl", folder)
+    with open(f"{folder}/{change[0]}", "w", encoding="utf-8") as it:
+        it.write(changed(*change))

@@ -47,12 +47,12 @@ def by_program(path, kind, text):
 
 
 class Otp:
-    """A virtual machine of Erlang that runs texts against the installed OTP's supervisor."""
+    """A virtual machine of Erlang that runs texts against the installed OTP's supervisor, by the driver in a folder."""
 
-    def __init__(self):
+    def __init__(self, folder=HERE):
         if not shutil.which("erl"):
             raise Missing("the command erl is missing: it comes with Debian's package erlang-base")
-        files = [f"{HERE}/{it}.erl" for it in DRIVER]
+        files = [f"{folder}/{it}.erl" for it in DRIVER]
         words = ["erl", "-noinput", "-boot", "start_clean", "+S", "1:1", "+sbwt", "none", "-eval", BEGIN, "-extra", *files]
         self.machine = subprocess.Popen(words, stdin=subprocess.PIPE, stdout=subprocess.PIPE, cwd="/")
         word, _, told = self.packet().decode().partition(" ")
