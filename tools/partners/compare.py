@@ -16,7 +16,6 @@ import runs
 
 CHUNK = 50
 NOT_RUN = 255
-WORDS_OF_LINE = re.compile(rb" ?(child )?[0-9].*|(?<=count) .*")
 
 Difference = collections.namedtuple("Difference", "seed kind text results")
 Outcome = collections.namedtuple("Outcome", "ran tally not_run difference")
@@ -58,11 +57,12 @@ class Comparison:
 
 
 def words_of(kind, result):
-    """What the tally counts: the kind of the text, its fault or none, and the words of each reply."""
+    """What the tally counts: the kind of the text, its fault or none, and the words of each reply, with n for a number."""
     out, err, _status = result
     yield f"{kind}: {(err[: len('fault 0')] or b'no fault').decode()}"
     for line in out.splitlines():
-        yield WORDS_OF_LINE.sub(b"", line).decode() or "child"
+        is_of_query = line.startswith((b"child ", b"count "))
+        yield line.split(b" ")[0].decode() if is_of_query else re.sub(rb"[0-9]+", b"n", line).decode()
 
 
 # Many seeds
