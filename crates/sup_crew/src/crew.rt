@@ -16,7 +16,6 @@ use crate::tally::Tally;
 use crate::threads::{join_all, start};
 use std::alloc::Global;
 use std::sync::Wait;
-use std::sync::atomic::{AtomicBool, Ordering};
 use std::thread::{Scope, Threads};
 use sup_desk::{Asker, Caller, Desk, Name, UpdateFault};
 use sup_inbox::{Inbox, Poster, Taker};
@@ -56,7 +55,6 @@ fn drive<'s, 'd: 's, E, N, S, P, B, R>(
     jobs: &'s Jobs<N>,
     inbox: &'s Inbox,
     body: &'s B,
-    over: &'s AtomicBool,
     turns: u64,
     moment: u64,
     children: &[Text],
@@ -83,7 +81,7 @@ where
     ensures ready { IfOk result.1 (λ j. IsReady j.hand j.queued (vec_len j.left) (vec_capacity j.left)) }
 {
     let Ok((hand, workers)) = start(
-        scope, rt, alloc, jobs, inbox, body, over, turns, hand, posters, askers,
+        scope, rt, alloc, jobs, inbox, body, turns, hand, posters, askers,
     ) else {
         return (caller, Err(CrewFault::OutOfMemory));
     };
@@ -99,7 +97,7 @@ where
     let (started, fault) = lead.start_and_drain(
         rt, alloc, jobs, inbox, &mut drain, moment, turns, children,
     );
-    over.store(true, Ordering::SeqCst);
+    jobs.signals.end();
     let finished = join_all(rt, jobs, inbox, body, workers, finished);
     let fault = lead.drain_rest(rt, alloc, jobs, inbox, &mut drain, moment, fault);
     let Lead {
@@ -161,7 +159,6 @@ pub fn run_in<'s, E, N, S, P, B, R>(
     jobs: &'s Jobs<N>,
     inbox: &'s Inbox,
     body: &'s B,
-    over: &'s AtomicBool,
     turns: u64,
     moment: u64,
     children: &[Text],
@@ -187,7 +184,7 @@ where
 {
     match lend(rt, alloc, desk, posters.len()) {
         Ok(askers) => drive(
-            scope, rt, alloc, jobs, inbox, body, over, turns, moment, children, desk, caller, hand,
+            scope, rt, alloc, jobs, inbox, body, turns, moment, children, desk, caller, hand,
             posters, askers, taker, finished,
         ),
         Err(fault) => (caller, Err(fault)),

@@ -13,7 +13,6 @@ use crate::queue::{Hand, Jobs};
 use crate::tally::Tally;
 use std::alloc::Global;
 use std::sync::Wait;
-use std::thread;
 use sup_desk::{Done, Handle, Name, UpdateFault};
 use sup_inbox::Inbox;
 use sup_log::Ticket;
@@ -52,7 +51,10 @@ fn put_or_keep<N: Name, R: Wait>(
     ensures room { (vec_capacity left.new ≡ vec_capacity left.old) × (vec_len left.new + queued.new ≡ vec_len left.old + queued.old + 1) }
 {
     match hand.put(rt, jobs, job) {
-        Ok(()) => *queued += 1,
+        Ok(()) => {
+            *queued += 1;
+            jobs.signals.queued.give();
+        }
         Err(back) => left.push_reserved(back),
     }
 }
@@ -275,16 +277,18 @@ impl<'d, N: Name, S: Starter + Drop, P: Wait + Drop> Lead<'d, N, S, P> {
             if taken >= self.queued || idle >= turns {
                 return None;
             }
+            let noted = jobs.signals.posted.noted();
             let (count, fault) = self.drain_once(rt, alloc, jobs, inbox, drain, moment);
             if fault.is_some() {
                 return fault;
             }
             if count == 0 {
                 idle += 1;
-                thread::yield_now();
+                jobs.signals.posted.wait(rt, noted);
             } else {
                 idle = 0;
                 taken = taken.saturating_add(count);
+                jobs.signals.drained.give_to_all();
             }
         }
         unreachable!()

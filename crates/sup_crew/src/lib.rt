@@ -33,6 +33,7 @@ mod plan;
 mod queue;
 mod report;
 mod run;
+mod signals;
 mod tally;
 mod threads;
 mod turns;

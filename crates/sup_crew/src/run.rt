@@ -17,7 +17,6 @@ use crate::report::Report;
 use core::mem::replace_with;
 use std::alloc::Global;
 use std::sync::Wait;
-use std::sync::atomic::AtomicBool;
 use std::thread;
 use std::thread::Threads;
 use sup_desk::{Caller, Desk, Handle, Name};
@@ -55,8 +54,6 @@ where
     ensures kept { OnErr result.1 ((result.0.calls ≡ caller.calls) × (result.0.number ≡ caller.number)) }
     ensures ready { IfOk result.1 (λ j. IsReady j.hand j.queued (vec_len j.left) (vec_capacity j.left)) }
 {
-    let over = AtomicBool::new(false);
-    let flag = &over;
     thread::scope(
         thread::scope_env(),
         rt,
@@ -70,8 +67,8 @@ where
             ensures ready { IfOk result.1 (λ j. IsReady j.hand j.queued (vec_len j.left) (vec_capacity j.left)) }
         {
             run_in(
-                scope, rt, alloc, desk, jobs, inbox, body, flag, turns, moment, children, caller,
-                hand, posters, taker, finished,
+                scope, rt, alloc, desk, jobs, inbox, body, turns, moment, children, caller, hand,
+                posters, taker, finished,
             )
         },
     )
@@ -156,7 +153,10 @@ where
     replace_with(
         driver,
         parts,
-        |handle: Handle<'_, N, S, P>, parts: Parts<N>| -> (Handle<'_, N, S, P>, Result<Joined<N>, CrewFault>)
+        |handle: Handle<'_, N, S, P>, parts: Parts<N>| -> (
+            Handle<'_, N, S, P>,
+            Result<Joined<N>, CrewFault>,
+        )
             requires threads { IsSend N.row × IsSend S.row × IsSend P.row }
             requires hand { parts.hand ≡ record { queue = jobs.now; share = share 1024 [] [] } }
             requires posters { AreFrom inbox.now.id 1 parts.posters.items × AreNew parts.posters.items × (vec_len parts.posters < 1024) }

@@ -10,7 +10,6 @@ use crate::queue::{Hand, Jobs};
 use crate::worker::work;
 use std::alloc::Global;
 use std::sync::Wait;
-use std::sync::atomic::{AtomicBool, Ordering};
 use std::thread::{Promise, PromisedHandle, Scope, Threads};
 use sup_desk::{Asker, Name};
 use sup_inbox::{Inbox, Poster};
@@ -51,7 +50,6 @@ pub fn start<'s, E, N, B, R>(
     jobs: &'s Jobs<N>,
     inbox: &'s Inbox,
     body: &'s B,
-    over: &'s AtomicBool,
     turns: u64,
     hand: Hand<N>,
     posters: Vec<Poster>,
@@ -79,15 +77,15 @@ where
             number,
         };
         let Some(asker) = askers.pop() else {
-            stop(rt, over, workers);
+            stop(rt, jobs, workers);
             return Err(OutOfMemory);
         };
         let theirs = hand.give(jobs);
         let Ok(worker) = scope.spawn_with(
             promise,
-            move || work(rt, jobs, inbox, body, over, turns, theirs, poster, asker),
+            move || work(rt, jobs, inbox, body, turns, theirs, poster, asker),
         ) else {
-            stop(rt, over, workers);
+            stop(rt, jobs, workers);
             return Err(OutOfMemory);
         };
         workers.push_reserved(worker);
@@ -96,12 +94,8 @@ where
 }
 
 /// Says that the run is over, and joins the workers.
-fn stop<'s, N: Name, B: Body, R: Threads>(
-    rt: &R,
-    over: &AtomicBool,
-    workers: Vec<Worker<'s, N, B>>,
-) {
-    over.store(true, Ordering::SeqCst);
+fn stop<'s, N: Name, B: Body, R: Threads>(rt: &R, jobs: &Jobs<N>, workers: Vec<Worker<'s, N, B>>) {
+    jobs.signals.end();
     for worker in workers {
         drop(worker.join(rt));
     }

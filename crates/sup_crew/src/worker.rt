@@ -1,5 +1,6 @@
 //! What a worker does.
 ghost use Rattle.std.specs.Prelude.{◌≡◌, [], ◌++◌, ◌∷◌, length, MatchResult};
+ghost use Rattle.sup_crew.specs.Births.{IsBorn};
 ghost use Rattle.sup_crew.specs.Jobs.{share};
 ghost use Rattle.sup_crew.specs.Work.{IsWorked};
 
@@ -7,17 +8,17 @@ use crate::body::Body;
 use crate::finished::Finished;
 use crate::job::Job;
 use crate::queue::{Hand, Jobs};
+use crate::signals::Signals;
 use std::sync::Wait;
-use std::sync::atomic::{AtomicBool, Ordering};
-use std::thread;
 use sup_desk::{Asker, Name};
 use sup_inbox::{Inbox, InboxFull, Poster};
 
-/// Posts an exit, and tries again where the inbox is full, at most `turns` times and not once the run is over.
+/// Posts an exit, and tries again where the inbox is full: at most `turns` times, each after a drain or a tenth of a second, and
+/// not once the run is over.
 fn post_until<R: Wait>(
     rt: &R,
     inbox: &Inbox,
-    over: &AtomicBool,
+    signals: &Signals,
     turns: u64,
     poster: &mut Poster,
     exit: InboxFull,
@@ -28,19 +29,23 @@ fn post_until<R: Wait>(
 {
     let mut exit = exit;
     for _ in 0..turns {
+        let noted = signals.drained.noted();
         let InboxFull {
             number,
             arg,
             reason,
         } = exit;
         match poster.post(rt, inbox, number, arg, reason) {
-            Ok(()) => return Ok(()),
+            Ok(()) => {
+                signals.posted.give();
+                return Ok(());
+            }
             Err(back) => exit = back,
         }
-        if over.load(Ordering::SeqCst) {
+        if signals.is_over() {
             break;
         }
-        thread::yield_now();
+        signals.drained.wait(rt, noted);
     }
     Err(exit)
 }
@@ -52,7 +57,6 @@ pub fn work<N: Name, B: Body, R: Wait>(
     jobs: &Jobs<N>,
     inbox: &Inbox,
     body: &B,
-    over: &AtomicBool,
     turns: u64,
     hand: Hand<N>,
     poster: Poster,
@@ -66,19 +70,20 @@ pub fn work<N: Name, B: Body, R: Wait>(
     let mut poster = poster;
     let mut asker = asker;
     for _ in rt.forever() {
+        let noted = jobs.signals.queued.noted();
         let Some(job) = hand.take(rt, jobs) else {
-            if over.load(Ordering::SeqCst) {
+            if jobs.signals.is_over() {
                 return Finished {
                     hand,
                     poster,
                     unposted: None,
                 };
             }
-            thread::yield_now();
+            jobs.signals.queued.wait(rt, noted);
             continue;
         };
         let exit = run_job(body, job, &mut asker);
-        if let Err(back) = post_until(rt, inbox, over, turns, &mut poster, exit) {
+        if let Err(back) = post_until(rt, inbox, &jobs.signals, turns, &mut poster, exit) {
             return Finished {
                 hand,
                 poster,
@@ -89,6 +94,13 @@ pub fn work<N: Name, B: Body, R: Wait>(
     unreachable!()
 }
 
+/// Learns the job's ticket: the asker has then seen that the child was made.
+fn see_birth<N: Name>(asker: &mut Asker<N>, job: &Job<N>)
+    ensures { IsBorn N.template asker.new.front job.now.number }
+{
+    let _ = asker.learn(&job.ticket);
+}
+
 /// Learns the job's ticket, and runs the body.
 fn run_job<N: Name, B: Body>(body: &B, job: Job<N>, asker: &mut Asker<N>) -> InboxFull
     ensures child { (result.number ≡ job.number) × (result.arg ≡ job.arg) }
@@ -96,7 +108,7 @@ fn run_job<N: Name, B: Body>(body: &B, job: Job<N>, asker: &mut Asker<N>) -> Inb
 {
     let number = job.number;
     let arg = job.arg;
-    let _ = asker.learn(&job.ticket);
+    see_birth(asker, &job);
     let reason = body.run(job, asker);
     InboxFull {
         number,
