@@ -15,7 +15,8 @@ pub struct Plan {
     pub workers: usize,
     /// How many notes the inbox holds at most, 1 to 65,536.
     pub inbox: usize,
-    /// How often a post is tried, and how many turns in a row the driver finds nothing before it gives up: 1 to 2^62.
+    /// How often a post is tried, and how many turns in a row the driver finds nothing before it gives up: 1 to 2^62. A turn
+    /// without success is a sleep, which ends after a tenth of a second at the latest.
     pub turns: u64,
     /// The moment of all updates.
     pub moment: u64,

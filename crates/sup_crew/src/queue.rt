@@ -6,6 +6,7 @@ ghost use Rattle.sup_crew.specs.Jobs.{Balanced, weigh, share, child_of, children
 ghost use Rattle.sup_crew.specs.Hands.{HandView};
 
 use crate::job::{Child, Job};
+use crate::signals::Signals;
 use crossbeam_queue::protocol::{Join, Lesson, Outcome, Protocol, Split};
 use crossbeam_queue::{RuledSegQueue, SegPass};
 use std::alloc::Global;
@@ -82,9 +83,10 @@ impl<N: Name> Lesson<Job<N>, Share> for Reads {
 
 type Line<N> = RuledSegQueue<Job<N>, Share, Fair>;
 
-/// The queue of jobs, shared by reference.
+/// The queue of jobs, and the signals of its run, shared by reference.
 pub struct Jobs<N: Name> {
     line: Line<N>,
+    pub signals: Signals,
 }
 
 impl<N: Name> Model for Jobs<N> {
@@ -95,7 +97,7 @@ impl<N: Name> Model for Jobs<N> {
 
 impl<N: Name> Drop for Jobs<N> {
     fn drop(self) {
-        let Jobs { line } = self;
+        let Jobs { line, signals: _ } = self;
         line.destroy();
     }
 }
@@ -120,7 +122,11 @@ impl<N: Name> Jobs<N> {
         ensures { IfOk result (λ r. r.1 ≡ record { queue = r.0; share = share 1024 [] [] }) }
     {
         let (line, pass) = Line::<N>::with_rule(alloc)?;
-        Ok((Jobs { line }, Hand { pass }))
+        let jobs = Jobs {
+            line,
+            signals: Signals::new(),
+        };
+        Ok((jobs, Hand { pass }))
     }
 }
 

@@ -4,18 +4,16 @@ ghost use Rattle.sup_crew.specs.Jobs.{share};
 ghost use Rattle.sup_crew.specs.Work.{IsWorked, AreWorked};
 ghost use Rattle.sup_inbox.specs.Ends.{AreFrom, AreNew};
 
-use crate::asker::Asker;
 use crate::body::Body;
 use crate::finished::Finished;
 use crate::queue::{Hand, Jobs};
 use crate::worker::work;
 use std::alloc::Global;
 use std::sync::Wait;
-use std::sync::atomic::{AtomicBool, Ordering};
 use std::thread::{Promise, PromisedHandle, Scope, Threads};
-use sup_desk::Name;
+use sup_desk::{Asker, Name};
 use sup_inbox::{Inbox, Poster};
-use sup_types::{OutOfMemory, Starter};
+use sup_types::OutOfMemory;
 
 /// That the worker with this number hands back all that it took.
 pub struct Works<'a, N: Name, B> {
@@ -45,23 +43,20 @@ pub type Worker<'a, N, B> = PromisedHandle<Finished<N>, Works<'a, N, B>>;
 
 /// Starts a worker for each poster, with an asker each. Where one can't be started, the run is over, and the started ones
 /// are joined.
-pub fn start<'s, 'd: 's, E, N, S, P, B, R>(
+pub fn start<'s, E, N, B, R>(
     scope: &Scope<'s, E>,
     rt: &'s R,
     alloc: Global,
     jobs: &'s Jobs<N>,
     inbox: &'s Inbox,
     body: &'s B,
-    over: &'s AtomicBool,
     turns: u64,
     hand: Hand<N>,
     posters: Vec<Poster>,
-    askers: Vec<Asker<'d, N, S, P>>,
+    askers: Vec<Asker<N>>,
 ) -> Result<(Hand<N>, Vec<Worker<'s, N, B>>), OutOfMemory>
 where
     N: Name + Send + Sync + 's,
-    S: Starter + Drop + Send + Sync + 's,
-    P: Wait + Drop + Send + Sync + 's,
     B: Body + Sync,
     R: Threads + Wait + Sync,
     requires hand { hand ≡ record { queue = jobs.now; share = share 1024 [] [] } }
@@ -82,15 +77,15 @@ where
             number,
         };
         let Some(asker) = askers.pop() else {
-            stop(rt, over, workers);
+            stop(rt, jobs, workers);
             return Err(OutOfMemory);
         };
         let theirs = hand.give(jobs);
         let Ok(worker) = scope.spawn_with(
             promise,
-            move || work(rt, jobs, inbox, body, over, turns, theirs, poster, asker),
+            move || work(rt, jobs, inbox, body, turns, theirs, poster, asker),
         ) else {
-            stop(rt, over, workers);
+            stop(rt, jobs, workers);
             return Err(OutOfMemory);
         };
         workers.push_reserved(worker);
@@ -99,12 +94,8 @@ where
 }
 
 /// Says that the run is over, and joins the workers.
-fn stop<'s, N: Name, B: Body, R: Threads>(
-    rt: &R,
-    over: &AtomicBool,
-    workers: Vec<Worker<'s, N, B>>,
-) {
-    over.store(true, Ordering::SeqCst);
+fn stop<'s, N: Name, B: Body, R: Threads>(rt: &R, jobs: &Jobs<N>, workers: Vec<Worker<'s, N, B>>) {
+    jobs.signals.end();
     for worker in workers {
         drop(worker.join(rt));
     }

@@ -1,25 +1,24 @@
 //! What a worker does.
 ghost use Rattle.std.specs.Prelude.{◌≡◌, [], ◌++◌, ◌∷◌, length, MatchResult};
+ghost use Rattle.sup_crew.specs.Births.{IsBorn};
 ghost use Rattle.sup_crew.specs.Jobs.{share};
 ghost use Rattle.sup_crew.specs.Work.{IsWorked};
 
-use crate::asker::Asker;
 use crate::body::Body;
 use crate::finished::Finished;
 use crate::job::Job;
 use crate::queue::{Hand, Jobs};
+use crate::signals::Signals;
 use std::sync::Wait;
-use std::sync::atomic::{AtomicBool, Ordering};
-use std::thread;
-use sup_desk::Name;
+use sup_desk::{Asker, Name};
 use sup_inbox::{Inbox, InboxFull, Poster};
-use sup_types::Starter;
 
-/// Posts an exit, and tries again where the inbox is full, at most `turns` times and not once the run is over.
+/// Posts an exit, and tries again where the inbox is full: at most `turns` times, each after a drain or a tenth of a second, and
+/// not once the run is over.
 fn post_until<R: Wait>(
     rt: &R,
     inbox: &Inbox,
-    over: &AtomicBool,
+    signals: &Signals,
     turns: u64,
     poster: &mut Poster,
     exit: InboxFull,
@@ -30,35 +29,38 @@ fn post_until<R: Wait>(
 {
     let mut exit = exit;
     for _ in 0..turns {
+        let noted = signals.drained.noted();
         let InboxFull {
             number,
             arg,
             reason,
         } = exit;
         match poster.post(rt, inbox, number, arg, reason) {
-            Ok(()) => return Ok(()),
+            Ok(()) => {
+                signals.posted.give();
+                return Ok(());
+            }
             Err(back) => exit = back,
         }
-        if over.load(Ordering::SeqCst) {
+        if signals.is_over() {
             break;
         }
-        thread::yield_now();
+        signals.drained.wait(rt, noted);
     }
     Err(exit)
 }
 
 /// Takes jobs, runs the body and posts how each ended, until the run is over or an exit can't be posted. The asker has
 /// learnt a job's ticket before its body runs.
-pub fn work<N: Name, S: Starter + Drop, P: Wait + Drop, B: Body, R: Wait>(
+pub fn work<N: Name, B: Body, R: Wait>(
     rt: &R,
     jobs: &Jobs<N>,
     inbox: &Inbox,
     body: &B,
-    over: &AtomicBool,
     turns: u64,
     hand: Hand<N>,
     poster: Poster,
-    asker: Asker<'_, N, S, P>,
+    asker: Asker<N>,
 ) -> Finished<N>
     requires hand { hand ≡ record { queue = jobs.now; share = share 1 [] [] } }
     requires poster { (poster.inbox ≡ inbox.now.id) × (poster.posted ≡ []) }
@@ -68,19 +70,20 @@ pub fn work<N: Name, S: Starter + Drop, P: Wait + Drop, B: Body, R: Wait>(
     let mut poster = poster;
     let mut asker = asker;
     for _ in rt.forever() {
+        let noted = jobs.signals.queued.noted();
         let Some(job) = hand.take(rt, jobs) else {
-            if over.load(Ordering::SeqCst) {
+            if jobs.signals.is_over() {
                 return Finished {
                     hand,
                     poster,
                     unposted: None,
                 };
             }
-            thread::yield_now();
+            jobs.signals.queued.wait(rt, noted);
             continue;
         };
         let exit = run_job(body, job, &mut asker);
-        if let Err(back) = post_until(rt, inbox, over, turns, &mut poster, exit) {
+        if let Err(back) = post_until(rt, inbox, &jobs.signals, turns, &mut poster, exit) {
             return Finished {
                 hand,
                 poster,
@@ -91,23 +94,22 @@ pub fn work<N: Name, S: Starter + Drop, P: Wait + Drop, B: Body, R: Wait>(
     unreachable!()
 }
 
+/// Learns the job's ticket: the asker has then seen that the child was made.
+fn see_birth<N: Name>(asker: &mut Asker<N>, job: &Job<N>)
+    ensures { IsBorn N.template asker.new.front job.now.number }
+{
+    let _ = asker.learn(&job.ticket);
+}
+
 /// Learns the job's ticket, and runs the body.
-fn run_job<N: Name, S: Starter + Drop, P: Wait + Drop, B: Body>(
-    body: &B,
-    job: Job<N>,
-    asker: &mut Asker<'_, N, S, P>,
-) -> InboxFull
+fn run_job<N: Name, B: Body>(body: &B, job: Job<N>, asker: &mut Asker<N>) -> InboxFull
     ensures child { (result.number ≡ job.number) × (result.arg ≡ job.arg) }
     ensures reason { B.may_end body.now job.number job.arg result.reason }
 {
-    let Job {
-        number,
-        arg,
-        ticket,
-        of: _,
-    } = job;
-    let _ = asker.learn(&ticket);
-    let reason = body.run(number, &arg, asker);
+    let number = job.number;
+    let arg = job.arg;
+    see_birth(asker, &job);
+    let reason = body.run(job, asker);
     InboxFull {
         number,
         arg,
