@@ -2,6 +2,7 @@
 
 ghost use Rattle.std.specs.Prelude.{◌≡◌};
 ghost use Rattle.sup_load.specs.Statuses.{load_fault_number};
+ghost use Rattle.sup_load.specs.declared.fault.LoadFault.TheVariants as load;
 
 use std::alloc::AllocError;
 use std::fmt;
@@ -31,6 +32,8 @@ pub enum LoadFault {
 }
 
 impl LoadFault {
+    ghost use Rattle.sup_load.specs.Loads.{of_update};
+
     /// The number of the fault: 1 to 7 or 11, in the order of the variants.
     pub fn number(self) -> u8
         ensures { result ≡ load_fault_number self }
@@ -46,6 +49,18 @@ impl LoadFault {
             LoadFault::WriteFault => 11,
         }
     }
+
+    /// The fault of an update that was refused.
+    pub fn of_update(fault: UpdateFault) -> LoadFault
+        ensures { result ≡ of_update fault }
+    {
+        match fault {
+            UpdateFault::OutOfMemory => LoadFault::OutOfMemory,
+            UpdateFault::HistoryFull => LoadFault::HistoryFull,
+            UpdateFault::Split => LoadFault::Split,
+            UpdateFault::Gone => LoadFault::Gone,
+        }
+    }
 }
 
 impl fmt::Display for LoadFault {
@@ -55,18 +70,26 @@ impl fmt::Display for LoadFault {
 }
 
 impl From<AllocError> for LoadFault {
+    ghost from_gives = { λ _ f. f ≡ load.OutOfMemory };
+
     fn from(_error: AllocError) -> LoadFault {
         LoadFault::OutOfMemory
     }
 }
 
 impl From<BadTemplate> for LoadFault {
+    ghost from_gives = { λ _ f. f ≡ load.BadTemplate };
+
     fn from(_fault: BadTemplate) -> LoadFault {
         LoadFault::BadTemplate
     }
 }
 
 impl From<DeskFault> for LoadFault {
+    ghost use Rattle.sup_desk.specs.Faults.{desk_fault_number};
+
+    ghost from_gives = { λ e f. load_fault_number f ≡ desk_fault_number e };
+
     fn from(fault: DeskFault) -> LoadFault {
         match fault {
             DeskFault::OutOfMemory => LoadFault::OutOfMemory,
@@ -76,6 +99,10 @@ impl From<DeskFault> for LoadFault {
 }
 
 impl From<HandleFault> for LoadFault {
+    ghost use Rattle.sup_desk.specs.Faults.{handle_fault_number};
+
+    ghost from_gives = { λ e f. load_fault_number f ≡ handle_fault_number e };
+
     fn from(fault: HandleFault) -> LoadFault {
         match fault {
             HandleFault::NoHandle => LoadFault::NoHandle,
@@ -85,22 +112,15 @@ impl From<HandleFault> for LoadFault {
 }
 
 impl From<CrewFault> for LoadFault {
+    ghost use Rattle.sup_crew.specs.Faults.{crew_fault_number};
+
+    ghost from_gives = { λ e f. load_fault_number f ≡ crew_fault_number e };
+
     fn from(fault: CrewFault) -> LoadFault {
         match fault {
             CrewFault::OutOfMemory => LoadFault::OutOfMemory,
             CrewFault::NoHandle => LoadFault::NoHandle,
             CrewFault::NoPlace => LoadFault::NoPlace,
-        }
-    }
-}
-
-impl From<UpdateFault> for LoadFault {
-    fn from(fault: UpdateFault) -> LoadFault {
-        match fault {
-            UpdateFault::OutOfMemory => LoadFault::OutOfMemory,
-            UpdateFault::HistoryFull => LoadFault::HistoryFull,
-            UpdateFault::Split => LoadFault::Split,
-            UpdateFault::Gone => LoadFault::Gone,
         }
     }
 }

@@ -1,22 +1,23 @@
 //! The load: a crew over a desk, and readers that ask meanwhile.
 
-ghost use Rattle.std.specs.Prelude.{◌≡◌, ◌≤◌, ◌⊎◌, Err, IfOk, OnOk, MatchResult, vec_len};
+ghost use Rattle.std.specs.Prelude.{◌≡◌, ◌≤◌, ◌⊎◌, Err, IfErr, IfOk, MatchOption, OnOk, MatchResult, true, vec_len};
 ghost use Rattle.std.specs.Io.KnownBytes.{Appends};
-ghost use Rattle.sup_load.specs.Loads.{end_of};
+ghost use Rattle.sup_load.specs.Loads.{end_of, fault_behind, IsWithin};
 ghost use Rattle.sup_load.specs.Lines.{load_lines, named};
 ghost use Rattle.sup_load.specs.declared.fault.LoadFault.TheVariants.{WriteFault};
 
 use crate::fault::LoadFault;
+use itoa::Buffer;
 use std::alloc::{AllocError, Global};
 use std::io::Write;
 use std::marker::Brand;
 use std::sync::Wait;
+use std::thread;
 use std::thread::{JoinHandle, Threads};
-use std::{io, thread};
 use sup_crew::{Asker, Body, Plan, Reads, Report, read_turns, run_crew};
 use sup_desk::{Desk, Ground, Handle, Name};
 use sup_log::Gone;
-use sup_script::ScriptStarter;
+use sup_script::{ScriptStarter, WatchedWriter};
 use sup_types::{Kind, Reason, Restart, Starter, Template, Text};
 
 /// How much is to be done.
@@ -33,11 +34,15 @@ pub struct Load {
     ghost crew: { (1 ≤ workers) × (workers ≤ 64) },
     ghost crowd: { (1 ≤ children) × (children ≤ 65536) },
     ghost asking: { readers ≤ 64 },
+    ghost asked: { (1 ≤ turns) × (turns ≤ 1000000) },
 }
 
 impl Load {
     /// This much, where it is within the ranges.
-    pub fn new(workers: usize, children: u64, readers: usize, turns: u64) -> Option<Load> {
+    pub fn new(workers: usize, children: u64, readers: usize, turns: u64) -> Option<Load>
+        ensures { MatchOption result (IsWithin workers children readers turns → ⊥)
+            (λ load. (load.workers ≡ workers) × (load.children ≡ children) × (load.readers ≡ readers) × (load.turns ≡ turns)) }
+    {
         let is_load = (1..=64).contains(&workers)
             && (1..=65_536).contains(&children)
             && readers <= 64
@@ -98,22 +103,23 @@ pub fn run_load<R: Threads + Wait + Sync, W: Write>(
     rt: &R,
     alloc: Global,
     load: Load,
-    out: &mut W,
+    out: &mut WatchedWriter<W>,
 ) -> Result<(), LoadFault> {
     tell(measure(rt, alloc, load), out)
 }
 
-/// Writes what a load came to, if there is a report.
-fn tell<W: Write>(outcome: Result<Sums, LoadFault>, out: &mut W) -> Result<(), LoadFault>
+/// Writes what a load came to, if there is a report. WriteFault: the writer refused, and a front of the lines is written.
+fn tell<W: Write>(
+    outcome: Result<Sums, LoadFault>,
+    out: &mut WatchedWriter<W>,
+) -> Result<(), LoadFault>
     ensures { MatchResult outcome
-        (λ sums. ((result ≡ end_of sums.fault) × Appends (W.contents out.old) (W.contents out.new) (load_lines sums))
-        ⊎ (result ≡ Err WriteFault))
-        (λ fault. (result ≡ Err fault) × (W.contents out.new ≡ W.contents out.old)) }
+        (λ sums. ((result ≡ end_of sums.fault) × Appends (W.contents out.old.writer) (W.contents out.new.writer) (load_lines sums))
+        ⊎ ((result ≡ Err WriteFault) × (out.new.has_refused ≡ true)))
+        (λ fault. (result ≡ Err fault) × (out.new ≡ out.old)) }
 {
     let sums = outcome?;
-    if write_lines(&sums, out).is_err() {
-        return Err(LoadFault::WriteFault);
-    }
+    write_lines(&sums, out)?;
     match sums.fault {
         Some(fault) => Err(fault),
         None => Ok(()),
@@ -121,8 +127,9 @@ fn tell<W: Write>(outcome: Result<Sums, LoadFault>, out: &mut W) -> Result<(), L
 }
 
 /// Writes the two lines of a report.
-fn write_lines<W: Write>(sums: &Sums, out: &mut W) -> io::Result<()>
-    ensures { OnOk result (Appends (W.contents out.old) (W.contents out.new) (load_lines sums.now)) }
+fn write_lines<W: Write>(sums: &Sums, out: &mut WatchedWriter<W>) -> Result<(), LoadFault>
+    ensures lines { OnOk result (Appends (W.contents out.old.writer) (W.contents out.new.writer) (load_lines sums.now)) }
+    ensures cause { IfErr result (λ f. (f ≡ WriteFault) × (out.new.has_refused ≡ true)) }
 {
     write_number(out, "made ", sums.made)?;
     write_number(out, " exits ", sums.exits)?;
@@ -132,15 +139,33 @@ fn write_lines<W: Write>(sums: &Sums, out: &mut W) -> io::Result<()>
     write_number(out, " left ", sums.left as u64)?;
     write_number(out, " held ", sums.held as u64)?;
     write_number(out, "\nreads ", sums.reads)?;
-    out.write_all(b"\n")?;
+    write_text(out, "\n")?;
     Ok(())
 }
 
 /// Writes a number behind its name.
-fn write_number<W: Write>(out: &mut W, name: &str, number: u64) -> io::Result<()>
-    ensures { OnOk result (Appends (W.contents out.old) (W.contents out.new) (named name.now number)) }
+fn write_number<W: Write>(
+    out: &mut WatchedWriter<W>,
+    name: &str,
+    number: u64,
+) -> Result<(), LoadFault>
+    ensures lines { OnOk result (Appends (W.contents out.old.writer) (W.contents out.new.writer) (named name.now number)) }
+    ensures cause { IfErr result (λ f. (f ≡ WriteFault) × (out.new.has_refused ≡ true)) }
 {
-    write!(out, "{name}{number}")
+    write_text(out, name)?;
+    let mut digits = Buffer::new();
+    write_text(out, digits.format(number))
+}
+
+/// Writes a text, or a front of it where the writer refuses, which is WriteFault.
+pub fn write_text<W: Write>(out: &mut WatchedWriter<W>, text: &str) -> Result<(), LoadFault>
+    ensures lines { OnOk result (Appends (W.contents out.old.writer) (W.contents out.new.writer) text.now) }
+    ensures cause { IfErr result (λ f. (f ≡ WriteFault) × (out.new.has_refused ≡ true)) }
+{
+    match out.send(text.as_bytes()) {
+        Ok(()) => Ok(()),
+        Err(_) => Err(LoadFault::WriteFault),
+    }
 }
 
 /// Runs the load.
@@ -245,15 +270,17 @@ fn join_readers<R: Threads>(
     (answered, outcome)
 }
 
-/// The first fault is the run's, else a reader's.
+/// What the report says, with the questions that were answered. The fault is the run's, else Gone where a reader was
+/// refused.
 fn sums_of<N: Name>(report: &Report<N>, asked: (u64, Result<(), Gone>)) -> Sums
     ensures made { (result.made ≡ report.now.made) × (result.exits ≡ report.now.exits) × (result.strays ≡ report.now.strays) }
     ensures ended { (result.restarts ≡ report.now.restarts) × (result.given_up ≡ report.now.given_up) }
+    ensures fault { result.fault ≡ fault_behind report.now.fault asked.1 }
     ensures kept { (result.left ≡ vec_len report.now.left) × (result.held ≡ vec_len report.now.held) × (result.reads ≡ asked.0) }
 {
     let (reads, outcome) = asked;
     let fault = match (report.fault, outcome) {
-        (Some(fault), _) => Some(LoadFault::from(fault)),
+        (Some(fault), _) => Some(LoadFault::of_update(fault)),
         (None, Err(_)) => Some(LoadFault::Gone),
         (None, Ok(())) => None,
     };
