@@ -4,7 +4,9 @@ use Rattle.sup_log.specs.declared.faults.Gone.{Gone}
 use Rattle.sup_desk.specs.declared.faults.UpdateFault.{UpdateFault}
 use Rattle.sup_desk.specs.declared.faults.UpdateFault.TheVariants as update
 use Rattle.sup_load.specs.declared.fault.LoadFault.{LoadFault}
-use Rattle.sup_load.specs.declared.fault.LoadFault.TheVariants as load
+use Rattle.sup_load.specs.declared.fault.LoadFault.TheVariants.{Stopped}
+use Rattle.sup_load.specs.declared.fault.StopFault.{StopFault}
+use Rattle.sup_load.specs.declared.fault.StopFault.TheVariants as stop
 
 -- the ranges of the numbers of a load
 abbrev pub IsWithin : ℕ → ℕ → ℕ → ℕ → Type 0
@@ -12,18 +14,18 @@ IsWithin workers children readers turns =
     (1 ≤ workers) × (workers ≤ 64) × (1 ≤ children) × (children ≤ 65536) × (readers ≤ 64) × (1 ≤ turns) × (turns ≤ 1000000)
 
 -- with its fault, where it has one
-abbrev pub end_of : Option LoadFault → Result (Unit {0}) LoadFault
+abbrev pub end_of : Option StopFault → Result (Unit {0}) LoadFault
 end_of None = Ok tt
-end_of (Some fault) = Err fault
+end_of (Some fault) = Err (Stopped fault)
 
-abbrev pub of_update : UpdateFault → LoadFault
-of_update update.OutOfMemory = load.OutOfMemory
-of_update update.HistoryFull = load.HistoryFull
-of_update update.Split = load.Split
-of_update update.Gone = load.Gone
+abbrev pub of_update : UpdateFault → StopFault
+of_update update.OutOfMemory = stop.OutOfMemory
+of_update update.HistoryFull = stop.HistoryFull
+of_update update.Split = stop.Split
+of_update update.Gone = stop.Gone
 
 -- the fault that stopped the run, else Gone where a reader was refused
-abbrev pub fault_behind : Option UpdateFault → Result (Unit {0}) Gone → Option LoadFault
+abbrev pub fault_behind : Option UpdateFault → Result (Unit {0}) Gone → Option StopFault
 fault_behind (Some fault) asked = Some (of_update fault)
-fault_behind None (Err gone) = Some load.Gone
+fault_behind None (Err gone) = Some stop.Gone
 fault_behind None (Ok u) = None

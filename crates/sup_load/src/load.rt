@@ -4,9 +4,9 @@ ghost use Rattle.std.specs.Prelude.{◌≡◌, ◌≤◌, ◌⊎◌, Err, IfErr,
 ghost use Rattle.std.specs.Io.KnownBytes.{Appends};
 ghost use Rattle.sup_load.specs.Loads.{end_of, fault_behind, IsWithin};
 ghost use Rattle.sup_load.specs.Lines.{load_lines, named};
-ghost use Rattle.sup_load.specs.declared.fault.LoadFault.TheVariants.{WriteFault};
+ghost use Rattle.sup_load.specs.declared.fault.LoadFault.TheVariants.{Stopped, WriteFault};
 
-use crate::fault::LoadFault;
+use crate::fault::{LoadFault, StopFault};
 use itoa::Buffer;
 use std::alloc::{AllocError, Global};
 use std::io::Write;
@@ -76,7 +76,7 @@ struct Sums {
     left: usize,
     held: usize,
     reads: u64,
-    fault: Option<LoadFault>,
+    fault: Option<StopFault>,
 }
 
 /// A body that ends at once.
@@ -104,24 +104,30 @@ pub fn run_load<R: Threads + Wait + Sync, W: Write>(
     alloc: Global,
     load: Load,
     out: &mut WatchedWriter<W>,
-) -> Result<(), LoadFault> {
+) -> Result<(), LoadFault>
+    ensures { result ≡ Err WriteFault → out.new.has_refused ≡ true }
+{
     tell(measure(rt, alloc, load), out)
 }
 
 /// Writes what a load came to, if there is a report. WriteFault: the writer refused, and a front of the lines is written.
 fn tell<W: Write>(
-    outcome: Result<Sums, LoadFault>,
+    outcome: Result<Sums, StopFault>,
     out: &mut WatchedWriter<W>,
 ) -> Result<(), LoadFault>
-    ensures { MatchResult outcome
+    ensures outcome { MatchResult outcome
         (λ sums. ((result ≡ end_of sums.fault) × Appends (W.contents out.old.writer) (W.contents out.new.writer) (load_lines sums))
         ⊎ ((result ≡ Err WriteFault) × (out.new.has_refused ≡ true)))
-        (λ fault. (result ≡ Err fault) × (out.new ≡ out.old)) }
+        (λ fault. (result ≡ Err (Stopped fault)) × (out.new ≡ out.old)) }
+    ensures cause { result ≡ Err WriteFault → out.new.has_refused ≡ true }
 {
-    let sums = outcome?;
+    let sums = match outcome {
+        Ok(sums) => sums,
+        Err(fault) => return Err(LoadFault::Stopped(fault)),
+    };
     write_lines(&sums, out)?;
     match sums.fault {
-        Some(fault) => Err(fault),
+        Some(fault) => Err(LoadFault::Stopped(fault)),
         None => Ok(()),
     }
 }
@@ -169,7 +175,7 @@ pub fn write_text<W: Write>(out: &mut WatchedWriter<W>, text: &str) -> Result<()
 }
 
 /// Runs the load.
-fn measure<R: Threads + Wait + Sync>(rt: &R, alloc: Global, load: Load) -> Result<Sums, LoadFault> {
+fn measure<R: Threads + Wait + Sync>(rt: &R, alloc: Global, load: Load) -> Result<Sums, StopFault> {
     let rows = load.children;
     let template = Template::new(Restart::Temporary, Kind::Worker, 0, 5, rows, 1 << 62)?;
     let handles = (load.workers + 1 + load.readers) as u64;
@@ -182,14 +188,14 @@ fn on_ground<N: Name + Send + Sync, R: Threads + Wait + Sync>(
     alloc: Global,
     ground: Ground<&R>,
     load: Load,
-) -> Result<Sums, LoadFault>
+) -> Result<Sums, StopFault>
     requires { (ground.press ≡ N.press) × (ground.template ≡ N.template) }
 {
     let desk: Desk<N, ScriptStarter, &R> = Desk::new(ground, ScriptStarter);
     let mut handles = Vec::with_capacity(alloc, load.readers)?;
     for _ in 0..load.readers {
         if handles.push(desk.handle(rt)?).is_err() {
-            return Err(LoadFault::OutOfMemory);
+            return Err(StopFault::OutOfMemory);
         }
     }
     let plan = plan(alloc, load)?;
@@ -224,7 +230,7 @@ fn beside_readers<'d, N: Name + Send + Sync, R: Threads + Wait + Sync>(
     handles: Vec<Handle<'d, N, ScriptStarter, &R>>,
     plan: Plan,
     turns: u64,
-) -> Result<Sums, LoadFault>
+) -> Result<Sums, StopFault>
     requires workers { (1 ≤ plan.workers) × (plan.workers ≤ 64) }
     requires inbox { plan.inbox ≡ 1024 }
     requires turns { plan.turns ≡ 1000000000 }
@@ -232,7 +238,7 @@ fn beside_readers<'d, N: Name + Send + Sync, R: Threads + Wait + Sync>(
     thread::scope(
         thread::scope_env(),
         rt,
-        move |scope| -> Result<Sums, LoadFault>
+        move |scope| -> Result<Sums, StopFault>
             requires workers { (1 ≤ plan.workers) × (plan.workers ≤ 64) }
             requires inbox { plan.inbox ≡ 1024 }
             requires turns { plan.turns ≡ 1000000000 }
@@ -241,10 +247,10 @@ fn beside_readers<'d, N: Name + Send + Sync, R: Threads + Wait + Sync>(
             for handle in handles {
                 let mut handle = handle;
                 let Ok(reader) = scope.spawn(move || read_turns(&mut handle, turns)) else {
-                    return Err(LoadFault::OutOfMemory);
+                    return Err(StopFault::OutOfMemory);
                 };
                 if readers.push(reader).is_err() {
-                    return Err(LoadFault::OutOfMemory);
+                    return Err(StopFault::OutOfMemory);
                 }
             }
             let report = run_crew(rt, alloc, desk, &EndsAtOnce, plan);
@@ -280,8 +286,8 @@ fn sums_of<N: Name>(report: &Report<N>, asked: (u64, Result<(), Gone>)) -> Sums
 {
     let (reads, outcome) = asked;
     let fault = match (report.fault, outcome) {
-        (Some(fault), _) => Some(LoadFault::of_update(fault)),
-        (None, Err(_)) => Some(LoadFault::Gone),
+        (Some(fault), _) => Some(StopFault::of_update(fault)),
+        (None, Err(_)) => Some(StopFault::Gone),
         (None, Ok(())) => None,
     };
     Sums {

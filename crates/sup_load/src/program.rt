@@ -1,16 +1,17 @@
 //! The whole program, over any reader and writers.
 
-ghost use Rattle.std.specs.Prelude.{◌≡◌, ℕ, List, [], ◌∷◌, codes, false, map, true, Err};
+ghost use Rattle.std.specs.Prelude.{◌≡◌, ◌⊎◌, ℕ, List, [], ◌∷◌, codes, false, map, true, Err};
 ghost use Rattle.sup_load.specs.Answered.{IsScriptAnswered, IsReplayAnswered};
 ghost use Rattle.sup_load.specs.Statuses.{status_of, status_of_load, status_number};
 ghost use Rattle.sup_load.specs.declared.program.Status.{Status as AStatus};
+ghost use Rattle.sup_load.specs.declared.program.Status.TheVariants.{Failed};
 ghost use Rattle.sup_load.specs.declared.fault.LoadFault.TheVariants.{WriteFault};
 
-use crate::fault::LoadFault;
+use crate::fault::{LoadFault, StopFault};
 use crate::load::{Load, run_load, write_text};
 use crate::words::{Order, read_words};
 use clap::error::{Error, ErrorKind};
-use std::alloc::Global;
+use std::alloc::{AllocError, Global};
 use std::convert::AsStr;
 use std::io;
 use std::io::{Read, Write};
@@ -62,9 +63,9 @@ impl Status {
         ensures { result ≡ status_of_load_fault fault }
     {
         match fault {
-            LoadFault::BadTemplate => Status::BadInput,
+            LoadFault::Stopped(StopFault::BadTemplate) => Status::BadInput,
+            LoadFault::Stopped(_) => Status::OtherFault,
             LoadFault::WriteFault => Status::Failed,
-            _ => Status::OtherFault,
         }
     }
 }
@@ -92,6 +93,7 @@ pub fn run_words<T: Threads + Wait + Sync, S: AsStr, R: Read, W: Write, E: Write
     ensures replay { (name : List ℕ) → map S.text words.now ≡ name ∷ codes "replay" ∷ [] → (status : AStatus) × (result ≡ status_number status)
         × IsReplayAnswered (R.remaining reader.old.reader) (R.remaining reader.new.reader) (W.contents out.old.writer) (W.contents out.new.writer)
         reader.new.has_failed reader.new.given out.new.has_refused status }
+    ensures cause { result ≡ 3 → (reader.new.has_failed ≡ true) ⊎ (out.new.has_refused ≡ true) }
 {
     let status = match read_words(alloc, words) {
         Ok(Order::Script) => answer_script(alloc, reader, out, err),
@@ -109,7 +111,7 @@ pub fn refuse_words<E: Write>(error: &io::Error, err: &mut E) -> u8 {
         let _ = writeln!(err, "error: a word of the command line is not UTF-8");
         return Status::BadInput.number();
     }
-    told_load(Err(LoadFault::OutOfMemory), err).number()
+    told_load(Err(LoadFault::from(AllocError)), err).number()
 }
 
 /// Answers a script. The status is that of the outcome of its run.
@@ -166,7 +168,9 @@ fn answer_load<T: Threads + Wait + Sync, W: Write, E: Write>(
     load: Load,
     out: &mut WatchedWriter<W>,
     err: &mut E,
-) -> Status {
+) -> Status
+    ensures { result ≡ Failed → out.new.has_refused ≡ true }
+{
     told_load(run_load(rt, alloc, load, out), err)
 }
 
@@ -189,7 +193,9 @@ fn show<W: Write, E: Write>(
     error: &Error,
     out: &mut WatchedWriter<W>,
     err: &mut E,
-) -> Status {
+) -> Status
+    ensures { result ≡ Failed → out.new.has_refused ≡ true }
+{
     if !error.use_stderr() {
         return told_load(write_help(alloc, error, out), err);
     }
