@@ -1,10 +1,15 @@
 //! The load: a crew over a desk, and readers that ask meanwhile.
 
-ghost use Rattle.std.specs.Prelude.{◌≡◌, ◌≤◌, ◌⊎◌, Err, IfErr, IfOk, MatchOption, OnOk, MatchResult, true, vec_len};
+ghost use Rattle.std.specs.Prelude.{◌≡◌, ◌≤◌, List, Err, IfErr, IfOk, MatchOption, OnOk, true, vec_len};
 ghost use Rattle.std.specs.Io.KnownBytes.{Appends};
-ghost use Rattle.sup_load.specs.Loads.{end_of, fault_behind, IsWithin};
+ghost use Rattle.sup_load.specs.Loads.{fault_behind, IsWithin};
 ghost use Rattle.sup_load.specs.Lines.{load_lines, named};
-ghost use Rattle.sup_load.specs.declared.fault.LoadFault.TheVariants.{Stopped, WriteFault};
+ghost use Rattle.sup_load.specs.Reports.{AreCounts, IsTold, IsLoaded};
+ghost use Rattle.sup_types.specs.declared.template.Template.{Template as ATemplate};
+ghost use Rattle.sup_crew.specs.Reports.{IsRun};
+ghost use Rattle.sup_types.specs.declared.reason.Reason.TheVariants.{Normal};
+ghost use Rattle.sup_types.specs.declared.text.Text.{Text as AText};
+ghost use Rattle.sup_load.specs.declared.fault.LoadFault.TheVariants.{WriteFault};
 
 use crate::fault::{LoadFault, StopFault};
 use itoa::Buffer;
@@ -105,7 +110,8 @@ pub fn run_load<R: Threads + Wait + Sync, W: Write>(
     load: Load,
     out: &mut WatchedWriter<W>,
 ) -> Result<(), LoadFault>
-    ensures { result ≡ Err WriteFault → out.new.has_refused ≡ true }
+    ensures loaded { IsLoaded (W.contents out.old.writer) (W.contents out.new.writer) out.new.has_refused result }
+    ensures cause { result ≡ Err WriteFault → out.new.has_refused ≡ true }
 {
     tell(measure(rt, alloc, load), out)
 }
@@ -115,10 +121,7 @@ fn tell<W: Write>(
     outcome: Result<Sums, StopFault>,
     out: &mut WatchedWriter<W>,
 ) -> Result<(), LoadFault>
-    ensures outcome { MatchResult outcome
-        (λ sums. ((result ≡ end_of sums.fault) × Appends (W.contents out.old.writer) (W.contents out.new.writer) (load_lines sums))
-        ⊎ ((result ≡ Err WriteFault) × (out.new.has_refused ≡ true)))
-        (λ fault. (result ≡ Err (Stopped fault)) × (out.new ≡ out.old)) }
+    ensures outcome { IsTold outcome (W.contents out.old.writer) (W.contents out.new.writer) out.new.has_refused result }
     ensures cause { result ≡ Err WriteFault → out.new.has_refused ≡ true }
 {
     let sums = match outcome {
@@ -175,7 +178,9 @@ pub fn write_text<W: Write>(out: &mut WatchedWriter<W>, text: &str) -> Result<()
 }
 
 /// Runs the load.
-fn measure<R: Threads + Wait + Sync>(rt: &R, alloc: Global, load: Load) -> Result<Sums, StopFault> {
+fn measure<R: Threads + Wait + Sync>(rt: &R, alloc: Global, load: Load) -> Result<Sums, StopFault>
+    ensures { IfOk result (λ s. (template : ATemplate) × AreCounts template s) }
+{
     let rows = load.children;
     let template = Template::new(Restart::Temporary, Kind::Worker, 0, 5, rows, 1 << 62)?;
     let handles = (load.workers + 1 + load.readers) as u64;
@@ -190,6 +195,7 @@ fn on_ground<N: Name + Send + Sync, R: Threads + Wait + Sync>(
     load: Load,
 ) -> Result<Sums, StopFault>
     requires { (ground.press ≡ N.press) × (ground.template ≡ N.template) }
+    ensures { IfOk result (λ s. AreCounts N.template s) }
 {
     let desk: Desk<N, ScriptStarter, &R> = Desk::new(ground, ScriptStarter);
     let mut handles = Vec::with_capacity(alloc, load.readers)?;
@@ -234,6 +240,7 @@ fn beside_readers<'d, N: Name + Send + Sync, R: Threads + Wait + Sync>(
     requires workers { (1 ≤ plan.workers) × (plan.workers ≤ 64) }
     requires inbox { plan.inbox ≡ 1024 }
     requires turns { plan.turns ≡ 1000000000 }
+    ensures { IfOk result (λ s. AreCounts N.template s) }
 {
     thread::scope(
         thread::scope_env(),
@@ -242,6 +249,7 @@ fn beside_readers<'d, N: Name + Send + Sync, R: Threads + Wait + Sync>(
             requires workers { (1 ≤ plan.workers) × (plan.workers ≤ 64) }
             requires inbox { plan.inbox ≡ 1024 }
             requires turns { plan.turns ≡ 1000000000 }
+            ensures { IfOk result (λ s. AreCounts N.template s) }
         {
             let mut readers = Vec::with_capacity(alloc, handles.len())?;
             for handle in handles {
@@ -281,6 +289,8 @@ fn join_readers<R: Threads>(
 fn sums_of<N: Name>(report: &Report<N>, asked: (u64, Result<(), Gone>)) -> Sums
     ensures made { (result.made ≡ report.now.made) × (result.exits ≡ report.now.exits) × (result.strays ≡ report.now.strays) }
     ensures ended { (result.restarts ≡ report.now.restarts) × (result.given_up ≡ report.now.given_up) }
+    ensures sums { (plan : List AText) → IsRun (λ number arg reason. reason ≡ Normal) N.template N.press plan report.now →
+        AreCounts N.template result }
     ensures fault { result.fault ≡ fault_behind report.now.fault asked.1 }
     ensures kept { (result.left ≡ vec_len report.now.left) × (result.held ≡ vec_len report.now.held) × (result.reads ≡ asked.0) }
 {

@@ -1,7 +1,9 @@
 //! The whole program, over any reader and writers.
 
-ghost use Rattle.std.specs.Prelude.{◌≡◌, ◌⊎◌, ℕ, List, [], ◌∷◌, codes, false, map, true, Err};
+ghost use Rattle.std.specs.Prelude.{◌≡◌, ◌⊎◌, ℕ, List, [], ◌∷◌, codes, false, map, true, Err, Result};
 ghost use Rattle.sup_load.specs.Answered.{IsScriptAnswered, IsReplayAnswered};
+ghost use Rattle.sup_load.specs.Reports.{IsLoaded};
+ghost use Rattle.sup_load.specs.declared.fault.LoadFault.{LoadFault as ALoadFault};
 ghost use Rattle.sup_load.specs.Statuses.{status_of, status_of_load, status_number};
 ghost use Rattle.sup_load.specs.declared.program.Status.{Status as AStatus};
 ghost use Rattle.sup_load.specs.declared.program.Status.TheVariants.{Failed};
@@ -169,7 +171,9 @@ fn answer_load<T: Threads + Wait + Sync, W: Write, E: Write>(
     out: &mut WatchedWriter<W>,
     err: &mut E,
 ) -> Status
-    ensures { result ≡ Failed → out.new.has_refused ≡ true }
+    ensures loaded { (outcome : Result (Unit {0}) ALoadFault) × (result ≡ status_of_load outcome)
+        × IsLoaded (W.contents out.old.writer) (W.contents out.new.writer) out.new.has_refused outcome }
+    ensures cause { result ≡ Failed → out.new.has_refused ≡ true }
 {
     told_load(run_load(rt, alloc, load, out), err)
 }
