@@ -1,3 +1,5 @@
+pub mod Answered
 pub mod Lines
 pub mod Loads
 pub mod Statuses
+pub mod Reports

@@ -1,8 +1,31 @@
--- How a load that has a report ends.
-use Rattle.std.specs.Prelude.{Option, None, Some, Result, Ok, Err}
+-- Which loads there are, and how one that has a report ends.
+use Rattle.std.specs.Prelude.{ℕ, ◌≤◌, Option, None, Some, Result, Ok, Err}
+use Rattle.sup_log.specs.declared.faults.Gone.{Gone}
+use Rattle.sup_desk.specs.declared.faults.UpdateFault.{UpdateFault}
+use Rattle.sup_desk.specs.declared.faults.UpdateFault.TheVariants as update
 use Rattle.sup_load.specs.declared.fault.LoadFault.{LoadFault}
+use Rattle.sup_load.specs.declared.fault.LoadFault.TheVariants.{Stopped}
+use Rattle.sup_load.specs.declared.fault.StopFault.{StopFault}
+use Rattle.sup_load.specs.declared.fault.StopFault.TheVariants as stop
+
+-- the ranges of the numbers of a load
+abbrev pub IsWithin : ℕ → ℕ → ℕ → ℕ → Type 0
+IsWithin workers children readers turns =
+    (1 ≤ workers) × (workers ≤ 64) × (1 ≤ children) × (children ≤ 65536) × (readers ≤ 64) × (1 ≤ turns) × (turns ≤ 1000000)
 
 -- with its fault, where it has one
-abbrev pub end_of : Option LoadFault → Result (Unit {0}) LoadFault
+abbrev pub end_of : Option StopFault → Result (Unit {0}) LoadFault
 end_of None = Ok tt
-end_of (Some fault) = Err fault
+end_of (Some fault) = Err (Stopped fault)
+
+abbrev pub of_update : UpdateFault → StopFault
+of_update update.OutOfMemory = stop.OutOfMemory
+of_update update.HistoryFull = stop.HistoryFull
+of_update update.Split = stop.Split
+of_update update.Gone = stop.Gone
+
+-- the fault that stopped the run, else Gone where a reader was refused
+abbrev pub fault_behind : Option UpdateFault → Result (Unit {0}) Gone → Option StopFault
+fault_behind (Some fault) asked = Some (of_update fault)
+fault_behind None (Err gone) = Some stop.Gone
+fault_behind None (Ok u) = None

@@ -5,6 +5,8 @@ use Rattle.sup_script.specs.declared.fault.Fault.TheVariants as fault
 use Rattle.sup_script.specs.declared.fault.ScriptFault.{ScriptFault}
 use Rattle.sup_load.specs.declared.fault.LoadFault.{LoadFault}
 use Rattle.sup_load.specs.declared.fault.LoadFault.TheVariants as load
+use Rattle.sup_load.specs.declared.fault.StopFault.{StopFault}
+use Rattle.sup_load.specs.declared.fault.StopFault.TheVariants as stop
 use Rattle.sup_load.specs.declared.program.Status.{Status}
 use Rattle.sup_load.specs.declared.program.Status.TheVariants as status
 
@@ -29,24 +31,30 @@ status_of (Ok u) = status.Done
 status_of (Err e) = status_of_fault e.fault
 
 -- the numbers of the faults, which are the same wherever a fault is answered
+abbrev pub stop_fault_number : StopFault → ℕ
+stop_fault_number stop.OutOfMemory = 1
+stop_fault_number stop.HistoryFull = 2
+stop_fault_number stop.Split = 3
+stop_fault_number stop.Gone = 4
+stop_fault_number stop.NoHandle = 5
+stop_fault_number stop.NoPlace = 6
+stop_fault_number stop.BadTemplate = 7
+
 abbrev pub load_fault_number : LoadFault → ℕ
-load_fault_number load.OutOfMemory = 1
-load_fault_number load.HistoryFull = 2
-load_fault_number load.Split = 3
-load_fault_number load.Gone = 4
-load_fault_number load.NoHandle = 5
-load_fault_number load.NoPlace = 6
-load_fault_number load.BadTemplate = 7
+load_fault_number (load.Stopped fault) = stop_fault_number fault
 load_fault_number load.WriteFault = 11
 
+abbrev pub status_of_stop_fault : StopFault → Status
+status_of_stop_fault stop.OutOfMemory = status.OtherFault
+status_of_stop_fault stop.HistoryFull = status.OtherFault
+status_of_stop_fault stop.Split = status.OtherFault
+status_of_stop_fault stop.Gone = status.OtherFault
+status_of_stop_fault stop.NoHandle = status.OtherFault
+status_of_stop_fault stop.NoPlace = status.OtherFault
+status_of_stop_fault stop.BadTemplate = status.BadInput
+
 abbrev pub status_of_load_fault : LoadFault → Status
-status_of_load_fault load.OutOfMemory = status.OtherFault
-status_of_load_fault load.HistoryFull = status.OtherFault
-status_of_load_fault load.Split = status.OtherFault
-status_of_load_fault load.Gone = status.OtherFault
-status_of_load_fault load.NoHandle = status.OtherFault
-status_of_load_fault load.NoPlace = status.OtherFault
-status_of_load_fault load.BadTemplate = status.BadInput
+status_of_load_fault (load.Stopped fault) = status_of_stop_fault fault
 status_of_load_fault load.WriteFault = status.Failed
 
 -- how a load ended

@@ -1,7 +1,9 @@
 //! Why a load is not done.
 
 ghost use Rattle.std.specs.Prelude.{◌≡◌};
-ghost use Rattle.sup_load.specs.Statuses.{load_fault_number};
+ghost use Rattle.sup_load.specs.Statuses.{stop_fault_number};
+ghost use Rattle.sup_load.specs.declared.fault.LoadFault.TheVariants.{Stopped};
+ghost use Rattle.sup_load.specs.declared.fault.StopFault.TheVariants as stop;
 
 use std::alloc::AllocError;
 use std::fmt;
@@ -9,9 +11,9 @@ use sup_crew::CrewFault;
 use sup_desk::{DeskFault, HandleFault, UpdateFault};
 use sup_types::BadTemplate;
 
-/// What stopped a load.
+/// What stopped a load before there was a report, or the run of which it reports.
 #[derive(Clone, Copy, Debug, PartialEq, Eq)]
-pub enum LoadFault {
+pub enum StopFault {
     /// A growth was refused, or the start of a thread.
     OutOfMemory,
     /// The history has as many entries as the template allows.
@@ -26,23 +28,57 @@ pub enum LoadFault {
     NoPlace,
     /// A number is out of the range of the template or the desk.
     BadTemplate,
+}
+
+impl StopFault {
+    ghost use Rattle.sup_load.specs.Loads.{of_update};
+
+    /// The number of the fault: 1 to 7, in the order of the variants.
+    pub fn number(self) -> u8
+        ensures { result ≡ stop_fault_number self }
+    {
+        match self {
+            StopFault::OutOfMemory => 1,
+            StopFault::HistoryFull => 2,
+            StopFault::Split => 3,
+            StopFault::Gone => 4,
+            StopFault::NoHandle => 5,
+            StopFault::NoPlace => 6,
+            StopFault::BadTemplate => 7,
+        }
+    }
+
+    /// The fault of an update that was refused.
+    pub fn of_update(fault: UpdateFault) -> StopFault
+        ensures { result ≡ of_update fault }
+    {
+        match fault {
+            UpdateFault::OutOfMemory => StopFault::OutOfMemory,
+            UpdateFault::HistoryFull => StopFault::HistoryFull,
+            UpdateFault::Split => StopFault::Split,
+            UpdateFault::Gone => StopFault::Gone,
+        }
+    }
+}
+
+/// Why a load or a help text is not written whole.
+#[derive(Clone, Copy, Debug, PartialEq, Eq)]
+pub enum LoadFault {
+    /// It was stopped.
+    Stopped(StopFault),
     /// The writer answered an error, or took nothing of bytes that were not empty.
     WriteFault,
 }
 
 impl LoadFault {
-    /// The number of the fault: 1 to 7 or 11, in the order of the variants.
+    ghost use Rattle.sup_load.specs.Statuses.{load_fault_number};
+
+    /// The number of the fault: that of what stopped it, or 11.
     pub fn number(self) -> u8
         ensures { result ≡ load_fault_number self }
     {
         match self {
-            LoadFault::OutOfMemory => 1,
-            LoadFault::HistoryFull => 2,
-            LoadFault::Split => 3,
-            LoadFault::Gone => 4,
-            LoadFault::NoHandle => 5,
-            LoadFault::NoPlace => 6,
-            LoadFault::BadTemplate => 7,
+            LoadFault::Stopped(fault) => fault.number(),
             LoadFault::WriteFault => 11,
         }
     }
@@ -55,52 +91,65 @@ impl fmt::Display for LoadFault {
 }
 
 impl From<AllocError> for LoadFault {
+    ghost from_gives = { λ _ f. f ≡ Stopped stop.OutOfMemory };
+
     fn from(_error: AllocError) -> LoadFault {
-        LoadFault::OutOfMemory
+        LoadFault::Stopped(StopFault::OutOfMemory)
     }
 }
 
-impl From<BadTemplate> for LoadFault {
-    fn from(_fault: BadTemplate) -> LoadFault {
-        LoadFault::BadTemplate
+impl From<AllocError> for StopFault {
+    ghost from_gives = { λ _ f. f ≡ stop.OutOfMemory };
+
+    fn from(_error: AllocError) -> StopFault {
+        StopFault::OutOfMemory
     }
 }
 
-impl From<DeskFault> for LoadFault {
-    fn from(fault: DeskFault) -> LoadFault {
+impl From<BadTemplate> for StopFault {
+    ghost from_gives = { λ _ f. f ≡ stop.BadTemplate };
+
+    fn from(_fault: BadTemplate) -> StopFault {
+        StopFault::BadTemplate
+    }
+}
+
+impl From<DeskFault> for StopFault {
+    ghost use Rattle.sup_desk.specs.Faults.{desk_fault_number};
+
+    ghost from_gives = { λ e f. stop_fault_number f ≡ desk_fault_number e };
+
+    fn from(fault: DeskFault) -> StopFault {
         match fault {
-            DeskFault::OutOfMemory => LoadFault::OutOfMemory,
-            DeskFault::BadTemplate => LoadFault::BadTemplate,
+            DeskFault::OutOfMemory => StopFault::OutOfMemory,
+            DeskFault::BadTemplate => StopFault::BadTemplate,
         }
     }
 }
 
-impl From<HandleFault> for LoadFault {
-    fn from(fault: HandleFault) -> LoadFault {
+impl From<HandleFault> for StopFault {
+    ghost use Rattle.sup_desk.specs.Faults.{handle_fault_number};
+
+    ghost from_gives = { λ e f. stop_fault_number f ≡ handle_fault_number e };
+
+    fn from(fault: HandleFault) -> StopFault {
         match fault {
-            HandleFault::NoHandle => LoadFault::NoHandle,
-            HandleFault::NoPlace => LoadFault::NoPlace,
+            HandleFault::NoHandle => StopFault::NoHandle,
+            HandleFault::NoPlace => StopFault::NoPlace,
         }
     }
 }
 
-impl From<CrewFault> for LoadFault {
-    fn from(fault: CrewFault) -> LoadFault {
-        match fault {
-            CrewFault::OutOfMemory => LoadFault::OutOfMemory,
-            CrewFault::NoHandle => LoadFault::NoHandle,
-            CrewFault::NoPlace => LoadFault::NoPlace,
-        }
-    }
-}
+impl From<CrewFault> for StopFault {
+    ghost use Rattle.sup_crew.specs.Faults.{crew_fault_number};
 
-impl From<UpdateFault> for LoadFault {
-    fn from(fault: UpdateFault) -> LoadFault {
+    ghost from_gives = { λ e f. stop_fault_number f ≡ crew_fault_number e };
+
+    fn from(fault: CrewFault) -> StopFault {
         match fault {
-            UpdateFault::OutOfMemory => LoadFault::OutOfMemory,
-            UpdateFault::HistoryFull => LoadFault::HistoryFull,
-            UpdateFault::Split => LoadFault::Split,
-            UpdateFault::Gone => LoadFault::Gone,
+            CrewFault::OutOfMemory => StopFault::OutOfMemory,
+            CrewFault::NoHandle => StopFault::NoHandle,
+            CrewFault::NoPlace => StopFault::NoPlace,
         }
     }
 }

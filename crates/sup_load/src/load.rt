@@ -1,22 +1,28 @@
 //! The load: a crew over a desk, and readers that ask meanwhile.
 
-ghost use Rattle.std.specs.Prelude.{◌≡◌, ◌≤◌, ◌⊎◌, Err, IfOk, OnOk, MatchResult, vec_len};
+ghost use Rattle.std.specs.Prelude.{◌≡◌, ◌≤◌, List, Err, IfErr, IfOk, MatchOption, OnOk, true, vec_len};
 ghost use Rattle.std.specs.Io.KnownBytes.{Appends};
-ghost use Rattle.sup_load.specs.Loads.{end_of};
+ghost use Rattle.sup_load.specs.Loads.{fault_behind, IsWithin};
 ghost use Rattle.sup_load.specs.Lines.{load_lines, named};
+ghost use Rattle.sup_load.specs.Reports.{AreCounts, IsTold, IsLoaded};
+ghost use Rattle.sup_types.specs.declared.template.Template.{Template as ATemplate};
+ghost use Rattle.sup_crew.specs.Reports.{IsRun};
+ghost use Rattle.sup_types.specs.declared.reason.Reason.TheVariants.{Normal};
+ghost use Rattle.sup_types.specs.declared.text.Text.{Text as AText};
 ghost use Rattle.sup_load.specs.declared.fault.LoadFault.TheVariants.{WriteFault};
 
-use crate::fault::LoadFault;
+use crate::fault::{LoadFault, StopFault};
+use itoa::Buffer;
 use std::alloc::{AllocError, Global};
 use std::io::Write;
 use std::marker::Brand;
 use std::sync::Wait;
+use std::thread;
 use std::thread::{JoinHandle, Threads};
-use std::{io, thread};
 use sup_crew::{Body, Job, Plan, Reads, Report, read_turns, run_crew};
 use sup_desk::{Asker, Desk, Ground, Handle, Name};
 use sup_log::Gone;
-use sup_script::ScriptStarter;
+use sup_script::{ScriptStarter, WatchedWriter};
 use sup_types::{Kind, Reason, Restart, Starter, Template, Text};
 
 /// How much is to be done.
@@ -33,11 +39,15 @@ pub struct Load {
     ghost crew: { (1 ≤ workers) × (workers ≤ 64) },
     ghost crowd: { (1 ≤ children) × (children ≤ 65536) },
     ghost asking: { readers ≤ 64 },
+    ghost asked: { (1 ≤ turns) × (turns ≤ 1000000) },
 }
 
 impl Load {
     /// This much, where it is within the ranges.
-    pub fn new(workers: usize, children: u64, readers: usize, turns: u64) -> Option<Load> {
+    pub fn new(workers: usize, children: u64, readers: usize, turns: u64) -> Option<Load>
+        ensures { MatchOption result (IsWithin workers children readers turns → ⊥)
+            (λ load. (load.workers ≡ workers) × (load.children ≡ children) × (load.readers ≡ readers) × (load.turns ≡ turns)) }
+    {
         let is_load = (1..=64).contains(&workers)
             && (1..=65_536).contains(&children)
             && readers <= 64
@@ -71,7 +81,7 @@ struct Sums {
     left: usize,
     held: usize,
     reads: u64,
-    fault: Option<LoadFault>,
+    fault: Option<StopFault>,
 }
 
 /// A body that ends at once.
@@ -93,31 +103,37 @@ pub fn run_load<R: Threads + Wait + Sync, W: Write>(
     rt: &R,
     alloc: Global,
     load: Load,
-    out: &mut W,
-) -> Result<(), LoadFault> {
+    out: &mut WatchedWriter<W>,
+) -> Result<(), LoadFault>
+    ensures loaded { IsLoaded (W.contents out.old.writer) (W.contents out.new.writer) out.new.has_refused result }
+    ensures cause { result ≡ Err WriteFault → out.new.has_refused ≡ true }
+{
     tell(measure(rt, alloc, load), out)
 }
 
-/// Writes what a load came to, if there is a report.
-fn tell<W: Write>(outcome: Result<Sums, LoadFault>, out: &mut W) -> Result<(), LoadFault>
-    ensures { MatchResult outcome
-        (λ sums. ((result ≡ end_of sums.fault) × Appends (W.contents out.old) (W.contents out.new) (load_lines sums))
-        ⊎ (result ≡ Err WriteFault))
-        (λ fault. (result ≡ Err fault) × (W.contents out.new ≡ W.contents out.old)) }
+/// Writes what a load came to, if there is a report. WriteFault: the writer refused, and a front of the lines is written.
+fn tell<W: Write>(
+    outcome: Result<Sums, StopFault>,
+    out: &mut WatchedWriter<W>,
+) -> Result<(), LoadFault>
+    ensures outcome { IsTold outcome (W.contents out.old.writer) (W.contents out.new.writer) out.new.has_refused result }
+    ensures cause { result ≡ Err WriteFault → out.new.has_refused ≡ true }
 {
-    let sums = outcome?;
-    if write_lines(&sums, out).is_err() {
-        return Err(LoadFault::WriteFault);
-    }
+    let sums = match outcome {
+        Ok(sums) => sums,
+        Err(fault) => return Err(LoadFault::Stopped(fault)),
+    };
+    write_lines(&sums, out)?;
     match sums.fault {
-        Some(fault) => Err(fault),
+        Some(fault) => Err(LoadFault::Stopped(fault)),
         None => Ok(()),
     }
 }
 
 /// Writes the two lines of a report.
-fn write_lines<W: Write>(sums: &Sums, out: &mut W) -> io::Result<()>
-    ensures { OnOk result (Appends (W.contents out.old) (W.contents out.new) (load_lines sums.now)) }
+fn write_lines<W: Write>(sums: &Sums, out: &mut WatchedWriter<W>) -> Result<(), LoadFault>
+    ensures lines { OnOk result (Appends (W.contents out.old.writer) (W.contents out.new.writer) (load_lines sums.now)) }
+    ensures cause { IfErr result (λ f. (f ≡ WriteFault) × (out.new.has_refused ≡ true)) }
 {
     write_number(out, "made ", sums.made)?;
     write_number(out, " exits ", sums.exits)?;
@@ -127,19 +143,39 @@ fn write_lines<W: Write>(sums: &Sums, out: &mut W) -> io::Result<()>
     write_number(out, " left ", sums.left as u64)?;
     write_number(out, " held ", sums.held as u64)?;
     write_number(out, "\nreads ", sums.reads)?;
-    out.write_all(b"\n")?;
+    write_text(out, "\n")?;
     Ok(())
 }
 
 /// Writes a number behind its name.
-fn write_number<W: Write>(out: &mut W, name: &str, number: u64) -> io::Result<()>
-    ensures { OnOk result (Appends (W.contents out.old) (W.contents out.new) (named name.now number)) }
+fn write_number<W: Write>(
+    out: &mut WatchedWriter<W>,
+    name: &str,
+    number: u64,
+) -> Result<(), LoadFault>
+    ensures lines { OnOk result (Appends (W.contents out.old.writer) (W.contents out.new.writer) (named name.now number)) }
+    ensures cause { IfErr result (λ f. (f ≡ WriteFault) × (out.new.has_refused ≡ true)) }
 {
-    write!(out, "{name}{number}")
+    write_text(out, name)?;
+    let mut digits = Buffer::new();
+    write_text(out, digits.format(number))
+}
+
+/// Writes a text, or a front of it where the writer refuses, which is WriteFault.
+pub fn write_text<W: Write>(out: &mut WatchedWriter<W>, text: &str) -> Result<(), LoadFault>
+    ensures lines { OnOk result (Appends (W.contents out.old.writer) (W.contents out.new.writer) text.now) }
+    ensures cause { IfErr result (λ f. (f ≡ WriteFault) × (out.new.has_refused ≡ true)) }
+{
+    match out.send(text.as_bytes()) {
+        Ok(()) => Ok(()),
+        Err(_) => Err(LoadFault::WriteFault),
+    }
 }
 
 /// Runs the load.
-fn measure<R: Threads + Wait + Sync>(rt: &R, alloc: Global, load: Load) -> Result<Sums, LoadFault> {
+fn measure<R: Threads + Wait + Sync>(rt: &R, alloc: Global, load: Load) -> Result<Sums, StopFault>
+    ensures { IfOk result (λ s. (template : ATemplate) × AreCounts template s) }
+{
     let rows = load.children;
     let template = Template::new(Restart::Temporary, Kind::Worker, 0, 5, rows, 1 << 62)?;
     let handles = (load.workers + 1 + load.readers) as u64;
@@ -152,14 +188,15 @@ fn on_ground<N: Name + Send + Sync, R: Threads + Wait + Sync>(
     alloc: Global,
     ground: Ground<&R>,
     load: Load,
-) -> Result<Sums, LoadFault>
+) -> Result<Sums, StopFault>
     requires { (ground.press ≡ N.press) × (ground.template ≡ N.template) }
+    ensures { IfOk result (λ s. AreCounts N.template s) }
 {
     let desk: Desk<N, ScriptStarter, &R> = Desk::new(ground, ScriptStarter);
     let mut handles = Vec::with_capacity(alloc, load.readers)?;
     for _ in 0..load.readers {
         if handles.push(desk.handle(rt)?).is_err() {
-            return Err(LoadFault::OutOfMemory);
+            return Err(StopFault::OutOfMemory);
         }
     }
     let plan = plan(alloc, load)?;
@@ -194,27 +231,29 @@ fn beside_readers<'d, N: Name + Send + Sync, R: Threads + Wait + Sync>(
     handles: Vec<Handle<'d, N, ScriptStarter, &R>>,
     plan: Plan,
     turns: u64,
-) -> Result<Sums, LoadFault>
+) -> Result<Sums, StopFault>
     requires workers { (1 ≤ plan.workers) × (plan.workers ≤ 64) }
     requires inbox { plan.inbox ≡ 1024 }
     requires turns { plan.turns ≡ 1000000000 }
+    ensures { IfOk result (λ s. AreCounts N.template s) }
 {
     thread::scope(
         thread::scope_env(),
         rt,
-        move |scope| -> Result<Sums, LoadFault>
+        move |scope| -> Result<Sums, StopFault>
             requires workers { (1 ≤ plan.workers) × (plan.workers ≤ 64) }
             requires inbox { plan.inbox ≡ 1024 }
             requires turns { plan.turns ≡ 1000000000 }
+            ensures { IfOk result (λ s. AreCounts N.template s) }
         {
             let mut readers = Vec::with_capacity(alloc, handles.len())?;
             for handle in handles {
                 let mut handle = handle;
                 let Ok(reader) = scope.spawn(move || read_turns(&mut handle, turns)) else {
-                    return Err(LoadFault::OutOfMemory);
+                    return Err(StopFault::OutOfMemory);
                 };
                 if readers.push(reader).is_err() {
-                    return Err(LoadFault::OutOfMemory);
+                    return Err(StopFault::OutOfMemory);
                 }
             }
             let report = run_crew(rt, alloc, desk, &EndsAtOnce, plan);
@@ -240,16 +279,20 @@ fn join_readers<R: Threads>(
     (answered, outcome)
 }
 
-/// The first fault is the run's, else a reader's.
+/// What the report says, with the questions that were answered. The fault is the run's, else Gone where a reader was
+/// refused.
 fn sums_of<N: Name>(report: &Report<N>, asked: (u64, Result<(), Gone>)) -> Sums
     ensures made { (result.made ≡ report.now.made) × (result.exits ≡ report.now.exits) × (result.strays ≡ report.now.strays) }
     ensures ended { (result.restarts ≡ report.now.restarts) × (result.given_up ≡ report.now.given_up) }
+    ensures sums { (plan : List AText) → IsRun (λ number arg reason. reason ≡ Normal) N.template N.press plan report.now →
+        AreCounts N.template result }
+    ensures fault { result.fault ≡ fault_behind report.now.fault asked.1 }
     ensures kept { (result.left ≡ vec_len report.now.left) × (result.held ≡ vec_len report.now.held) × (result.reads ≡ asked.0) }
 {
     let (reads, outcome) = asked;
     let fault = match (report.fault, outcome) {
-        (Some(fault), _) => Some(LoadFault::from(fault)),
-        (None, Err(_)) => Some(LoadFault::Gone),
+        (Some(fault), _) => Some(StopFault::of_update(fault)),
+        (None, Err(_)) => Some(StopFault::Gone),
         (None, Ok(())) => None,
     };
     Sums {

@@ -10,18 +10,20 @@ mod load;
 mod program;
 mod words;
 
-use program::{Status, run_words};
+use program::{refuse_words, run_words};
 use std::process::ExitCode;
 use std::rt::Env;
 use std::{env, io};
+use sup_script::{WatchedReader, WatchedWriter};
 
 fn main(rt: HostRuntime) -> ExitCode {
-    let Ok(words) = words_given(&rt) else {
-        return ExitCode::from(Status::OtherFault.number());
-    };
-    let mut input = rt.stdin();
-    let mut out = rt.stdout();
     let mut err = rt.stderr();
+    let words = match words_given(&rt) {
+        Ok(words) => words,
+        Err(error) => return ExitCode::from(refuse_words(&error, &mut err)),
+    };
+    let mut input = WatchedReader::new(rt.stdin());
+    let mut out = WatchedWriter::new(rt.stdout());
     let status = run_words(
         &rt,
         rt.alloc(),
@@ -33,7 +35,7 @@ fn main(rt: HostRuntime) -> ExitCode {
     ExitCode::from(status)
 }
 
-/// The words of the command line, the program's name first.
+/// The words of the command line, the program's name first. InvalidData: a word is not UTF-8.
 fn words_given(rt: &(impl Env + AllocGlobal)) -> io::Result<Vec<String>> {
     Ok(env::args(rt)?.collect(rt.alloc())?)
 }

@@ -1,22 +1,25 @@
 //! The whole program, over any reader and writers.
 
-ghost use Rattle.std.specs.Prelude.{◌≡◌, Result};
-ghost use Rattle.sup_script.specs.Runs.{IsRun};
-ghost use Rattle.sup_script.specs.Replays.{IsReplay};
-ghost use Rattle.sup_script.specs.Starter.{script_answer};
-ghost use Rattle.sup_script.specs.declared.fault.ScriptFault.{ScriptFault};
-ghost use Rattle.sup_load.specs.Statuses.{status_of, status_of_load};
+ghost use Rattle.std.specs.Prelude.{◌≡◌, ◌⊎◌, ℕ, List, [], ◌∷◌, codes, false, map, true, Err, Result};
+ghost use Rattle.sup_load.specs.Answered.{IsScriptAnswered, IsReplayAnswered};
+ghost use Rattle.sup_load.specs.Reports.{IsLoaded};
+ghost use Rattle.sup_load.specs.declared.fault.LoadFault.{LoadFault as ALoadFault};
+ghost use Rattle.sup_load.specs.Statuses.{status_of, status_of_load, status_number};
+ghost use Rattle.sup_load.specs.declared.program.Status.{Status as AStatus};
+ghost use Rattle.sup_load.specs.declared.program.Status.TheVariants.{Failed};
+ghost use Rattle.sup_load.specs.declared.fault.LoadFault.TheVariants.{WriteFault};
 
-use crate::fault::LoadFault;
-use crate::load::{Load, run_load};
+use crate::fault::{LoadFault, StopFault};
+use crate::load::{Load, run_load, write_text};
 use crate::words::{Order, read_words};
 use clap::error::{Error, ErrorKind};
-use std::alloc::Global;
+use std::alloc::{AllocError, Global};
 use std::convert::AsStr;
+use std::io;
 use std::io::{Read, Write};
 use std::sync::Wait;
 use std::thread::Threads;
-use sup_script::{Fault, ScriptFault, ScriptStarter, replay, run};
+use sup_script::{Fault, ScriptFault, ScriptStarter, WatchedReader, WatchedWriter, replay, run};
 
 /// How the program ended.
 #[derive(Clone, Copy, Debug, PartialEq, Eq)]
@@ -62,9 +65,9 @@ impl Status {
         ensures { result ≡ status_of_load_fault fault }
     {
         match fault {
-            LoadFault::BadTemplate => Status::BadInput,
+            LoadFault::Stopped(StopFault::BadTemplate) => Status::BadInput,
+            LoadFault::Stopped(_) => Status::OtherFault,
             LoadFault::WriteFault => Status::Failed,
-            _ => Status::OtherFault,
         }
     }
 }
@@ -78,29 +81,54 @@ pub fn run_words<T: Threads + Wait + Sync, S: AsStr, R: Read, W: Write, E: Write
     rt: &T,
     alloc: Global,
     words: &[S],
-    reader: &mut R,
-    out: &mut W,
+    reader: &mut WatchedReader<R>,
+    out: &mut WatchedWriter<W>,
     err: &mut E,
-) -> u8 {
+) -> u8
+    requires calls { reader.old.calls ≡ 0 }
+    requires none { reader.old.given ≡ 0 }
+    requires unfailed { reader.old.has_failed ≡ false }
+    requires unrefused { out.old.has_refused ≡ false }
+    ensures script { (name : List ℕ) → map S.text words.now ≡ name ∷ codes "script" ∷ [] → (status : AStatus) × (result ≡ status_number status)
+        × IsScriptAnswered (R.remaining reader.old.reader) (R.remaining reader.new.reader) (W.contents out.old.writer) (W.contents out.new.writer)
+        reader.new.has_failed reader.new.given out.new.has_refused status }
+    ensures replay { (name : List ℕ) → map S.text words.now ≡ name ∷ codes "replay" ∷ [] → (status : AStatus) × (result ≡ status_number status)
+        × IsReplayAnswered (R.remaining reader.old.reader) (R.remaining reader.new.reader) (W.contents out.old.writer) (W.contents out.new.writer)
+        reader.new.has_failed reader.new.given out.new.has_refused status }
+    ensures cause { result ≡ 3 → (reader.new.has_failed ≡ true) ⊎ (out.new.has_refused ≡ true) }
+{
     let status = match read_words(alloc, words) {
         Ok(Order::Script) => answer_script(alloc, reader, out, err),
         Ok(Order::Replay) => answer_history(alloc, reader, out, err),
         Ok(Order::Load(load)) => answer_load(rt, alloc, load, out, err),
-        Err(error) => show(&error, out, err),
+        Err(error) => show(alloc, &error, out, err),
     };
     status.number()
+}
+
+/// Tells why the words of the command line could not be had, and answers the exit status: one is not UTF-8, or there was
+/// no memory.
+pub fn refuse_words<E: Write>(error: &io::Error, err: &mut E) -> u8 {
+    if error.kind() == io::ErrorKind::InvalidData {
+        let _ = writeln!(err, "error: a word of the command line is not UTF-8");
+        return Status::BadInput.number();
+    }
+    told_load(Err(LoadFault::from(AllocError)), err).number()
 }
 
 /// Answers a script. The status is that of the outcome of its run.
 fn answer_script<R: Read, W: Write, E: Write>(
     alloc: Global,
-    reader: &mut R,
-    out: &mut W,
+    reader: &mut WatchedReader<R>,
+    out: &mut WatchedWriter<W>,
     err: &mut E,
 ) -> Status
-    ensures { (outcome : Result (Unit {0}) ScriptFault)
-        × IsRun script_answer (R.remaining reader.old) (R.remaining reader.new) (W.contents out.old) (W.contents out.new) outcome
-        × (result ≡ status_of outcome) }
+    requires calls { reader.old.calls ≡ 0 }
+    requires none { reader.old.given ≡ 0 }
+    requires unfailed { reader.old.has_failed ≡ false }
+    requires unrefused { out.old.has_refused ≡ false }
+    ensures { IsScriptAnswered (R.remaining reader.old.reader) (R.remaining reader.new.reader) (W.contents out.old.writer) (W.contents out.new.writer)
+        reader.new.has_failed reader.new.given out.new.has_refused result }
 {
     told(run(alloc, reader, out, &ScriptStarter), err)
 }
@@ -108,13 +136,16 @@ fn answer_script<R: Read, W: Write, E: Write>(
 /// Replays a history text. The status is that of the outcome of its replay.
 fn answer_history<R: Read, W: Write, E: Write>(
     alloc: Global,
-    reader: &mut R,
-    out: &mut W,
+    reader: &mut WatchedReader<R>,
+    out: &mut WatchedWriter<W>,
     err: &mut E,
 ) -> Status
-    ensures { (outcome : Result (Unit {0}) ScriptFault)
-        × IsReplay (R.remaining reader.old) (R.remaining reader.new) (W.contents out.old) (W.contents out.new) outcome
-        × (result ≡ status_of outcome) }
+    requires calls { reader.old.calls ≡ 0 }
+    requires none { reader.old.given ≡ 0 }
+    requires unfailed { reader.old.has_failed ≡ false }
+    requires unrefused { out.old.has_refused ≡ false }
+    ensures { IsReplayAnswered (R.remaining reader.old.reader) (R.remaining reader.new.reader) (W.contents out.old.writer) (W.contents out.new.writer)
+        reader.new.has_failed reader.new.given out.new.has_refused result }
 {
     told(replay(alloc, reader, out), err)
 }
@@ -137,9 +168,13 @@ fn answer_load<T: Threads + Wait + Sync, W: Write, E: Write>(
     rt: &T,
     alloc: Global,
     load: Load,
-    out: &mut W,
+    out: &mut WatchedWriter<W>,
     err: &mut E,
-) -> Status {
+) -> Status
+    ensures loaded { (outcome : Result (Unit {0}) ALoadFault) × (result ≡ status_of_load outcome)
+        × IsLoaded (W.contents out.old.writer) (W.contents out.new.writer) out.new.has_refused outcome }
+    ensures cause { result ≡ Failed → out.new.has_refused ≡ true }
+{
     told_load(run_load(rt, alloc, load, out), err)
 }
 
@@ -156,13 +191,17 @@ fn told_load<E: Write>(outcome: Result<(), LoadFault>, err: &mut E) -> Status
     }
 }
 
-/// Writes the text of words that are no order: a help text, or why they are refused.
-fn show<W: Write, E: Write>(error: &Error, out: &mut W, err: &mut E) -> Status {
+/// Writes the text of words that are no order: a help text, the version, or why they are refused.
+fn show<W: Write, E: Write>(
+    alloc: Global,
+    error: &Error,
+    out: &mut WatchedWriter<W>,
+    err: &mut E,
+) -> Status
+    ensures { result ≡ Failed → out.new.has_refused ≡ true }
+{
     if !error.use_stderr() {
-        return match write!(out, "{error}") {
-            Ok(()) => Status::Done,
-            Err(_) => Status::Failed,
-        };
+        return told_load(write_help(alloc, error, out), err);
     }
     let _ = write!(err, "{error}");
     if error.kind() == ErrorKind::OutOfMemory {
@@ -170,4 +209,16 @@ fn show<W: Write, E: Write>(error: &Error, out: &mut W, err: &mut E) -> Status {
     } else {
         Status::BadInput
     }
+}
+
+/// Writes a help text or the version. OutOfMemory leaves nothing written; at WriteFault the writer refused.
+fn write_help<W: Write>(
+    alloc: Global,
+    text: &Error,
+    out: &mut WatchedWriter<W>,
+) -> Result<(), LoadFault>
+    ensures { result ≡ Err WriteFault → out.new.has_refused ≡ true }
+{
+    let text = format!(in alloc; "{text}")?;
+    write_text(out, text.as_str())
 }

@@ -1,5 +1,8 @@
 //! The words of the command line.
 
+ghost use Rattle.std.specs.Prelude.{◌≡◌, ℕ, List, [], ◌∷◌, Ok, MatchBool, codes, map};
+ghost use Rattle.sup_load.specs.declared.words.Order.TheVariants as order;
+
 use crate::load::Load;
 use clap::builder::ValueParser;
 use clap::error::{Error, ErrorKind};
@@ -20,6 +23,8 @@ pub enum Order {
 
 const ABOUT: &str =
     "A dynamic supervisor (simple_one_for_one, by the rules of Erlang/OTP 26) at the command line";
+
+const VERSION: &str = "0.1.0";
 
 const SCRIPT: &str = "Reads a script on standard input and writes its replies on standard output";
 
@@ -79,11 +84,33 @@ const STATUSES: &str = "Exit status:
   2  the words or a line are wrong, or the input is too long
   3  reading or writing failed
   4  any other fault, as want of memory
-A fault in the input is one line on standard error: `fault N line L`; a fault of a load is `fault N`.";
+A fault in the input is one line on standard error: `fault N line L`; another fault is `fault N`.";
 
-/// Reads the words of the command line, of which the first is the program's name. A help text and words that are
-/// refused are an error of `clap`, which says where it is to be written.
-pub fn read_words<S: AsStr>(alloc: Global, words: &[S]) -> Result<Order, Error> {
+/// Reads the words of the command line, of which the first is the program's name. A help text, the version and words that
+/// are refused are an error of `clap`, which says where it is to be written.
+pub fn read_words<S: AsStr>(alloc: Global, words: &[S]) -> Result<Order, Error>
+    ensures script { (name : List ℕ) → map S.text words.now ≡ name ∷ codes "script" ∷ [] → result ≡ Ok order.Script }
+    ensures replay { (name : List ℕ) → map S.text words.now ≡ name ∷ codes "replay" ∷ [] → result ≡ Ok order.Replay }
+{
+    if is_command(words, "script") {
+        return Ok(Order::Script);
+    }
+    if is_command(words, "replay") {
+        return Ok(Order::Replay);
+    }
+    read_options(alloc, words)
+}
+
+/// Whether the words are the program's name and this command.
+fn is_command<S: AsStr>(words: &[S], command: &str) -> bool
+    ensures { MatchBool result ((name : List ℕ) × (map S.text words.now ≡ name ∷ command.now ∷ []))
+        ((name : List ℕ) → map S.text words.now ≡ name ∷ command.now ∷ [] → ⊥) }
+{
+    words.len() == 2 && words[1].as_str() == command
+}
+
+/// Reads words that are more than a command.
+fn read_options<S: AsStr>(alloc: Global, words: &[S]) -> Result<Order, Error> {
     let mut command = command(alloc)?;
     let matches = command.try_get_matches_from_mut(words)?;
     match matches.subcommand() {
@@ -177,6 +204,7 @@ fn command<'a>(alloc: Global) -> Result<Command<'a>, AllocError> {
     Command::new(alloc, "supload")
         .bin_name("supload")?
         .about(ABOUT)
+        .version(VERSION)
         .after_help(STATUSES)
         .subcommand_required(true)
         .subcommand(script)?

@@ -221,6 +221,7 @@ written_spells : (t : Template) (es : List Entry) (bytes : List ℕ) → AllEntr
 written_spells t es bytes all whole =
     let w = widest t in
     let line = join_with_byte 32 (first_words t) in
+    let words : words_of line ≡ first_words t = words-join (codes "history") (codes "2" ∷ _) (solid_first t (fits_parts t)) in
     record {
       written = w.0;
       written_is = w.1;
@@ -231,11 +232,12 @@ written_spells t es bytes all whole =
         ended = subst IsFull (sym whole) (full-both (line_of (first_words t)) (flat_map entry_line es) (full-line (first_words t)) (full-entries es));
         first_is = record {
           parts = template_parts t;
-          shape = record { fits = fits_parts t; words = inr (words-join (codes "history") (codes "2" ∷ _) (solid_first t (fits_parts t))) };
+          shape = record { fits = fits_parts t; words = inr words };
           template_is = w.1;
         };
         entries_are = entries_mean es all;
       };
+      version_2 = words;
     }
 
 -- one entry more was written

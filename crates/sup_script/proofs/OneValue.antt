@@ -1,4 +1,4 @@
--- No text spells two values.
+-- No text spells two values, and no header gives two templates.
 use Rattle.std.proofs.Common.{◌≡◌, ℕ, Bool, true, false, cond, List, [], ◌∷◌, ◌++◌, drop, codes, refl, sym, ap, subst, ◌∙◌, inl, inr, arith, Option, None, Some}
 use Rattle.std.specs.Str.{bytes_eq}
 use Rattle.std.proofs.lemmas.Fmt.{decimal_injective}
@@ -16,7 +16,7 @@ use Rattle.sup_types.specs.declared.history.Operation.{Operation}
 use Rattle.sup_types.specs.declared.history.Entry.{Entry}
 use Rattle.sup_script.specs.declared.header.Parts.{Parts}
 use Rattle.sup_script.specs.Tokens.{restart_word, kind_word, mark_word, auto_word, argument_words}
-use Rattle.sup_script.specs.Headers.{limit_words, shutdown_words, FitsParts, HasShape, IsFirst}
+use Rattle.sup_script.specs.Headers.{AreHeaderWords, limit_words, shutdown_words, FitsParts, HasShape, IsFirst, IsTemplateOf}
 use Rattle.sup_script.specs.History.{AreFirstWords, answer_words, IsAnswer, EntryMeans, AreEntries, Spells, IsSameTemplate}
 use Rattle.sup_script.proofs.Commands.{texts_differ, first_same, rest_same, verb_same}
 use Rattle.sup_script.proofs.OneCommand.{same_operation}
@@ -117,21 +117,45 @@ parts_same line p q h k =
       ]
     ]
 
+same_templates : (t u : Template) (p q : Parts) → AreSameParts p q → IsTemplateOf t p → IsTemplateOf u q → IsSameTemplate t u
+same_templates t u p q same a b = record {
+  restart = a.restart ∙ same.limits.restart ∙ sym b.restart;
+  kind = a.kind ∙ same.limits.kind ∙ sym b.kind;
+  intensity = a.intensity ∙ same.limits.intensity ∙ sym b.intensity;
+  period = a.period ∙ same.limits.period ∙ sym b.period;
+  max = a.max ∙ same.limits.max ∙ sym b.max;
+  entries = a.entries ∙ sym b.entries;
+  significant = a.significant ∙ same.significant ∙ sym b.significant;
+  auto_shutdown = a.auto_shutdown ∙ same.auto_shutdown ∙ sym b.auto_shutdown;
+}
+
 first_is_one : (line : List ℕ) (t u : Template) → IsFirst AreFirstWords line t → IsFirst AreFirstWords line u → IsSameTemplate t u
-first_is_one line t u f g =
-    let same = parts_same line f.parts g.parts f.shape g.shape in
-    let a = f.template_is in
-    let b = g.template_is in
-    record {
-      restart = a.restart ∙ same.limits.restart ∙ sym b.restart;
-      kind = a.kind ∙ same.limits.kind ∙ sym b.kind;
-      intensity = a.intensity ∙ same.limits.intensity ∙ sym b.intensity;
-      period = a.period ∙ same.limits.period ∙ sym b.period;
-      max = a.max ∙ same.limits.max ∙ sym b.max;
-      entries = a.entries ∙ sym b.entries;
-      significant = a.significant ∙ same.significant ∙ sym b.significant;
-      auto_shutdown = a.auto_shutdown ∙ same.auto_shutdown ∙ sym b.auto_shutdown;
-    }
+first_is_one line t u f g = same_templates t u f.parts g.parts (parts_same line f.parts g.parts f.shape g.shape) f.template_is g.template_is
+
+-- ---- headers of scripts
+
+-- five words are not seven
+other_length : (p q : Parts) (ws : List (List ℕ)) → ws ≡ codes "sup" ∷ limit_words p → ws ≡ codes "sup" ∷ (limit_words q ++ shutdown_words q) → ⊥
+other_length p q ws a b = let none : [] ≡ shutdown_words q = ap (drop 6) (sym a ∙ b) in absurd cc
+
+header_parts_same : (line : List ℕ) (p q : Parts) → HasShape AreHeaderWords line p → HasShape AreHeaderWords line q → AreSameParts p q
+header_parts_same line p q h k =
+    elim h.words [
+      | inl a ↦ elim k.words [
+        | inl b ↦ record { limits = limits_same p q [] [] h.fits k.fits (rest_same _ _ _ _ (sym a.1 ∙ b.1)); significant = a.0.0 ∙ sym b.0.0; auto_shutdown = a.0.1 ∙ sym b.0.1 }
+        | inr b ↦ absurd (other_length p q _ a.1 b)
+      ]
+      | inr a ↦ elim k.words [
+        | inl b ↦ absurd (other_length q p _ b.1 a)
+        | inr b ↦
+            let e = rest_same _ _ _ _ (sym a ∙ b) in
+            let last : shutdown_words p ≡ shutdown_words q = ap (drop 5) e in
+            record { limits = limits_same p q (shutdown_words p) (shutdown_words q) h.fits k.fits e; significant = mark_same _ _ (first_same _ _ _ _ last); auto_shutdown = auto_same _ _ (first_same _ _ _ _ (rest_same _ _ _ _ last)) }
+      ]
+    ]
+
+pub header_is_one : (line : List ℕ) (t u : Template) → IsFirst AreHeaderWords line t → IsFirst AreHeaderWords line u → IsSameTemplate t u
+header_is_one line t u f g = same_templates t u f.parts g.parts (header_parts_same line f.parts g.parts f.shape g.shape) f.template_is g.template_is
 
 -- ---- entries
 

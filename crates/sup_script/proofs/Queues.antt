@@ -4,7 +4,7 @@ use Rattle.std.specs.Io.KnownBytes.{Appends}
 use Rattle.std.proofs.Math.ListN.{get_or-append, get_or-eq_default}
 use Rattle.std.proofs.Math.Seq.{get_or-append_seam, take-add}
 use Rattle.std.proofs.lemmas.Bool.{cases_lt}
-use Rattle.std.proofs.lemmas.List.{length-append, take-append-le, take_all, take_more, take-append-drop, length-take-le}
+use Rattle.std.proofs.lemmas.List.{length-append, take-append-le, take_all, take_more, take-append-drop, length-take-le, length-drop}
 use Rattle.sup_script.specs.declared.fault.ScriptFault.{ScriptFault}
 use Rattle.sup_script.specs.Stops.{IsCutShort}
 use Rattle.sup_script.specs.Waiting.{IsCutAt, IsTorn, IsQueue}
@@ -62,11 +62,11 @@ bytes_next bytes n m below = let whole : m ≡ n + (m - n) = omega arith in ap (
 
 -- a reply between two marks was cut
 module _ (Texts : List (List ℕ) → List ℕ → Type 0) (front : List (List ℕ)) (written waiting : List ℕ) (lines from taken to : ℕ) where
-  pub cut_between : lines < length front → from ≤ taken → taken ≤ to → Texts (take lines front) (written ++ take from waiting) → Texts (take (lines + 1) front) (written ++ take to waiting)
+  pub cut_between : lines < length front → from ≤ taken → taken < to → to ≤ length waiting → Texts (take lines front) (written ++ take from waiting) → Texts (take (lines + 1) front) (written ++ take to waiting)
       → IsCutShort Texts front (lines + 1) (written ++ take taken waiting)
-  cut_between below before after start end =
+  cut_between below before after inside start end =
       let split = bytes_next waiting from taken before in
-      let split_more = bytes_next waiting taken to after in
+      let split_more = bytes_next waiting taken to (omega arith) in
       record {
         before = written ++ take from waiting;
         at = record {
@@ -80,6 +80,7 @@ module _ (Texts : List (List ℕ) → List ℕ → Type 0) (front : List (List �
         sent = take (taken - from) (drop from waiting);
         unsent = take (to - taken) (drop taken waiting);
         written_is = ap (λ (l : List ℕ). written ++ l) split ∙ sym (append_assoc written (take from waiting) (take (taken - from) (drop from waiting)));
+        some = omega (arith, length-drop taken waiting, length-take-le (to - taken) (drop taken waiting) (omega (arith, length-drop taken waiting)));
         reply =
             let joined : (written ++ take from waiting) ++ (take (taken - from) (drop from waiting) ++ take (to - taken) (drop taken waiting)) ≡ written ++ take to waiting =
             append_assoc written (take from waiting) (take (taken - from) (drop from waiting) ++ take (to - taken) (drop taken waiting))
@@ -105,12 +106,12 @@ module _ (Texts : List (List ℕ) → List ℕ → Type 0) (front : List (List �
             let earlier = w.marks k (omega arith) in
             let lines_are : w.first + k + 1 ≡ w.first + whole = omega arith in
             let start : Texts (take (w.first + whole) front) (written ++ take (get_or ends k 0) waiting) = rw lines_are at earlier.answered in
-            cut_between Texts front written waiting (w.first + whole) (get_or ends k 0) taken (get_or ends whole 0) (omega (arith, w.count)) (cut.before k (omega arith)) (omega (arith, cut.after below)) start mark.answered
+            cut_between Texts front written waiting (w.first + whole) (get_or ends k 0) taken (get_or ends whole 0) (omega (arith, w.count)) (cut.before k (omega arith)) (cut.after below) mark.inside start mark.answered
         | inr none ↦
             let zero : whole ≡ 0 = omega arith in
             let lines_are : w.first ≡ w.first + whole = omega arith in
             let start : Texts (take (w.first + whole) front) (written ++ []) = rw (append-nil written, ← lines_are) w.start in
-            cut_between Texts front written waiting (w.first + whole) 0 taken (get_or ends whole 0) (omega (arith, w.count)) (omega arith) (omega (arith, cut.after below)) start mark.answered
+            cut_between Texts front written waiting (w.first + whole) 0 taken (get_or ends whole 0) (omega (arith, w.count)) (omega arith) (cut.after below) mark.inside start mark.answered
       ]
 
 -- more lines behind
@@ -127,6 +128,7 @@ cut_more Texts lines more number written c = record {
   };
   sent = c.sent;
   unsent = c.unsent;
+  some = c.some;
   written_is = c.written_is;
   reply = c.reply;
 }

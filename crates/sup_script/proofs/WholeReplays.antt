@@ -1,12 +1,11 @@
 -- Whole replays.
-use Rattle.std.proofs.Common.{◌≡◌, ℕ, ◌+◌, ◌≤◌, List, [], ◌∷◌, length, Option, Result, Ok, Err, refl, arith, inl, inr}
+use Rattle.std.proofs.Common.{◌≡◌, ℕ, ◌+◌, ◌≤◌, Bool, List, [], ◌∷◌, length, Option, Result, Ok, Err, refl, arith, inl, inr}
 use Rattle.std.proofs.KnownBytes.{Appends-nil}
 use Rattle.sup_types.specs.declared.template.Template.{Template}
 use Rattle.sup_types.specs.declared.history.Entry.{Entry}
 use Rattle.sup_script.specs.declared.fault.Fault.{Fault}
 use Rattle.sup_script.specs.declared.fault.Fault.TheVariants as fault
 use Rattle.sup_script.specs.declared.fault.ScriptFault.{ScriptFault}
-use Rattle.sup_script.specs.Watch.{Reading, Writing}
 use Rattle.sup_script.specs.Causes.{HasReadCause, HasCause}
 use Rattle.sup_script.specs.History.{Spells}
 use Rattle.sup_script.specs.HistoryReading.{HistoryStops}
@@ -67,18 +66,18 @@ module _ (remaining left contents : Option (List ℕ)) (given : List ℕ) where
 
 -- ---- causes
 
-pub read_cause : (reading : Reading) (writing : Writing) (f : Fault) → HasReadCause reading f → HasCause reading writing f
-read_cause reading writing fault.OutOfMemory h = tt
-read_cause reading writing fault.BadTemplate h = tt
-read_cause reading writing fault.BadLine h = tt
-read_cause reading writing fault.ReadFault h = h
-read_cause reading writing fault.WriteFault h = absurd h
-read_cause reading writing fault.TooLong h = h
+pub read_cause : (has_failed : Bool) (given : ℕ) (has_refused : Bool) (f : Fault) → HasReadCause has_failed given f → HasCause has_failed given has_refused f
+read_cause has_failed given has_refused fault.OutOfMemory h = tt
+read_cause has_failed given has_refused fault.BadTemplate h = tt
+read_cause has_failed given has_refused fault.BadLine h = tt
+read_cause has_failed given has_refused fault.ReadFault h = h
+read_cause has_failed given has_refused fault.WriteFault h = absurd h
+read_cause has_failed given has_refused fault.TooLong h = h
 
-pub text_cause : (reading : Reading) (writing : Writing) (bytes : List ℕ) (number : ℕ) (f : Fault) → HistoryStops bytes number f → HasCause reading writing f
-text_cause reading writing bytes number fault.OutOfMemory h = tt
-text_cause reading writing bytes number fault.BadTemplate h = tt
-text_cause reading writing bytes number fault.BadLine h = tt
-text_cause reading writing bytes number fault.ReadFault h = absurd h
-text_cause reading writing bytes number fault.WriteFault h = absurd h
-text_cause reading writing bytes number fault.TooLong h = absurd h
+pub text_cause : (has_failed : Bool) (given : ℕ) (has_refused : Bool) (bytes : List ℕ) (number : ℕ) (f : Fault) → HistoryStops bytes number f → HasCause has_failed given has_refused f
+text_cause has_failed given has_refused bytes number fault.OutOfMemory h = tt
+text_cause has_failed given has_refused bytes number fault.BadTemplate h = tt
+text_cause has_failed given has_refused bytes number fault.BadLine h = tt
+text_cause has_failed given has_refused bytes number fault.ReadFault h = absurd h
+text_cause has_failed given has_refused bytes number fault.WriteFault h = absurd h
+text_cause has_failed given has_refused bytes number fault.TooLong h = absurd h

@@ -96,3 +96,4 @@ pub record SpellsAs (bytes : List ℕ) (template : Template) (entries : List Ent
   pub written : Template
   pub written_is : IsTemplateOf written (template_parts template)
   pub spelled : Spells bytes written entries
+  pub version_2 : words_of spelled.first ≡ first_words template

@@ -5,7 +5,6 @@ pub mod Headers
 pub mod Replies
 pub mod Starter
 pub mod Faults
-pub mod Watch
 pub mod Stops
 pub mod Script
 pub mod Runs

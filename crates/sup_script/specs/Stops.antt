@@ -1,5 +1,5 @@
 -- Where the answering of lines stops; `Texts` tells which text of replies some lines with no fault have.
-use Rattle.std.specs.Prelude.{◌≡◌, ℕ, ◌+◌, List, [], ◌∷◌, ◌++◌, length}
+use Rattle.std.specs.Prelude.{◌≡◌, ℕ, ◌+◌, ◌<◌, List, [], ◌∷◌, ◌++◌, length}
 
 -- a line, and the text of the replies of those before it, which have no fault
 pub record IsAtLine (Texts : List (List ℕ) → List ℕ → Type 0) (lines : List (List ℕ)) (number : ℕ) (text : List ℕ) : Type 0 where
@@ -10,11 +10,12 @@ pub record IsAtLine (Texts : List (List ℕ) → List ℕ → Type 0) (lines : L
   pub number_is : number ≡ length front + 1
   pub answered : Texts front text
 
--- a line whose reply was written in part
+-- a line whose reply was written in part, or not at all: some of it was not sent
 pub record IsCutShort (Texts : List (List ℕ) → List ℕ → Type 0) (lines : List (List ℕ)) (number : ℕ) (written : List ℕ) : Type 0 where
   pub before : List ℕ
   pub at : IsAtLine Texts lines number before
   pub sent : List ℕ
   pub unsent : List ℕ
   pub written_is : written ≡ before ++ sent
+  pub some : 0 < length unsent
   pub reply : Texts (at.front ++ at.line ∷ []) (before ++ (sent ++ unsent))

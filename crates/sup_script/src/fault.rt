@@ -17,7 +17,7 @@ pub enum Fault {
     BadTemplate,
     #[error("a line that the format does not have")]
     BadLine,
-    /// The reader answered an error, or was asked 33,554,432 times.
+    /// The reader answered an error.
     #[error("the reader failed")]
     ReadFault,
     /// The writer answered an error, or took nothing of bytes that were not empty.

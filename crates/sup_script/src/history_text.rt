@@ -12,8 +12,8 @@ use sup_types::{
     Answer, AutoShutdown, Entry, Kind, Operation, OutOfMemory, Reason, Restart, Template,
 };
 
-/// The history text, in version 2, of a template and entries. It does not have the template's `entries`: the text is
-/// read with 2^62 there.
+/// The history text, in version 2 also where version 1 would do, of a template and entries. It does not have the
+/// template's `entries`: the text is read with 2^62 there. OutOfMemory leaves nothing.
 pub fn write_history<A: Allocator + Copy>(
     alloc: A,
     template: &Template,

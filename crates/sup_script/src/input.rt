@@ -8,30 +8,29 @@ ghost use Rattle.sup_script.specs.Script.{lines_of};
 
 use crate::fault::Fault;
 use crate::lines::ended_part;
-use crate::script::{MOST_BYTES, MOST_READS, PIECE};
-use crate::watch::ReadWatch;
+use crate::script::{MOST_BYTES, PIECE};
+use crate::watch::WatchedReader;
 use std::alloc::Allocator;
 use std::io::Read;
 
 /// Reads to the end, or as much as a text may have. After a fault the text holds what was read before it.
 pub fn read_whole<R: Read, A: Allocator>(
-    reader: &mut R,
-    reads: &mut ReadWatch,
+    reader: &mut WatchedReader<R>,
     text: &mut Vec<u8, A>,
 ) -> Result<(), Fault>
-    requires calls { reads.old.calls ≡ 0 }
-    requires none { reads.old.given ≡ 0 }
+    requires calls { reader.old.calls ≡ 0 }
+    requires none { reader.old.given ≡ 0 }
     requires empty { text.old.items ≡ [] }
-    ensures read { IsRead (R.remaining reader.old) (R.remaining reader.new) text.new.items result }
-    ensures reads { reads.new.calls ≤ 33554432 }
-    ensures cause { IfErr result (λ f. HasReadCause reads.new f) }
+    ensures read { IsRead (R.remaining reader.old.reader) (R.remaining reader.new.reader) text.new.items result }
+    ensures reads { reader.new.calls ≤ 16777217 }
+    ensures cause { IfErr result (λ f. HasReadCause reader.new.has_failed reader.new.given f) }
 {
     let mut piece = [0u8; PIECE];
-    while reads.calls() < MOST_READS {
-        let room = (MOST_BYTES - reads.given()) as usize;
+    loop {
+        let room = (MOST_BYTES - reader.given()) as usize;
         // Space comes first, so that no byte is lost where it is refused.
         text.reserve(PIECE)?;
-        let count = match reads.read(reader, &mut piece) {
+        let count = match reader.read(&mut piece) {
             Some(count) => count,
             None => return Err(Fault::ReadFault),
         };
@@ -44,7 +43,6 @@ pub fn read_whole<R: Read, A: Allocator>(
         }
         text.extend_from_slice(&piece[..count]).unwrap();
     }
-    Err(Fault::ReadFault)
 }
 
 /// The number of the line after the last one that is ended.

@@ -4,12 +4,18 @@ ghost use Rattle.std.specs.Prelude.{◌≡◌, ℕ, List};
 ghost use Rattle.sup_types.specs.declared.template.Template.{Template};
 ghost use Rattle.sup_types.specs.declared.history.Entry.{Entry};
 ghost use Rattle.sup_script.specs.declared.command.Command.{Command};
+ghost use Rattle.sup_script.specs.Headers.{AreHeaderWords, IsFirst};
 ghost use Rattle.sup_script.specs.History.{Spells, IsSameTemplate};
 ghost use Rattle.sup_script.specs.Lines.{LineMeans};
 
 /// No line spells two commands.
 pub fn one_command()
     ensures { (line : List ℕ) (c d : Command) → LineMeans line c → LineMeans line d → c ≡ d }
+{}
+
+/// No header of a script, of five fields or of seven, gives two templates.
+pub fn one_header()
+    ensures { (line : List ℕ) (t u : Template) → IsFirst AreHeaderWords line t → IsFirst AreHeaderWords line u → IsSameTemplate t u }
 {}
 
 /// No history text, of either version, spells two values.

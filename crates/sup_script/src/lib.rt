@@ -10,18 +10,19 @@
 //! supervisor.
 //!
 //! What the layer above may rely on are the contracts of `run` and `replay`: which bytes were read, which text was
-//! written, and at a fault which line it stands in and which replies were written before. They speak of what lines mean
-//! (`LineMeans`, `Spells`), of the replies' text and of the supervisor's account of the history alone. `run_watched` and
-//! `replay_watched` are the same with two witnesses, by which their contracts also name the cause of each fault of
-//! reading or writing. `laws` has laws of the definitions alone: no line means two commands, and no text spells two
-//! values, so what was written is read again.
+//! written, at a fault which line it stands in and which replies were written before, and why a fault of reading or
+//! writing came. They speak of what lines mean (`LineMeans`, `Spells`), of the replies' text and of the supervisor's
+//! account of the history alone. The reader and the writer are watched ones, which know what they refused. `laws` has
+//! laws of the definitions alone: no header gives two templates and no line means two commands, and no history text
+//! spells two values, so what was written is read again.
 //!
 //! ```text
-//! let mut script = b"sup permanent worker 1 5 10\nstart 0 a\nexit 1 1 normal\nwhich\n".as_slice();
-//! let mut replies = Vec::new(rt.alloc());
-//! let ended = run(rt.alloc(), &mut script, &mut replies, &ScriptStarter);
+//! let script = b"sup permanent worker 1 5 10\nstart 0 a\nexit 1 1 normal\nwhich\n".as_slice();
+//! let mut reader = WatchedReader::new(script);
+//! let mut writer = WatchedWriter::new(Vec::new(rt.alloc()));
+//! let ended = run(rt.alloc(), &mut reader, &mut writer, &ScriptStarter);
 //! assert!(rt; ended == Ok(()));
-//! assert_eq!(rt; replies.as_slice(), b"ok 1\nrestarted 1 2\nchild 2 running a\nend 1\n".as_slice());
+//! assert_eq!(rt; writer.into_writer().as_slice(), b"ok 1\nrestarted 1 2\nchild 2 running a\nend 1\n".as_slice());
 //! ```
 #![tactic(auto)]
 
@@ -38,7 +39,6 @@ mod outbox;
 mod replays;
 mod reply;
 mod script;
-mod send;
 mod session;
 mod starter;
 mod tokens;
@@ -49,8 +49,8 @@ pub use command::{Command, read_line};
 pub use fault::{Fault, ScriptFault};
 pub use history::{History, HistoryFault, read_history};
 pub use history_text::write_history;
-pub use replays::{replay, replay_watched};
+pub use replays::replay;
 pub use reply::write_reply;
-pub use script::{run, run_watched};
+pub use script::run;
 pub use starter::ScriptStarter;
-pub use watch::{ReadWatch, WriteWatch};
+pub use watch::{WatchedReader, WatchedWriter};

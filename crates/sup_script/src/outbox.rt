@@ -5,8 +5,7 @@ ghost use Rattle.sup_script.specs.Causes.{HasLineCause};
 ghost use Rattle.sup_script.specs.Waiting.{IsCutAt, IsFlushed, IsFlushedOrKept};
 
 use crate::fault::{Fault, ScriptFault};
-use crate::send::send;
-use crate::watch::WriteWatch;
+use crate::watch::WatchedWriter;
 use std::alloc::Allocator;
 use std::io::Write;
 
@@ -37,16 +36,15 @@ impl<A: Allocator + Copy> Outbox<A> {
     /// The fault is WriteFault, in the line whose reply was being written.
     pub fn flush<W: Write>(
         &mut self,
-        writer: &mut W,
-        writes: &mut WriteWatch,
+        writer: &mut WatchedWriter<W>,
         next: u64,
     ) -> Result<(), ScriptFault>
         requires { length self.old.ends.items < next }
         ensures flushed { IsFlushed self.old.bytes.items self.old.ends.items self.new.bytes.items self.new.ends.items
-            (W.contents writer.old) (W.contents writer.new) next result }
-        ensures cause { IfErr result (λ e. HasLineCause writes.new.has_refused e.fault) }
+            (W.contents writer.old.writer) (W.contents writer.new.writer) next result }
+        ensures cause { IfErr result (λ e. HasLineCause writer.new.has_refused e.fault) }
     {
-        match send(writer, writes, self.bytes.as_slice()) {
+        match writer.send(self.bytes.as_slice()) {
             Ok(()) => {
                 self.bytes.clear();
                 self.ends.clear();
@@ -64,20 +62,19 @@ impl<A: Allocator + Copy> Outbox<A> {
     /// Writes all that waits where it is much, as `flush` does. Then less than 65,536 bytes wait.
     pub fn flush_if_full<W: Write>(
         &mut self,
-        writer: &mut W,
-        writes: &mut WriteWatch,
+        writer: &mut WatchedWriter<W>,
         next: u64,
     ) -> Result<(), ScriptFault>
         requires { length self.old.ends.items < next }
         ensures flushed { IsFlushedOrKept self.old.bytes.items self.old.ends.items self.new.bytes.items self.new.ends.items
-            (W.contents writer.old) (W.contents writer.new) next result }
+            (W.contents writer.old.writer) (W.contents writer.new.writer) next result }
         ensures few { OnOk result (length self.new.bytes.items < 65536) }
-        ensures cause { IfErr result (λ e. HasLineCause writes.new.has_refused e.fault) }
+        ensures cause { IfErr result (λ e. HasLineCause writer.new.has_refused e.fault) }
     {
         if self.bytes.len() < FULL {
             return Ok(());
         }
-        self.flush(writer, writes, next)
+        self.flush(writer, next)
     }
 }
 

@@ -14,7 +14,7 @@ use crate::history::{HistoryFault, read_history};
 use crate::input::{line_after, read_whole};
 use crate::outbox::Outbox;
 use crate::reply::write_reply;
-use crate::watch::{ReadWatch, WriteWatch};
+use crate::watch::{WatchedReader, WatchedWriter};
 use std::alloc::Allocator;
 use std::io::{Read, Write};
 use sup_core::Sup;
@@ -28,34 +28,20 @@ use sup_types::{Entry, OutOfMemory, Template};
 /// supervisor.
 pub fn replay<A: Allocator + Copy, R: Read, W: Write>(
     alloc: A,
-    reader: &mut R,
-    writer: &mut W,
+    reader: &mut WatchedReader<R>,
+    writer: &mut WatchedWriter<W>,
 ) -> Result<(), ScriptFault>
-    ensures { IsReplay (R.remaining reader.old) (R.remaining reader.new) (W.contents writer.old) (W.contents writer.new) result }
-{
-    let mut reads = ReadWatch::new();
-    let mut writes = WriteWatch::new();
-    replay_watched(alloc, reader, &mut reads, writer, &mut writes)
-}
-
-/// The replay, with fresh witnesses of the reads and of the writes, by which its contract names the cause of a fault.
-pub fn replay_watched<A: Allocator + Copy, R: Read, W: Write>(
-    alloc: A,
-    reader: &mut R,
-    reads: &mut ReadWatch,
-    writer: &mut W,
-    writes: &mut WriteWatch,
-) -> Result<(), ScriptFault>
-    requires calls { reads.old.calls ≡ 0 }
-    requires none { reads.old.given ≡ 0 }
-    requires unfailed { reads.old.has_failed ≡ false }
-    requires unrefused { writes.old.has_refused ≡ false }
-    ensures replay { IsReplay (R.remaining reader.old) (R.remaining reader.new) (W.contents writer.old) (W.contents writer.new) result }
-    ensures reads { reads.new.calls ≤ 33554432 }
-    ensures cause { IfErr result (λ e. HasCause reads.new writes.new e.fault) }
+    requires calls { reader.old.calls ≡ 0 }
+    requires none { reader.old.given ≡ 0 }
+    requires unfailed { reader.old.has_failed ≡ false }
+    requires unrefused { writer.old.has_refused ≡ false }
+    ensures replay { IsReplay (R.remaining reader.old.reader) (R.remaining reader.new.reader)
+        (W.contents writer.old.writer) (W.contents writer.new.writer) result }
+    ensures reads { reader.new.calls ≤ 16777217 }
+    ensures cause { IfErr result (λ e. HasCause reader.new.has_failed reader.new.given writer.new.has_refused e.fault) }
 {
     let mut text = Vec::new(alloc);
-    if let Err(fault) = read_whole(reader, reads, &mut text) {
+    if let Err(fault) = read_whole(reader, &mut text) {
         let line = line_after(text.as_slice());
         return Err(ScriptFault { fault, line });
     }
@@ -64,7 +50,7 @@ pub fn replay_watched<A: Allocator + Copy, R: Read, W: Write>(
         Err(HistoryFault { fault, line }) => return Err(ScriptFault { fault, line }),
     };
     let entries = history.entries.as_slice();
-    answer_entries(alloc, history.template, entries, writer, writes)
+    answer_entries(alloc, history.template, entries, writer)
 }
 
 /// Writes the replies to the entries of a history that begins with a template.
@@ -72,18 +58,17 @@ fn answer_entries<A: Allocator + Copy, W: Write>(
     alloc: A,
     template: Template,
     entries: &[Entry],
-    writer: &mut W,
-    writes: &mut WriteWatch,
+    writer: &mut WatchedWriter<W>,
 ) -> Result<(), ScriptFault>
     requires { length entries.now ≤ template.entries }
     ensures given { (first : List ℕ) (body : List (List ℕ)) → IsFirst AreFirstWords first template → AreEntries body entries.now →
-        RepliesGive (first ∷ body) template entries.now (W.contents writer.old) (W.contents writer.new) result }
-    ensures cause { IfErr result (λ e. HasLineCause writes.new.has_refused e.fault) }
+        RepliesGive (first ∷ body) template entries.now (W.contents writer.old.writer) (W.contents writer.new.writer) result }
+    ensures cause { IfErr result (λ e. HasLineCause writer.new.has_refused e.fault) }
 {
     match Sup::new(alloc, template) {
         Ok(mut sup) => {
             let mut outbox = Outbox::new(alloc);
-            answer_from(&mut sup, &mut outbox, entries, writer, writes)
+            answer_from(&mut sup, &mut outbox, entries, writer)
         }
         Err(OutOfMemory) => {
             let fault = Fault::OutOfMemory;
@@ -97,28 +82,27 @@ fn answer_from<A: Allocator + Copy, W: Write>(
     sup: &mut Sup<A>,
     outbox: &mut Outbox<A>,
     entries: &[Entry],
-    writer: &mut W,
-    writes: &mut WriteWatch,
+    writer: &mut WatchedWriter<W>,
 ) -> Result<(), ScriptFault>
     requires empty { IsAfter sup.old [] }
     requires room { length entries.now ≤ sup.old.template.entries }
     requires bytes { outbox.old.bytes.items ≡ [] }
     requires ends { outbox.old.ends.items ≡ [] }
     ensures given { (first : List ℕ) (body : List (List ℕ)) → IsFirst AreFirstWords first sup.old.template → AreEntries body entries.now →
-        RepliesGive (first ∷ body) sup.old.template entries.now (W.contents writer.old) (W.contents writer.new) result }
-    ensures cause { IfErr result (λ e. HasLineCause writes.new.has_refused e.fault) }
+        RepliesGive (first ∷ body) sup.old.template entries.now (W.contents writer.old.writer) (W.contents writer.new.writer) result }
+    ensures cause { IfErr result (λ e. HasLineCause writer.new.has_refused e.fault) }
 {
     let mut next = 2;
     for entry in entries {
         if let Err(OutOfMemory) = answer_entry(entry, sup, outbox) {
-            outbox.flush(writer, writes, next)?;
+            outbox.flush(writer, next)?;
             let fault = Fault::OutOfMemory;
             return Err(ScriptFault { fault, line: next });
         }
         next += 1;
-        outbox.flush_if_full(writer, writes, next)?;
+        outbox.flush_if_full(writer, next)?;
     }
-    outbox.flush(writer, writes, next)
+    outbox.flush(writer, next)
 }
 
 /// Enters an entry, and puts its reply behind those that wait. After a refusal they wait as before.

@@ -17,7 +17,7 @@ use crate::fault::{Fault, ScriptFault};
 use crate::header::read_header;
 use crate::lines::{ended_part, first_line};
 use crate::outbox::Outbox;
-use crate::watch::WriteWatch;
+use crate::watch::WatchedWriter;
 use std::alloc::Allocator;
 use std::io::Write;
 use sup_core::Sup;
@@ -70,8 +70,7 @@ impl<A: Allocator + Copy> Session<A> {
         piece: &[u8],
         part: &mut Vec<u8, A>,
         starter: &S,
-        writer: &mut W,
-        writes: &mut WriteWatch,
+        writer: &mut WatchedWriter<W>,
     ) -> Result<(), ScriptFault>
         requires lacks { Lacks 10 part.old.items }
         requires room { length part.old.items + length piece.now ≤ vec_capacity part.old }
@@ -81,13 +80,13 @@ impl<A: Allocator + Copy> Session<A> {
         requires bytes { self.old.outbox.bytes.items ≡ [] }
         requires ends { self.old.outbox.ends.items ≡ [] }
         ensures given { (front : List (List ℕ)) (text : List ℕ) → IsAnsweredTo S.answer front text self.old.supervisor self.old.next →
-            IsPieceAnswered S.answer front text part.old.items piece.now part.new.items self.new.supervisor self.new.next (W.contents writer.old) (W.contents writer.new) result }
+            IsPieceAnswered S.answer front text part.old.items piece.now part.new.items self.new.supervisor self.new.next (W.contents writer.old.writer) (W.contents writer.new.writer) result }
         ensures first { OnOk result (1 ≤ self.new.next) }
         ensures lines { OnOk result (self.new.next + length part.new.items ≤ self.old.next + length part.old.items + length piece.now) }
         ensures steps { OnOk result (steps_left self.old.supervisor + length part.new.items ≤ steps_left self.new.supervisor + length part.old.items + length piece.now) }
         ensures bytes { OnOk result (self.new.outbox.bytes.items ≡ []) }
         ensures ends { OnOk result (self.new.outbox.ends.items ≡ []) }
-        ensures cause { IfErr result (λ e. HasLineCause writes.new.has_refused e.fault) }
+        ensures cause { IfErr result (λ e. HasLineCause writer.new.has_refused e.fault) }
     {
         let ended = ended_part(piece);
         if ended.is_empty() {
@@ -95,7 +94,7 @@ impl<A: Allocator + Copy> Session<A> {
             return Ok(());
         }
         part.extend_from_slice(ended).unwrap();
-        self.answer_lines(part.as_slice(), starter, writer, writes)?;
+        self.answer_lines(part.as_slice(), starter, writer)?;
         part.clear();
         part.extend_from_slice(&piece[ended.len()..]).unwrap();
         Ok(())
@@ -108,8 +107,7 @@ impl<A: Allocator + Copy> Session<A> {
         &mut self,
         input: &[u8],
         starter: &S,
-        writer: &mut W,
-        writes: &mut WriteWatch,
+        writer: &mut WatchedWriter<W>,
     ) -> Result<(), ScriptFault>
         requires first { 1 ≤ self.old.next }
         requires lines { self.old.next + length input.now ≤ 16777217 }
@@ -117,26 +115,26 @@ impl<A: Allocator + Copy> Session<A> {
         requires bytes { self.old.outbox.bytes.items ≡ [] }
         requires ends { self.old.outbox.ends.items ≡ [] }
         ensures given { (front : List (List ℕ)) (text : List ℕ) → IsAnsweredTo S.answer front text self.old.supervisor self.old.next →
-            LinesGive S.answer front text (lines_of input.now) self.new.supervisor self.new.next (W.contents writer.old) (W.contents writer.new) result }
+            LinesGive S.answer front text (lines_of input.now) self.new.supervisor self.new.next (W.contents writer.old.writer) (W.contents writer.new.writer) result }
         ensures first { OnOk result (1 ≤ self.new.next) }
         ensures lines { OnOk result (self.new.next ≤ self.old.next + length input.now) }
         ensures steps { steps_left self.old.supervisor ≤ steps_left self.new.supervisor + length input.now }
         ensures bytes { OnOk result (self.new.outbox.bytes.items ≡ []) }
         ensures ends { OnOk result (self.new.outbox.ends.items ≡ []) }
-        ensures cause { IfErr result (λ e. HasLineCause writes.new.has_refused e.fault) }
+        ensures cause { IfErr result (λ e. HasLineCause writer.new.has_refused e.fault) }
     {
         let mut rest = input;
         while !rest.is_empty() {
             let (line, after) = first_line(rest);
             if let Err(fault) = self.answer_next(line, starter) {
-                self.outbox.flush(writer, writes, self.next)?;
+                self.outbox.flush(writer, self.next)?;
                 return Err(self.fault(fault));
             }
             self.next += 1;
             rest = after;
-            self.outbox.flush_if_full(writer, writes, self.next)?;
+            self.outbox.flush_if_full(writer, self.next)?;
         }
-        self.outbox.flush(writer, writes, self.next)
+        self.outbox.flush(writer, self.next)
     }
 
     /// Answers the next line, and puts its reply behind those that wait. After a fault they wait as before.

@@ -1,45 +1,58 @@
-//! What a reader and a writer refused, so that a contract can name the cause of a fault.
+//! A reader and a writer with what they refused, so that a contract can name the cause of a fault.
 //!
-//! The fields are private, and only `read` and `write` change them.
+//! The fields are private. So a function that is lent one can't say that it failed: only a read or a write that was
+//! refused says so, of this reader and of this writer.
 
-ghost use Rattle.std.specs.Prelude.{◌≡◌, ◌+◌, ◌<◌, ◌≤◌, ◌^◌, true, false, take, length, MatchOption};
+ghost use Rattle.std.specs.Prelude.{◌≡◌, ◌+◌, ◌<◌, ◌≤◌, ◌^◌, true, false, take, length, MatchOption, OnErr};
 ghost use Rattle.std.specs.Io.KnownBytes.{Appends, Consumes, IsAtEnd, Keeps};
+ghost use Rattle.sup_script.specs.Sent.{IsSent};
 
 use std::io::{Read, Write};
-use std::marker::Model;
 
-/// A witness of writes: whether the writer answered an error, or took nothing of bytes that were not empty.
+/// A writer, and whether it answered an error or took nothing of bytes that were not empty.
 #[derive(Debug, Drop)]
-pub struct WriteWatch {
+pub struct WatchedWriter<W> {
+    writer: W,
     has_refused: bool,
 }
 
-impl Model for WriteWatch {
-    ghost use Rattle.sup_script.specs.Watch.{Writing};
-
-    ghost Value = { Writing };
-
-    ghost view = { λ w. record { has_refused = w.has_refused } };
-}
-
-impl WriteWatch {
-    /// Nothing was refused so far.
-    pub fn new() -> WriteWatch
-        ensures { result.has_refused ≡ false }
+impl<W: Write> WatchedWriter<W> {
+    /// This writer, which refused nothing so far.
+    pub fn new(writer: W) -> WatchedWriter<W>
+        ensures writer { result.writer ≡ writer }
+        ensures unrefused { result.has_refused ≡ false }
     {
-        WriteWatch { has_refused: false }
+        WatchedWriter {
+            writer,
+            has_refused: false,
+        }
+    }
+
+    /// Writes all of the bytes, or says how many of them the writer took before it refused.
+    pub fn send(&mut self, bytes: &[u8]) -> Result<(), usize>
+        ensures sent { IsSent (W.contents self.old.writer) (W.contents self.new.writer) bytes.now result }
+        ensures cause { OnErr result (self.new.has_refused ≡ true) }
+    {
+        let mut taken = 0;
+        while taken < bytes.len() {
+            match self.write(&bytes[taken..]) {
+                Some(count) => taken += count,
+                None => return Err(taken),
+            }
+        }
+        Ok(())
     }
 
     /// Writes once: how many of the bytes the writer took, at least one, or None where it refused.
-    pub fn write<W: Write>(&mut self, writer: &mut W, bytes: &[u8]) -> Option<usize>
+    fn write(&mut self, bytes: &[u8]) -> Option<usize>
         requires { 0 < length bytes.now }
         ensures { MatchOption result
-            ((self.new.has_refused ≡ true) × Keeps (W.contents writer.old) (W.contents writer.new))
+            ((self.new.has_refused ≡ true) × Keeps (W.contents self.old.writer) (W.contents self.new.writer))
             (λ n. (0 < n) × (n ≤ length bytes.now)
             × (self.new.has_refused ≡ self.old.has_refused)
-            × Appends (W.contents writer.old) (W.contents writer.new) (take n bytes.now)) }
+            × Appends (W.contents self.old.writer) (W.contents self.new.writer) (take n bytes.now)) }
     {
-        match writer.write(bytes) {
+        match self.writer.write(bytes) {
             Ok(0) | Err(_) => {
                 self.has_refused = true;
                 None
@@ -47,32 +60,34 @@ impl WriteWatch {
             Ok(count) => Some(count),
         }
     }
+
+    /// The writer.
+    pub fn into_writer(self) -> W
+        ensures { result ≡ self.writer }
+    {
+        self.writer
+    }
 }
 
-/// A witness of reads: how often the reader was asked, how many bytes it gave, and whether it answered an error.
+/// A reader, and what it was asked: how often, how many bytes it gave, and whether it answered an error.
 #[derive(Debug, Drop)]
-pub struct ReadWatch {
+pub struct WatchedReader<R> {
+    reader: R,
     calls: u64,
     given: u64,
     has_failed: bool,
 }
 
-impl Model for ReadWatch {
-    ghost use Rattle.sup_script.specs.Watch.{Reading};
-
-    ghost Value = { Reading };
-
-    ghost view = { λ r. record { calls = r.calls; given = r.given; has_failed = r.has_failed } };
-}
-
-impl ReadWatch {
-    /// Nothing was asked so far.
-    pub fn new() -> ReadWatch
+impl<R: Read> WatchedReader<R> {
+    /// This reader, which was asked nothing so far.
+    pub fn new(reader: R) -> WatchedReader<R>
+        ensures reader { result.reader ≡ reader }
         ensures calls { result.calls ≡ 0 }
-        ensures given { result.given ≡ 0 }
+        ensures none { result.given ≡ 0 }
         ensures unfailed { result.has_failed ≡ false }
     {
-        ReadWatch {
+        WatchedReader {
+            reader,
             calls: 0,
             given: 0,
             has_failed: false,
@@ -80,21 +95,22 @@ impl ReadWatch {
     }
 
     /// Reads once: how many bytes the reader gave, none only at its end, or None where it failed.
-    pub fn read<R: Read>(&mut self, reader: &mut R, piece: &mut [u8]) -> Option<usize>
+    pub fn read(&mut self, piece: &mut [u8]) -> Option<usize>
         requires calls { self.old.calls < 2 ^ 62 }
         requires given { self.old.given + length piece.old < 2 ^ 62 }
         requires room { 0 < length piece.old }
         ensures calls { self.new.calls ≡ self.old.calls + 1 }
         ensures bytes { MatchOption result
-            ((self.new.has_failed ≡ true) × (self.new.given ≡ self.old.given) × Keeps (R.remaining reader.old) (R.remaining reader.new))
+            ((self.new.has_failed ≡ true) × (self.new.given ≡ self.old.given)
+            × Keeps (R.remaining self.old.reader) (R.remaining self.new.reader))
             (λ n. (n ≤ length piece.new)
             × (self.new.has_failed ≡ self.old.has_failed)
             × (self.new.given ≡ self.old.given + n)
-            × Consumes (R.remaining reader.old) (R.remaining reader.new) (take n piece.new)
-            × (n ≡ 0 → IsAtEnd (R.remaining reader.new))) }
+            × Consumes (R.remaining self.old.reader) (R.remaining self.new.reader) (take n piece.new)
+            × (n ≡ 0 → IsAtEnd (R.remaining self.new.reader))) }
     {
         self.calls += 1;
-        match reader.read(piece) {
+        match self.reader.read(piece) {
             Ok(count) => {
                 self.given += count as u64;
                 Some(count)
@@ -104,13 +120,6 @@ impl ReadWatch {
                 None
             }
         }
-    }
-
-    /// How often the reader was asked.
-    pub fn calls(&self) -> u64
-        ensures { result ≡ self.now.calls }
-    {
-        self.calls
     }
 
     /// How many bytes the reader gave.

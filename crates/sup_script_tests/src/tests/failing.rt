@@ -5,38 +5,38 @@ use std::alloc::Global;
 use std::io::Read;
 use std::process::Abort;
 use std::test::Fail;
-use sup_script::{Fault, ScriptStarter, run};
+use sup_script::{Fault, ScriptStarter, WatchedReader, WatchedWriter, run};
 
 /// Runs the script that the reader gives: it ends so, and this is what it writes.
-fn run_from<R: Read>(
+fn run_from<R: Read + Drop>(
     rt: &impl Abort,
     alloc: Global,
-    reader: &mut R,
+    reader: R,
     fault: (Fault, u64),
     replies: &[u8],
 ) {
-    let mut out = Vec::new(alloc);
-    let result = run(alloc, reader, &mut out, &ScriptStarter);
+    let mut reader = WatchedReader::new(reader);
+    let mut out = WatchedWriter::new(Vec::new(alloc));
+    let result = run(alloc, &mut reader, &mut out, &ScriptStarter);
     expect_end(rt, result, Some(fault));
-    assert!(rt; out.as_slice() == replies);
+    assert!(rt; out.into_writer().as_slice() == replies);
 }
 
 /// Runs the script to a writer that fails after so many calls: it holds these bytes, and the run stops in this line.
-fn run_narrowly<R: Read>(
+fn run_narrowly<R: Read + Drop>(
     rt: &impl Abort,
     alloc: Global,
-    reader: &mut R,
+    reader: R,
     calls: usize,
     line: u64,
     written: &[u8],
 ) {
-    let mut writer = Narrow {
-        held: Vec::new(alloc),
-        calls,
-    };
-    let result = run(alloc, reader, &mut writer, &ScriptStarter);
+    let held = Vec::new(alloc);
+    let mut reader = WatchedReader::new(reader);
+    let mut writer = WatchedWriter::new(Narrow { held, calls });
+    let result = run(alloc, &mut reader, &mut writer, &ScriptStarter);
     expect_end(rt, result, Some((Fault::WriteFault, line)));
-    assert!(rt; writer.held.as_slice() == written);
+    assert!(rt; writer.into_writer().held.as_slice() == written);
 }
 
 #[test]
@@ -48,24 +48,24 @@ fn answers_the_ended_lines_before_a_failed_read(rt: HostRuntime) {
         (ended, 41, 1, "ok 1\n", (Fault::ReadFault, 3)),
         (faulty, 7, 6, "", (Fault::BadLine, 2)),
     ] {
-        let mut reader = Pieces { left, most, calls };
-        run_from(&rt, rt.alloc(), &mut reader, fault, replies.as_bytes());
+        let reader = Pieces { left, most, calls };
+        run_from(&rt, rt.alloc(), reader, fault, replies.as_bytes());
     }
 }
 
 #[test]
 fn stops_in_the_line_whose_reply_is_cut(rt: HostRuntime) {
     let script = b"sup permanent worker 1 5 10\nstart 0 a\nstart 0 b\n".as_slice();
-    let mut reader = script;
-    run_narrowly(&rt, rt.alloc(), &mut reader, 7, 3, b"ok 1\nok");
-    let mut reader = script;
-    let result = run(rt.alloc(), &mut reader, &mut Stuck, &ScriptStarter);
+    run_narrowly(&rt, rt.alloc(), script, 7, 3, b"ok 1\nok");
+    let mut reader = WatchedReader::new(script);
+    let mut stuck = WatchedWriter::new(Stuck);
+    let result = run(rt.alloc(), &mut reader, &mut stuck, &ScriptStarter);
     expect_end(&rt, result, Some((Fault::WriteFault, 2)));
 }
 
 #[test]
 fn refuses_a_line_without_end(rt: HostRuntime) {
-    run_from(&rt, rt.alloc(), &mut Endless, (Fault::TooLong, 1), b"");
+    run_from(&rt, rt.alloc(), Endless, (Fault::TooLong, 1), b"");
 }
 
 #[test]
@@ -74,8 +74,8 @@ fn refuses_a_text_that_is_too_long(rt: HostRuntime) -> Result<(), Fail> {
     for _ in script.len()..16_777_217 {
         script.push(b'a')?;
     }
-    let mut reader = script.as_slice();
-    run_from(&rt, rt.alloc(), &mut reader, (Fault::TooLong, 2), b"");
+    let fault = (Fault::TooLong, 2);
+    run_from(&rt, rt.alloc(), script.as_slice(), fault, b"");
     Ok(())
 }
 
@@ -98,7 +98,7 @@ fn reply_bytes(replies: &[u8], lines: usize) -> usize {
 fn stops_at_each_failed_read(rt: HostRuntime) {
     let (script, replies) = (FAILED_RESTART.0.as_bytes(), FAILED_RESTART.1.as_bytes());
     for calls in 0..script.len() + 1 {
-        let mut reader = Pieces {
+        let reader = Pieces {
             left: script,
             most: 1,
             calls,
@@ -107,7 +107,7 @@ fn stops_at_each_failed_read(rt: HostRuntime) {
         let count = reply_bytes(replies, whole);
         assert!(rt; count <= replies.len());
         let fault = (Fault::ReadFault, whole as u64 + 1);
-        run_from(&rt, rt.alloc(), &mut reader, fault, &replies[..count]);
+        run_from(&rt, rt.alloc(), reader, fault, &replies[..count]);
     }
 }
 
@@ -116,13 +116,13 @@ fn stops_at_each_failed_write(rt: HostRuntime) {
     let (script, replies) = (FAILED_RESTART.0.as_bytes(), FAILED_RESTART.1.as_bytes());
     for calls in 0..replies.len() {
         for most in [1, 3, 10_000] {
-            let mut reader = Pieces {
+            let reader = Pieces {
                 left: script,
                 most,
                 calls: usize::MAX,
             };
             let line = line_feeds(&replies[..calls]) as u64 + 2;
-            run_narrowly(&rt, rt.alloc(), &mut reader, calls, line, &replies[..calls]);
+            run_narrowly(&rt, rt.alloc(), reader, calls, line, &replies[..calls]);
         }
     }
 }
@@ -134,20 +134,21 @@ fn answers_more_than_one_piece(rt: HostRuntime) -> Result<(), Fail> {
         script.extend_from_slice(b"exit 1 1 normal\n")?;
     }
     for most in [4_096, 70_000] {
-        let mut reader = Pieces {
+        let reader = Pieces {
             left: script.as_slice(),
             most,
             calls: usize::MAX,
         };
-        run_strays(&rt, rt.alloc(), &mut reader);
+        run_strays(&rt, rt.alloc(), reader);
     }
     Ok(())
 }
 
 /// Runs a script of 20,000 exits, which all are strays.
-fn run_strays(rt: &impl Abort, alloc: Global, reader: &mut Pieces<'_>) {
-    let mut out = Vec::new(alloc);
-    let result = run(alloc, reader, &mut out, &ScriptStarter);
+fn run_strays(rt: &impl Abort, alloc: Global, reader: Pieces<'_>) {
+    let mut reader = WatchedReader::new(reader);
+    let mut out = WatchedWriter::new(Vec::new(alloc));
+    let result = run(alloc, &mut reader, &mut out, &ScriptStarter);
     expect_end(rt, result, None);
-    assert!(rt; out.len() == 20_000 * b"stray 1\n".len());
+    assert!(rt; out.into_writer().len() == 20_000 * b"stray 1\n".len());
 }

@@ -4,7 +4,9 @@ use super::{HISTORY, expect_end, line_feeds};
 use std::alloc::Global;
 use std::process::Abort;
 use std::test::Fail;
-use sup_script::{Fault, History, HistoryFault, read_history, replay, write_history};
+use sup_script::{
+    Fault, History, HistoryFault, WatchedReader, WatchedWriter, read_history, replay, write_history,
+};
 use sup_types::OutOfMemory;
 
 #[test]
@@ -18,15 +20,15 @@ fn a_failed_read_writes_nothing(rt: HostRuntime) {
 
 /// Replays from a reader that fails after so many calls: it stops in this line and has written nothing.
 fn replay_pieces(rt: &impl Abort, alloc: Global, calls: usize, line: u64) {
-    let mut reader = Pieces {
+    let mut reader = WatchedReader::new(Pieces {
         left: HISTORY.0.as_bytes(),
         most: 1,
         calls,
-    };
-    let mut out = Vec::new(alloc);
+    });
+    let mut out = WatchedWriter::new(Vec::new(alloc));
     let ended = replay(alloc, &mut reader, &mut out);
     expect_end(rt, ended, Some((Fault::ReadFault, line)));
-    assert!(rt; out.is_empty());
+    assert!(rt; out.into_writer().is_empty());
 }
 
 #[test]
@@ -40,14 +42,12 @@ fn a_failed_write_has_the_line_of_its_entry(rt: HostRuntime) {
 
 /// Replays to a writer that fails after so many calls: it holds these bytes, and the replay stops in this line.
 fn replay_narrowly(rt: &impl Abort, alloc: Global, calls: usize, line: u64, written: &[u8]) {
-    let mut reader = HISTORY.0.as_bytes();
-    let mut writer = Narrow {
-        held: Vec::new(alloc),
-        calls,
-    };
+    let held = Vec::new(alloc);
+    let mut reader = WatchedReader::new(HISTORY.0.as_bytes());
+    let mut writer = WatchedWriter::new(Narrow { held, calls });
     let ended = replay(alloc, &mut reader, &mut writer);
     expect_end(rt, ended, Some((Fault::WriteFault, line)));
-    assert!(rt; writer.held.as_slice() == written);
+    assert!(rt; writer.into_writer().held.as_slice() == written);
 }
 
 #[test]

@@ -5,8 +5,8 @@ use std::alloc::{AllocError, Global};
 use std::process::Abort;
 use std::test::Fail;
 use sup_script::{
-    Fault, HistoryFault, ScriptFault, ScriptStarter, read_history, replay, run, write_history,
-    write_reply,
+    Fault, HistoryFault, ScriptFault, ScriptStarter, WatchedReader, WatchedWriter, read_history,
+    replay, run, write_history, write_reply,
 };
 use sup_types::{OutOfMemory, Reply};
 
@@ -26,9 +26,10 @@ fn ended_well(rt: &impl Abort, ended: Result<(), ScriptFault>, out: &[u8], repli
 /// Runs the script on a heap of this size, which has all its memory back afterwards. Whether the run ended well.
 fn run_within(rt: &impl Abort, alloc: Global, size: usize) -> Result<bool, AllocError> {
     let heap = LocalHeap::new(alloc, size)?;
-    let mut reader = FAILED_RESTART.0.as_bytes();
-    let mut out = Vec::new(alloc);
+    let mut reader = WatchedReader::new(FAILED_RESTART.0.as_bytes());
+    let mut out = WatchedWriter::new(Vec::new(alloc));
     let ended = run(&heap, &mut reader, &mut out, &ScriptStarter);
+    let out = out.into_writer();
     let well = ended_well(rt, ended, out.as_slice(), FAILED_RESTART.1.as_bytes());
     assert!(rt; heap.used() == 0);
     Ok(well)
@@ -88,9 +89,10 @@ fn write_reply_leaves_the_text_as_it_was(rt: HostRuntime) -> Result<(), Fail> {
 /// Replays the history text on a heap of this size, which has all its memory back afterwards. Whether the replay ended well.
 fn replay_within(rt: &impl Abort, alloc: Global, size: usize) -> Result<bool, AllocError> {
     let heap = LocalHeap::new(alloc, size)?;
-    let mut reader = HISTORY.0.as_bytes();
-    let mut out = Vec::new(alloc);
+    let mut reader = WatchedReader::new(HISTORY.0.as_bytes());
+    let mut out = WatchedWriter::new(Vec::new(alloc));
     let ended = replay(&heap, &mut reader, &mut out);
+    let out = out.into_writer();
     let well = ended_well(rt, ended, out.as_slice(), HISTORY.1.as_bytes());
     assert!(rt; heap.used() == 0);
     Ok(well)

@@ -1,4 +1,4 @@
-use Rattle.std.proofs.Common.{◌≡◌, ◌+◌, ◌-◌, ◌≤◌, [], length, take, drop, refl, sym, ap, append-nil, arith, inl}
+use Rattle.std.proofs.Common.{◌≡◌, ◌+◌, ◌-◌, ◌≤◌, [], length, take, drop, refl, sym, ap, append-nil, arith}
 use Rattle.std.proofs.KnownBytes.{Keeps-refl}
 use Rattle.std.proofs.lemmas.List.{length-take-le}
 use Rattle.std.proofs.lemmas.Result.{err_from_is_err_and}
@@ -10,40 +10,40 @@ use Rattle.sup_script.proofs.script.answer_pieces.Goals as goal
 
 pub returns-then-is_err-clause-run : goal.returns-then-is_err-clause-run
 returns-then-is_err-clause-run g c =
-    reading_stops g.S.Starter.answer (g.R.Read.remaining c.args.reader.now) (g.R.Read.remaining c.loop-piece.reader) (g.W.Write.contents c.args.writer.now) (g.W.Write.contents c.loop-piece.writer)
-    c.loop-piece.part.items c.loop-piece.session.supervisor c.loop-piece.session.next c.loop-piece.reads.given c.loop-piece.invariant.so_far c.loop-piece.invariant.short
-    (g.R.Read.remaining c.loop-piece.reader) c.fault.result fault.OutOfMemory c.fault.ensures.fault c.fault.ensures.line (Keeps-refl (g.R.Read.remaining c.loop-piece.reader)) refl
+    reading_stops g.S.Starter.answer (g.R.Read.remaining c.args.reader.now.reader) (g.R.Read.remaining c.loop-piece.reader.reader) (g.W.Write.contents c.args.writer.now.writer) (g.W.Write.contents c.loop-piece.writer.writer)
+    c.loop-piece.part.items c.loop-piece.session.supervisor c.loop-piece.session.next c.loop-piece.reader.given c.loop-piece.invariant.so_far c.loop-piece.invariant.short
+    (g.R.Read.remaining c.loop-piece.reader.reader) c.fault.result fault.OutOfMemory c.fault.ensures.fault c.fault.ensures.line (Keeps-refl (g.R.Read.remaining c.loop-piece.reader.reader)) refl
 
 pub returns-in-None-clause-run : goal.returns-in-None-clause-run
 returns-in-None-clause-run g c =
-    reading_stops g.S.Starter.answer (g.R.Read.remaining c.args.reader.now) (g.R.Read.remaining c.loop-piece.reader) (g.W.Write.contents c.args.writer.now) (g.W.Write.contents c.loop-piece.writer)
-    c.loop-piece.part.items c.loop-piece.session.supervisor c.loop-piece.session.next c.loop-piece.reads.given c.loop-piece.invariant.so_far c.loop-piece.invariant.short
-    (g.R.Read.remaining c.read.new.reader) c.fault-in-None.result fault.ReadFault c.fault-in-None.ensures.fault c.fault-in-None.ensures.line c.in-None.ensures.bytes.2 refl
+    reading_stops g.S.Starter.answer (g.R.Read.remaining c.args.reader.now.reader) (g.R.Read.remaining c.loop-piece.reader.reader) (g.W.Write.contents c.args.writer.now.writer) (g.W.Write.contents c.loop-piece.writer.writer)
+    c.loop-piece.part.items c.loop-piece.session.supervisor c.loop-piece.session.next c.loop-piece.reader.given c.loop-piece.invariant.so_far c.loop-piece.invariant.short
+    (g.R.Read.remaining c.read.new.self.reader) c.fault-in-None.result fault.ReadFault c.fault-in-None.ensures.fault c.fault-in-None.ensures.line c.in-None.ensures.bytes.2 refl
 
 pub returns-in_err-answer_lines-clause-run : goal.returns-in_err-answer_lines-clause-run
 returns-in_err-answer_lines-clause-run g c =
     let r = c.loop-piece.invariant.so_far in
     let p = err_from_is_err_and c.from_residual.result c.from_residual.ensures.1 in
     rw (p.1, p.2)
-    (ends_faulty g.S.Starter.answer (g.R.Read.remaining c.args.reader.now) (g.R.Read.remaining c.loop-piece.reader) (g.W.Write.contents c.args.writer.now) (g.W.Write.contents c.loop-piece.writer)
-    c.loop-piece.part.items c.loop-piece.session.supervisor c.loop-piece.session.next c.loop-piece.reads.given c.loop-piece.invariant.so_far c.loop-piece.invariant.short
-    (g.R.Read.remaining c.read.new.reader) (g.W.Write.contents c.answer_lines.new.writer) c.answer_lines.new.self.supervisor c.answer_lines.new.self.next (rw c.if-count-eq0.true at c.in-Some.ensures.bytes.3) (c.in-Some.ensures.bytes.4 c.if-count-eq0.true) _
+    (ends_faulty g.S.Starter.answer (g.R.Read.remaining c.args.reader.now.reader) (g.R.Read.remaining c.loop-piece.reader.reader) (g.W.Write.contents c.args.writer.now.writer) (g.W.Write.contents c.loop-piece.writer.writer)
+    c.loop-piece.part.items c.loop-piece.session.supervisor c.loop-piece.session.next c.loop-piece.reader.given c.loop-piece.invariant.so_far c.loop-piece.invariant.short
+    (g.R.Read.remaining c.read.new.self.reader) (g.W.Write.contents c.answer_lines.new.writer.writer) c.answer_lines.new.self.supervisor c.answer_lines.new.self.next (rw c.if-count-eq0.true at c.in-Some.ensures.bytes.3) (c.in-Some.ensures.bytes.4 c.if-count-eq0.true) _
     (rw (c.as_slice.ensures.value, c.reserve.ensures.items) at c.in_err-answer_lines.ensures.given (lines_of r.done) r.written r.so_far))
 
 pub returns-then-session-eq1-clause-run : goal.returns-then-session-eq1-clause-run
 returns-then-session-eq1-clause-run g c =
     let r = c.loop-piece.invariant.so_far in
-    ends_empty g.S.Starter.answer (g.R.Read.remaining c.args.reader.now) (g.R.Read.remaining c.loop-piece.reader) (g.W.Write.contents c.args.writer.now) (g.W.Write.contents c.loop-piece.writer)
-    c.loop-piece.part.items c.loop-piece.session.supervisor c.loop-piece.session.next c.loop-piece.reads.given c.loop-piece.invariant.so_far c.loop-piece.invariant.short
-    (g.R.Read.remaining c.read.new.reader) (g.W.Write.contents c.answer_lines.new.writer) c.answer_lines.new.self.supervisor c.answer_lines.new.self.next (rw c.if-count-eq0.true at c.in-Some.ensures.bytes.3) (c.in-Some.ensures.bytes.4 c.if-count-eq0.true)
+    ends_empty g.S.Starter.answer (g.R.Read.remaining c.args.reader.now.reader) (g.R.Read.remaining c.loop-piece.reader.reader) (g.W.Write.contents c.args.writer.now.writer) (g.W.Write.contents c.loop-piece.writer.writer)
+    c.loop-piece.part.items c.loop-piece.session.supervisor c.loop-piece.session.next c.loop-piece.reader.given c.loop-piece.invariant.so_far c.loop-piece.invariant.short
+    (g.R.Read.remaining c.read.new.self.reader) (g.W.Write.contents c.answer_lines.new.writer.writer) c.answer_lines.new.self.supervisor c.answer_lines.new.self.next (rw c.if-count-eq0.true at c.in-Some.ensures.bytes.3) (c.in-Some.ensures.bytes.4 c.if-count-eq0.true)
     c.fault-then-session-eq1.result c.fault-then-session-eq1.ensures.fault c.fault-then-session-eq1.ensures.line c.if-session-eq1.true (rw (c.as_slice.ensures.value, c.reserve.ensures.items) at c.in_ok-answer_lines.ensures.given (lines_of r.done) r.written r.so_far)
 
 pub returns-then-count-eq0-clause-run : goal.returns-then-count-eq0-clause-run
 returns-then-count-eq0-clause-run g c =
     let r = c.loop-piece.invariant.so_far in
-    ends_whole g.S.Starter.answer (g.R.Read.remaining c.args.reader.now) (g.R.Read.remaining c.loop-piece.reader) (g.W.Write.contents c.args.writer.now) (g.W.Write.contents c.loop-piece.writer)
-    c.loop-piece.part.items c.loop-piece.session.supervisor c.loop-piece.session.next c.loop-piece.reads.given c.loop-piece.invariant.so_far c.loop-piece.invariant.short
-    (g.R.Read.remaining c.read.new.reader) (g.W.Write.contents c.answer_lines.new.writer) c.answer_lines.new.self.supervisor c.answer_lines.new.self.next (rw c.if-count-eq0.true at c.in-Some.ensures.bytes.3) (c.in-Some.ensures.bytes.4 c.if-count-eq0.true)
+    ends_whole g.S.Starter.answer (g.R.Read.remaining c.args.reader.now.reader) (g.R.Read.remaining c.loop-piece.reader.reader) (g.W.Write.contents c.args.writer.now.writer) (g.W.Write.contents c.loop-piece.writer.writer)
+    c.loop-piece.part.items c.loop-piece.session.supervisor c.loop-piece.session.next c.loop-piece.reader.given c.loop-piece.invariant.so_far c.loop-piece.invariant.short
+    (g.R.Read.remaining c.read.new.self.reader) (g.W.Write.contents c.answer_lines.new.writer.writer) c.answer_lines.new.self.supervisor c.answer_lines.new.self.next (rw c.if-count-eq0.true at c.in-Some.ensures.bytes.3) (c.in-Some.ensures.bytes.4 c.if-count-eq0.true)
     c.if-session-eq1.false (rw (c.as_slice.ensures.value, c.reserve.ensures.items) at c.in_ok-answer_lines.ensures.given (lines_of r.done) r.written r.so_far)
 
 pub returns-in_err-answer_piece-clause-run : goal.returns-in_err-answer_piece-clause-run
@@ -54,12 +54,12 @@ returns-in_err-answer_piece-clause-run g c =
     let room = 16777216 - c.given.result in
     let piece = take room buf in
     let kept : length piece ≡ room = length-take-le room buf (omega (arith, c.if-count-room.true, c.in-Some.ensures.bytes.0)) in
-    let most : c.loop-piece.reads.given + length piece ≡ 16777216 = omega (arith, kept, c.given.ensures, c.loop-piece.invariant.short) in
+    let most : c.loop-piece.reader.given + length piece ≡ 16777216 = omega (arith, kept, c.given.ensures, c.loop-piece.invariant.short) in
     let p = err_from_is_err_and c.from_residual-in_err-answer_piece.result c.from_residual-in_err-answer_piece.ensures.1 in
     rw (p.1, p.2)
-    (piece_stops g.S.Starter.answer (g.R.Read.remaining c.args.reader.now) (g.R.Read.remaining c.loop-piece.reader) (g.W.Write.contents c.args.writer.now) (g.W.Write.contents c.loop-piece.writer)
-    c.loop-piece.part.items c.loop-piece.session.supervisor c.loop-piece.session.next c.loop-piece.reads.given c.loop-piece.invariant.so_far c.loop-piece.invariant.short
-    (g.R.Read.remaining c.read.new.reader) (g.W.Write.contents c.answer_piece.new.writer) c.answer_piece.new.self.supervisor c.answer_piece.new.self.next piece c.answer_piece.new.part.items _ (take count buf) (drop room (take count buf))
+    (piece_stops g.S.Starter.answer (g.R.Read.remaining c.args.reader.now.reader) (g.R.Read.remaining c.loop-piece.reader.reader) (g.W.Write.contents c.args.writer.now.writer) (g.W.Write.contents c.loop-piece.writer.writer)
+    c.loop-piece.part.items c.loop-piece.session.supervisor c.loop-piece.session.next c.loop-piece.reader.given c.loop-piece.invariant.so_far c.loop-piece.invariant.short
+    (g.R.Read.remaining c.read.new.self.reader) (g.W.Write.contents c.answer_piece.new.writer.writer) c.answer_piece.new.self.supervisor c.answer_piece.new.self.next piece c.answer_piece.new.part.items _ (take count buf) (drop room (take count buf))
     (rw c.reserve.ensures.items at c.in_err-answer_piece.ensures.given (lines_of r.done) r.written r.so_far)
     (cut_parts buf count room c.if-count-room.true) (omega (arith, most)) (λ _. most) c.in-Some.ensures.bytes.3)
 
@@ -71,10 +71,10 @@ returns-then-count-room-clause-run g c =
     let room = 16777216 - c.given.result in
     let piece = take room buf in
     let kept : length piece ≡ room = length-take-le room buf (omega (arith, c.if-count-room.true, c.in-Some.ensures.bytes.0)) in
-    let most : c.loop-piece.reads.given + length piece ≡ 16777216 = omega (arith, kept, c.given.ensures, c.loop-piece.invariant.short) in
-    too_long g.S.Starter.answer (g.R.Read.remaining c.args.reader.now) (g.R.Read.remaining c.loop-piece.reader) (g.W.Write.contents c.args.writer.now) (g.W.Write.contents c.loop-piece.writer)
-    c.loop-piece.part.items c.loop-piece.session.supervisor c.loop-piece.session.next c.loop-piece.reads.given c.loop-piece.invariant.so_far c.loop-piece.invariant.short
-    (g.R.Read.remaining c.read.new.reader) (g.W.Write.contents c.answer_piece.new.writer) c.answer_piece.new.self.supervisor c.answer_piece.new.self.next piece c.answer_piece.new.part.items
+    let most : c.loop-piece.reader.given + length piece ≡ 16777216 = omega (arith, kept, c.given.ensures, c.loop-piece.invariant.short) in
+    too_long g.S.Starter.answer (g.R.Read.remaining c.args.reader.now.reader) (g.R.Read.remaining c.loop-piece.reader.reader) (g.W.Write.contents c.args.writer.now.writer) (g.W.Write.contents c.loop-piece.writer.writer)
+    c.loop-piece.part.items c.loop-piece.session.supervisor c.loop-piece.session.next c.loop-piece.reader.given c.loop-piece.invariant.so_far c.loop-piece.invariant.short
+    (g.R.Read.remaining c.read.new.self.reader) (g.W.Write.contents c.answer_piece.new.writer.writer) c.answer_piece.new.self.supervisor c.answer_piece.new.self.next piece c.answer_piece.new.part.items
     (rw c.reserve.ensures.items at c.in_ok-answer_piece.ensures.given (lines_of r.done) r.written r.so_far)
     c.fault-then-count-room.result (take count buf) (drop room (take count buf)) c.fault-then-count-room.ensures.fault c.fault-then-count-room.ensures.line
     (cut_parts buf count room c.if-count-room.true) (cut_past buf count room c.if-count-room.true c.in-Some.ensures.bytes.0) most c.in-Some.ensures.bytes.3
@@ -86,12 +86,12 @@ returns-in_err-answer_piece-2-clause-run g c =
     let count = c.in-Some.count in
     let piece = take count buf in
     let kept : length piece ≡ count = length-take-le count buf c.in-Some.ensures.bytes.0 in
-    let most : c.loop-piece.reads.given + length piece ≤ 16777216 = omega (arith, kept, c.given.ensures, c.loop-piece.invariant.short, c.if-count-room.false) in
+    let most : c.loop-piece.reader.given + length piece ≤ 16777216 = omega (arith, kept, c.given.ensures, c.loop-piece.invariant.short, c.if-count-room.false) in
     let p = err_from_is_err_and c.from_residual-in_err-answer_piece-2.result c.from_residual-in_err-answer_piece-2.ensures.1 in
     rw (p.1, p.2)
-    (piece_stops g.S.Starter.answer (g.R.Read.remaining c.args.reader.now) (g.R.Read.remaining c.loop-piece.reader) (g.W.Write.contents c.args.writer.now) (g.W.Write.contents c.loop-piece.writer)
-    c.loop-piece.part.items c.loop-piece.session.supervisor c.loop-piece.session.next c.loop-piece.reads.given c.loop-piece.invariant.so_far c.loop-piece.invariant.short
-    (g.R.Read.remaining c.read.new.reader) (g.W.Write.contents c.answer_piece-in-loop-piece.new.writer) c.answer_piece-in-loop-piece.new.self.supervisor c.answer_piece-in-loop-piece.new.self.next piece c.answer_piece-in-loop-piece.new.part.items _ piece []
+    (piece_stops g.S.Starter.answer (g.R.Read.remaining c.args.reader.now.reader) (g.R.Read.remaining c.loop-piece.reader.reader) (g.W.Write.contents c.args.writer.now.writer) (g.W.Write.contents c.loop-piece.writer.writer)
+    c.loop-piece.part.items c.loop-piece.session.supervisor c.loop-piece.session.next c.loop-piece.reader.given c.loop-piece.invariant.so_far c.loop-piece.invariant.short
+    (g.R.Read.remaining c.read.new.self.reader) (g.W.Write.contents c.answer_piece-in-loop-piece.new.writer.writer) c.answer_piece-in-loop-piece.new.self.supervisor c.answer_piece-in-loop-piece.new.self.next piece c.answer_piece-in-loop-piece.new.part.items _ piece []
     (rw c.reserve.ensures.items at c.in_err-answer_piece-2.ensures.given (lines_of r.done) r.written r.so_far)
     (sym (append-nil piece)) most (λ some. absurd (omega arith)) c.in-Some.ensures.bytes.3)
 
@@ -102,15 +102,15 @@ loop-piece-preserved g c =
     let count = c.in-Some.count in
     let piece = take count buf in
     let kept : length piece ≡ count = length-take-le count buf c.in-Some.ensures.bytes.0 in
-    let total : c.read.new.self.given ≡ c.loop-piece.reads.given + length piece = omega (arith, kept, c.in-Some.ensures.bytes.2) in
+    let total : c.read.new.self.given ≡ c.loop-piece.reader.given + length piece = omega (arith, kept, c.in-Some.ensures.bytes.2) in
     let same : length c.reserve.new.self.items ≡ length c.loop-piece.part.items = ap length c.reserve.ensures.items in
     record {
-      so_far = rw total (read_more g.S.Starter.answer (g.R.Read.remaining c.args.reader.now) (g.R.Read.remaining c.loop-piece.reader) (g.W.Write.contents c.args.writer.now) (g.W.Write.contents c.loop-piece.writer)
-          c.loop-piece.part.items c.loop-piece.session.supervisor c.loop-piece.session.next c.loop-piece.reads.given c.loop-piece.invariant.so_far c.loop-piece.invariant.short
-          (g.R.Read.remaining c.read.new.reader) (g.W.Write.contents c.answer_piece-in-loop-piece.new.writer) c.answer_piece-in-loop-piece.new.self.supervisor c.answer_piece-in-loop-piece.new.self.next piece c.answer_piece-in-loop-piece.new.part.items
+      so_far = rw total (read_more g.S.Starter.answer (g.R.Read.remaining c.args.reader.now.reader) (g.R.Read.remaining c.loop-piece.reader.reader) (g.W.Write.contents c.args.writer.now.writer) (g.W.Write.contents c.loop-piece.writer.writer)
+          c.loop-piece.part.items c.loop-piece.session.supervisor c.loop-piece.session.next c.loop-piece.reader.given c.loop-piece.invariant.so_far c.loop-piece.invariant.short
+          (g.R.Read.remaining c.read.new.self.reader) (g.W.Write.contents c.answer_piece-in-loop-piece.new.writer.writer) c.answer_piece-in-loop-piece.new.self.supervisor c.answer_piece-in-loop-piece.new.self.next piece c.answer_piece-in-loop-piece.new.part.items
           (rw c.reserve.ensures.items at c.in_ok-answer_piece-2.ensures.given (lines_of r.done) r.written r.so_far) c.in-Some.ensures.bytes.3);
       short = omega (arith, total, kept, c.given.ensures, c.loop-piece.invariant.short, c.if-count-room.false);
-      calls = calls_more _ _ _ c.calls.ensures c.loop-piece-test.true c.in-Some.ensures.calls;
+      calls = omega (arith, c.loop-piece.invariant.calls, c.in-Some.ensures.calls, c.in-Some.ensures.bytes.2, c.if-count-eq0.false);
       first = c.in_ok-answer_piece-2.ensures.first;
       lines = omega (arith, total, same, c.in_ok-answer_piece-2.ensures.lines, c.loop-piece.invariant.lines);
       steps = omega (arith, total, same, c.in_ok-answer_piece-2.ensures.steps, c.loop-piece.invariant.steps);
@@ -118,22 +118,16 @@ loop-piece-preserved g c =
       ends = c.in_ok-answer_piece-2.ensures.ends;
     }
 
-pub returns-clause-run : goal.returns-clause-run
-returns-clause-run g c =
-    reading_stops g.S.Starter.answer (g.R.Read.remaining c.args.reader.now) (g.R.Read.remaining c.loop-piece.reader) (g.W.Write.contents c.args.writer.now) (g.W.Write.contents c.loop-piece.writer)
-    c.loop-piece.part.items c.loop-piece.session.supervisor c.loop-piece.session.next c.loop-piece.reads.given c.loop-piece.invariant.so_far c.loop-piece.invariant.short
-    (g.R.Read.remaining c.loop-piece.reader) c.fault-2.result fault.ReadFault c.fault-2.ensures.fault c.fault-2.ensures.line (Keeps-refl (g.R.Read.remaining c.loop-piece.reader)) refl
-
 pub returns-then-is_err-clause-cause : goal.returns-then-is_err-clause-cause
 returns-then-is_err-clause-cause g c = rw c.fault.ensures.fault tt
 
 pub returns-in-None-clause-cause : goal.returns-in-None-clause-cause
-returns-in-None-clause-cause g c = rw c.fault-in-None.ensures.fault (inl c.in-None.ensures.bytes.0)
+returns-in-None-clause-cause g c = rw c.fault-in-None.ensures.fault c.in-None.ensures.bytes.0
 
 pub returns-in_err-answer_lines-clause-cause : goal.returns-in_err-answer_lines-clause-cause
 returns-in_err-answer_lines-clause-cause g c =
     let p = err_from_is_err_and c.from_residual.result c.from_residual.ensures.1 in
-    rw (p.1, p.2) (lines_cause c.read.new.self c.answer_lines.new.writes _ c.in_err-answer_lines.ensures.cause)
+    rw (p.1, p.2) (lines_cause c.read.new.self.has_failed c.read.new.self.given c.answer_lines.new.writer.has_refused _ c.in_err-answer_lines.ensures.cause)
 
 pub returns-then-session-eq1-clause-cause : goal.returns-then-session-eq1-clause-cause
 returns-then-session-eq1-clause-cause g c = rw c.fault-then-session-eq1.ensures.fault tt
@@ -141,36 +135,33 @@ returns-then-session-eq1-clause-cause g c = rw c.fault-then-session-eq1.ensures.
 pub returns-in_err-answer_piece-clause-cause : goal.returns-in_err-answer_piece-clause-cause
 returns-in_err-answer_piece-clause-cause g c =
     let p = err_from_is_err_and c.from_residual-in_err-answer_piece.result c.from_residual-in_err-answer_piece.ensures.1 in
-    rw (p.1, p.2) (lines_cause c.read.new.self c.answer_piece.new.writes _ c.in_err-answer_piece.ensures.cause)
+    rw (p.1, p.2) (lines_cause c.read.new.self.has_failed c.read.new.self.given c.answer_piece.new.writer.has_refused _ c.in_err-answer_piece.ensures.cause)
 
 pub returns-in_err-answer_piece-2-clause-cause : goal.returns-in_err-answer_piece-2-clause-cause
 returns-in_err-answer_piece-2-clause-cause g c =
     let p = err_from_is_err_and c.from_residual-in_err-answer_piece-2.result c.from_residual-in_err-answer_piece-2.ensures.1 in
-    rw (p.1, p.2) (lines_cause c.read.new.self c.answer_piece-in-loop-piece.new.writes _ c.in_err-answer_piece-2.ensures.cause)
+    rw (p.1, p.2) (lines_cause c.read.new.self.has_failed c.read.new.self.given c.answer_piece-in-loop-piece.new.writer.has_refused _ c.in_err-answer_piece-2.ensures.cause)
 
 pub returns-in-None-clause-reads : goal.returns-in-None-clause-reads
-returns-in-None-clause-reads g c = calls_more _ _ _ c.calls.ensures c.loop-piece-test.true c.in-None.ensures.calls
+returns-in-None-clause-reads g c = calls_more _ _ _ c.loop-piece.invariant.calls c.loop-piece.invariant.short c.in-None.ensures.calls
 
 pub returns-in_err-answer_lines-clause-reads : goal.returns-in_err-answer_lines-clause-reads
-returns-in_err-answer_lines-clause-reads g c = calls_more _ _ _ c.calls.ensures c.loop-piece-test.true c.in-Some.ensures.calls
+returns-in_err-answer_lines-clause-reads g c = calls_more _ _ _ c.loop-piece.invariant.calls c.loop-piece.invariant.short c.in-Some.ensures.calls
 
 pub returns-then-session-eq1-clause-reads : goal.returns-then-session-eq1-clause-reads
-returns-then-session-eq1-clause-reads g c = calls_more _ _ _ c.calls.ensures c.loop-piece-test.true c.in-Some.ensures.calls
+returns-then-session-eq1-clause-reads g c = calls_more _ _ _ c.loop-piece.invariant.calls c.loop-piece.invariant.short c.in-Some.ensures.calls
 
 pub returns-then-count-eq0-clause-reads : goal.returns-then-count-eq0-clause-reads
-returns-then-count-eq0-clause-reads g c = calls_more _ _ _ c.calls.ensures c.loop-piece-test.true c.in-Some.ensures.calls
+returns-then-count-eq0-clause-reads g c = calls_more _ _ _ c.loop-piece.invariant.calls c.loop-piece.invariant.short c.in-Some.ensures.calls
 
 pub returns-in_err-answer_piece-clause-reads : goal.returns-in_err-answer_piece-clause-reads
-returns-in_err-answer_piece-clause-reads g c = calls_more _ _ _ c.calls.ensures c.loop-piece-test.true c.in-Some.ensures.calls
+returns-in_err-answer_piece-clause-reads g c = calls_more _ _ _ c.loop-piece.invariant.calls c.loop-piece.invariant.short c.in-Some.ensures.calls
 
 pub returns-then-count-room-clause-reads : goal.returns-then-count-room-clause-reads
-returns-then-count-room-clause-reads g c = calls_more _ _ _ c.calls.ensures c.loop-piece-test.true c.in-Some.ensures.calls
+returns-then-count-room-clause-reads g c = calls_more _ _ _ c.loop-piece.invariant.calls c.loop-piece.invariant.short c.in-Some.ensures.calls
 
 pub returns-in_err-answer_piece-2-clause-reads : goal.returns-in_err-answer_piece-2-clause-reads
-returns-in_err-answer_piece-2-clause-reads g c = calls_more _ _ _ c.calls.ensures c.loop-piece-test.true c.in-Some.ensures.calls
+returns-in_err-answer_piece-2-clause-reads g c = calls_more _ _ _ c.loop-piece.invariant.calls c.loop-piece.invariant.short c.in-Some.ensures.calls
 
 pub returns-then-is_err-clause-reads : goal.returns-then-is_err-clause-reads
-returns-then-is_err-clause-reads g c = c.loop-piece.invariant.calls
-
-pub returns-clause-reads : goal.returns-clause-reads
-returns-clause-reads g c = c.loop-piece.invariant.calls
+returns-then-is_err-clause-reads g c = omega (arith, c.loop-piece.invariant.calls, c.loop-piece.invariant.short)

@@ -5,15 +5,15 @@ use Rattle.sup_script.proofs.script.answer_pieces.Given as goal
 
 abbrev pub invariant-loop-piece : goal.invariant-loop-piece
 invariant-loop-piece g l = record {
-  so_far : IsReadTo g.S.Starter.answer (g.R.Read.remaining l.initial.reader) (g.R.Read.remaining l.reader) (g.W.Write.contents l.initial.writer) (g.W.Write.contents l.writer) l.part.items l.session.supervisor l.session.next l.reads.given;
-  short : l.reads.given ≤ 16777216;
-  calls : l.reads.calls ≤ 33554432;
+  so_far : IsReadTo g.S.Starter.answer (g.R.Read.remaining l.initial.reader.reader) (g.R.Read.remaining l.reader.reader) (g.W.Write.contents l.initial.writer.writer) (g.W.Write.contents l.writer.writer) l.part.items l.session.supervisor l.session.next l.reader.given;
+  short : l.reader.given ≤ 16777216;
+  calls : l.reader.calls ≤ l.reader.given;
   first : 1 ≤ l.session.next;
-  lines : l.session.next + length l.part.items ≤ l.reads.given + 1;
-  steps : 2 ^ 62 + length l.part.items ≤ steps_left l.session.supervisor + l.reads.given;
+  lines : l.session.next + length l.part.items ≤ l.reader.given + 1;
+  steps : 2 ^ 62 + length l.part.items ≤ steps_left l.session.supervisor + l.reader.given;
   bytes : l.session.outbox.bytes.items ≡ [];
   ends : l.session.outbox.ends.items ≡ [];
 }
 
 abbrev pub decreases-loop-piece : goal.decreases-loop-piece
-decreases-loop-piece g l = 33554432 - l.reads.calls
+decreases-loop-piece g l = 16777216 - l.reader.given

@@ -1,7 +1,7 @@
 use Rattle.std.proofs.Common.{◌-◌, length, drop, arith}
 use Rattle.std.proofs.lemmas.List.{take_all, length-drop}
 use Rattle.sup_script.proofs.Sending.{taken_more}
-use Rattle.sup_script.proofs.send.send.Goals as goal
+use Rattle.sup_script.proofs.watch.WatchedWriter.send.Goals as goal
 
 pub loop-taken-preserved : goal.loop-taken-preserved
 loop-taken-preserved g c =

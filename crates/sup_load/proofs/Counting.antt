@@ -1,0 +1,29 @@
+-- The sums of a report are counts of updates.
+use Rattle.std.proofs.Common.{◌≡◌, Result, Ok, Err, ap, ◌∙◌}
+use Rattle.std.specs.Prelude.{IfOk}
+use Rattle.sup_types.specs.declared.template.Template.{Template}
+use Rattle.sup_desk.specs.declared.name.Name.{Ghosts}
+use Rattle.sup_crew.specs.declared.report.Report.{Report}
+use Rattle.sup_crew.specs.declared.tally.Tally.{Tally}
+use Rattle.sup_crew.specs.Leads.{front_of}
+use Rattle.sup_crew.specs.Reports.{counts_of_run, calls_of_run}
+use Rattle.sup_crew.specs.Tallies.{tally_of}
+use Rattle.sup_load.specs.declared.fault.StopFault.{StopFault}
+use Rattle.sup_load.specs.declared.load.Sums.{Sums}
+use Rattle.sup_load.specs.Reports.{AreCounts}
+
+pub counted : {N : Type 0} {G : Ghosts N} (template : Template) (r : Report N G) (s : Sums) → counts_of_run r ≡ tally_of (calls_of_run template r)
+    → s.made ≡ r.made → s.exits ≡ r.exits → s.strays ≡ r.strays → s.restarts ≡ r.restarts → s.given_up ≡ r.given_up → AreCounts template s
+counted template r s counts a b c d e = record {
+  history = front_of r.ticket;
+  driver = r.driver;
+  made = a ∙ ap (λ (t : Tally). t.made) counts;
+  exits = b ∙ ap (λ (t : Tally). t.exits) counts;
+  strays = c ∙ ap (λ (t : Tally). t.strays) counts;
+  restarts = d ∙ ap (λ (t : Tally). t.restarts) counts;
+  given_up = e ∙ ap (λ (t : Tally). t.given_up) counts;
+}
+
+pub of_template : (template : Template) (r : Result Sums StopFault) → IfOk r (λ s. AreCounts template s) → IfOk r (λ s. (template : Template) × AreCounts template s)
+of_template template (Ok s) h = (template, h)
+of_template template (Err f) h = tt
