@@ -1,5 +1,5 @@
 -- The children that updates made stand in each front that begins with theirs.
-use Rattle.std.proofs.Common.{◌≡◌, ℕ, ◌+◌, ◌≤◌, Bool, true, false, cond, List, [], ◌∷◌, ◌++◌, Option, Some, None, refl, ap, sym, ◌∙◌, subst, arith, append_assoc, append-nil}
+use Rattle.std.proofs.Common.{ℕ, ◌+◌, ◌≤◌, Bool, true, false, cond, List, [], ◌∷◌, ◌++◌, Option, Some, None, ap, sym, ◌∙◌, subst, arith, append_assoc, append-nil}
 use Rattle.std.specs.Prelude.{IfSome}
 use mathlib.Core.List.{IsPrefix}
 use Rattle.logbook.specs.Pages.{Book}
@@ -11,11 +11,11 @@ use Rattle.sup_types.specs.declared.history.Operation.TheVariants.{Exit}
 use Rattle.sup_types.specs.declared.history.Entry.{Entry}
 use Rattle.sup_types.specs.declared.history.Reply.{Reply}
 use Rattle.sup_types.specs.declared.history.Reply.TheVariants.{Started, Restarted}
-use Rattle.sup_core.specs.Account.{Item, account, made_count, item_of, reply_after}
+use Rattle.sup_core.specs.Account.{Item, account, made_count, item_of}
 use Rattle.sup_core.specs.Changes.{makes_child}
 use Rattle.sup_core.proofs.HistoryLemmas.{account-push, made_count-push}
 use Rattle.sup_log.specs.Tokens.{Told}
-use Rattle.sup_desk.specs.Knowledge.{Knowledge, next_entry, IsUpdated}
+use Rattle.sup_desk.specs.Knowledge.{Knowledge, IsUpdated}
 use Rattle.sup_desk.specs.Batches.{IsApplied}
 use Rattle.sup_inbox.specs.declared.note.Note.{Note}
 use Rattle.sup_crew.specs.Births.{IsBorn, IsBornBy, AreBornBy}

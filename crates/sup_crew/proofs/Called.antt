@@ -1,5 +1,5 @@
 -- The calls of a handle, as its front grows.
-use Rattle.std.proofs.Common.{◌≡◌, ◌≢◌, ℕ, zero, suc, ◌<◌, Bool, true, false, cond, ◌==◌, eq-eqb, ne_eqb, ◌+◌, List, [], ◌∷◌, ◌++◌, length, length-append, map, fold, refl, ap, sym, ◌∙◌, subst, arith, append_assoc, append-nil}
+use Rattle.std.proofs.Common.{◌≡◌, ◌≢◌, ℕ, zero, suc, Bool, true, false, cond, ◌==◌, eq-eqb, ne_eqb, ◌+◌, List, [], ◌∷◌, ◌++◌, length, length-append, map, fold, refl, ap, sym, ◌∙◌, subst, arith, append_assoc, append-nil}
 use Rattle.std.specs.Prelude.{filter}
 use Rattle.std.proofs.lemmas.List.Elements.{filter-append, All-append}
 use Rattle.std.specs.List.{All}

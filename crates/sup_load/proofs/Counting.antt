@@ -1,22 +1,31 @@
 -- The sums of a report are counts of updates.
-use Rattle.std.proofs.Common.{◌≡◌, Result, Ok, Err, ap, ◌∙◌}
+use Rattle.std.proofs.Common.{◌≡◌, List, [], length, drop, Option, Some, None, Result, Ok, Err, refl, ap, ◌∙◌}
 use Rattle.std.specs.Prelude.{IfOk}
 use Rattle.sup_types.specs.declared.template.Template.{Template}
+use Rattle.sup_types.specs.declared.history.Entry.{Entry}
+use Rattle.sup_log.specs.Tokens.{Told}
+use Rattle.sup_desk.specs.Knowledge.{Knowledge}
 use Rattle.sup_desk.specs.declared.name.Name.{Ghosts}
 use Rattle.sup_crew.specs.declared.report.Report.{Report}
 use Rattle.sup_crew.specs.declared.tally.Tally.{Tally}
-use Rattle.sup_crew.specs.Leads.{front_of}
+use Rattle.sup_crew.specs.Calls.{calls_of}
+use Rattle.sup_crew.specs.Leads.{front_of, calls_since}
 use Rattle.sup_crew.specs.Reports.{counts_of_run, calls_of_run}
 use Rattle.sup_crew.specs.Tallies.{tally_of}
 use Rattle.sup_load.specs.declared.fault.StopFault.{StopFault}
 use Rattle.sup_load.specs.declared.load.Sums.{Sums}
 use Rattle.sup_load.specs.Reports.{AreCounts}
 
-pub counted : {N : Type 0} {G : Ghosts N} (template : Template) (r : Report N G) (s : Sums) → counts_of_run r ≡ tally_of (calls_of_run template r)
+-- a handle that made no call before has no others
+own_calls : (template : Template) (before : Knowledge) (ticket : Option Told) → before.calls ≡ [] → calls_since template before ticket ≡ calls_of template (front_of ticket) before.number
+own_calls template before None none = refl
+own_calls template before (Some told) none = ap (λ (l : List Entry). drop (length l) (calls_of template told.front before.number)) none
+
+pub counted : {N : Type 0} {G : Ghosts N} (template : Template) (before : Knowledge) (r : Report N G) (s : Sums) → before.calls ≡ [] → counts_of_run r ≡ tally_of (calls_of_run template before r)
     → s.made ≡ r.made → s.exits ≡ r.exits → s.strays ≡ r.strays → s.restarts ≡ r.restarts → s.given_up ≡ r.given_up → AreCounts template s
-counted template r s counts a b c d e = record {
+counted template before r s none all a b c d e = let counts : counts_of_run r ≡ tally_of (calls_of template (front_of r.ticket) before.number) = all ∙ ap tally_of (own_calls template before r.ticket none) in record {
   history = front_of r.ticket;
-  driver = r.driver;
+  driver = before.number;
   made = a ∙ ap (λ (t : Tally). t.made) counts;
   exits = b ∙ ap (λ (t : Tally). t.exits) counts;
   strays = c ∙ ap (λ (t : Tally). t.strays) counts;

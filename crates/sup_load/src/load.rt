@@ -1,12 +1,12 @@
 //! The load: a crew over a desk, and readers that ask meanwhile.
 
-ghost use Rattle.std.specs.Prelude.{◌≡◌, ◌≤◌, List, Err, IfErr, IfOk, MatchOption, OnOk, true, vec_len};
+ghost use Rattle.std.specs.Prelude.{◌≡◌, ◌≤◌, ℕ, List, Err, IfErr, IfOk, MatchOption, OnOk, true, vec_len};
 ghost use Rattle.std.specs.Io.KnownBytes.{Appends};
 ghost use Rattle.sup_load.specs.Loads.{fault_behind, IsWithin};
 ghost use Rattle.sup_load.specs.Lines.{load_lines, named};
 ghost use Rattle.sup_load.specs.Reports.{AreCounts, IsTold, IsLoaded};
 ghost use Rattle.sup_types.specs.declared.template.Template.{Template as ATemplate};
-ghost use Rattle.sup_crew.specs.Reports.{IsRun};
+ghost use Rattle.sup_crew.specs.Reports.{IsRunOfItsOwn};
 ghost use Rattle.sup_types.specs.declared.reason.Reason.TheVariants.{Normal};
 ghost use Rattle.sup_types.specs.declared.text.Text.{Text as AText};
 ghost use Rattle.sup_load.specs.declared.fault.LoadFault.TheVariants.{WriteFault};
@@ -284,7 +284,7 @@ fn join_readers<R: Threads>(
 fn sums_of<N: Name>(report: &Report<N>, asked: (u64, Result<(), Gone>)) -> Sums
     ensures made { (result.made ≡ report.now.made) × (result.exits ≡ report.now.exits) × (result.strays ≡ report.now.strays) }
     ensures ended { (result.restarts ≡ report.now.restarts) × (result.given_up ≡ report.now.given_up) }
-    ensures sums { (plan : List AText) → IsRun (λ number arg reason. reason ≡ Normal) N.template N.press plan report.now →
+    ensures sums { (moment : ℕ) (plan : List AText) → IsRunOfItsOwn (λ number arg reason. reason ≡ Normal) N.template N.press moment plan report.now →
         AreCounts N.template result }
     ensures fault { result.fault ≡ fault_behind report.now.fault asked.1 }
     ensures kept { (result.left ≡ vec_len report.now.left) × (result.held ≡ vec_len report.now.held) × (result.reads ≡ asked.0) }

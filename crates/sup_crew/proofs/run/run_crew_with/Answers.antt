@@ -1,4 +1,4 @@
-use Rattle.std.proofs.Common.{ℕ, List, sym, subst}
+use Rattle.std.proofs.Common.{ℕ, List, subst}
 use Rattle.sup_types.specs.declared.text.Text.{Text}
 use Rattle.sup_crew.specs.Leads.{run_of}
 use Rattle.sup_crew.specs.Runs.{IsJoined}

@@ -1,5 +1,5 @@
 -- One look decides.
-use Rattle.std.proofs.Common.{ℕ, ◌+◌, ◌≤◌, ◌-◌, ◌∙◌, ap, sym, max, length, arith}
+use Rattle.std.proofs.Common.{◌+◌, ◌≤◌, ◌-◌, ◌∙◌, ap, sym, max, length, arith}
 use Rattle.std.specs.Prelude.{not, slice_get}
 use Rattle.sup_window.specs.Attempts.{greatest, is_borne, counts_at, Recent}
 use Rattle.sup_window.proofs.SeenLemmas.{is_borne-oldest}

@@ -2,4 +2,4 @@
 use Rattle.sup_load.proofs.load.fn.beside_readers.scope.Goals as goal
 
 pub returns : goal.returns
-returns g c = c.sums_of.ensures.sums _ c.in_ok-report.ensures
+returns g c = c.sums_of.ensures.sums _ _ c.in_ok-report.ensures
