@@ -4,20 +4,18 @@ use Rattle.std.specs.Prelude.{◌==◌, nat_lt, ◌&&◌}
 use Rattle.std.proofs.lemmas.Bool.{lt-ltb, le-ltb, eqb-true}
 use native.Mathlib.Decide.{dec_le}
 use mathlib.Core.Logic.{dite}
-use Rattle.sup_types.specs.declared.template.Template.{Template}
-use Rattle.sup_types.specs.declared.history.Entry.{Entry}
 use Rattle.sup_types.specs.declared.history.Operation.{Operation}
 use Rattle.sup_types.specs.declared.history.Operation.TheVariants.{Start, Exit, Retry, Terminate, Stop}
 use Rattle.sup_types.specs.declared.history.Reply.{Reply}
 use Rattle.sup_types.specs.declared.history.Reply.TheVariants.{Started, Restarted}
-use Rattle.sup_core.specs.Account.{Item, account, argument_of}
+use Rattle.sup_core.specs.Account.{Item, argument_of}
 use Rattle.sup_inbox.specs.declared.note.Note.{Note}
 use Rattle.sup_crew.specs.declared.job.Child.{Child}
 use Rattle.sup_crew.specs.Jobs.{weigh}
 use Rattle.sup_crew.specs.Work.{ended, ended_of}
-use Rattle.sup_crew.specs.Calls.{Call, calls_of, child_made, children_made, exit_of, exits_in, exits, job_made, notes_after, jobs_made, IsDriven, AreDriven}
+use Rattle.sup_crew.specs.Calls.{Call, child_made, children_made, exit_of, exits_in, exits, job_made, notes_after, jobs_made, IsDriven, AreDriven}
 use Rattle.sup_crew.proofs.Moves.{weigh-append}
-use Rattle.sup_crew.proofs.Right.{Names, IsRight, AreRightCalls, calls-right}
+use Rattle.sup_crew.proofs.Right.{Names, IsRight, AreRightCalls}
 
 -- whether two texts are the same
 abbrev same : List ℕ → List ℕ → Bool
@@ -148,22 +146,16 @@ all-same items (c ∷ cs) notes right driven told z =
     let b = all-same items cs (notes_after c.operation notes) right.2 driven.1 parts.1 (λ m. none-after (bad items m) c.operation notes (z m)) in
     λ i. a i ++ b i
 
-module _ (template : Template) (history : List Entry) (number : ℕ) (entered : List Note) (others : (Child → ℕ) → ℕ) where
-  abbrev items : List Item
-  items = account template history
-
-  abbrev cs : List Call
-  cs = calls_of template history number
-
+module _ (items : List Item) (cs : List Call) (right : AreRightCalls items cs) (entered : List Note) (others : (Child → ℕ) → ℕ) where
   below : AreDriven cs → exits_in cs ≡ exits entered → ((h : Child → ℕ) → weigh h (jobs_made cs entered) ≡ weigh h (ended entered) + others h) → (m : ℕ) → weigh (bad items m) (jobs_made cs entered) ≡ 0
   below driven told account zero = none-below items (jobs_made cs entered)
   below driven told account (suc m) =
       let before = below driven told account m in
       let all = account (bad items m) in
-      next-right items m cs entered (calls-right template history number) told (omega (arith, before, all))
+      next-right items m cs entered right told (omega (arith, before, all))
 
   -- where each job is that of a note that was entered or another, each job has the argument that the account gives its child
   pub agrees : AreDriven cs → exits_in cs ≡ exits entered → ((h : Child → ℕ) → weigh h (jobs_made cs entered) ≡ weigh h (ended entered) + others h) → jobs_made cs entered ≡ children_made items cs
   agrees driven told account =
-      all-same items cs entered (calls-right template history number) driven told
+      all-same items cs entered right driven told
       (λ m. let before = below driven told account m in let all = account (bad items m) in omega (arith, before, all))

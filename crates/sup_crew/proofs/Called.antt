@@ -1,7 +1,8 @@
 -- The calls of a handle, as its front grows.
-use Rattle.std.proofs.Common.{◌≡◌, ◌≢◌, ℕ, Bool, cond, ◌==◌, eq-eqb, ne_eqb, ◌+◌, List, [], ◌∷◌, ◌++◌, length, length-append, map, fold, refl, ap, sym, ◌∙◌, subst, arith, append_assoc, append-nil}
+use Rattle.std.proofs.Common.{◌≡◌, ◌≢◌, ℕ, zero, suc, ◌<◌, Bool, true, false, cond, ◌==◌, eq-eqb, ne_eqb, ◌+◌, List, [], ◌∷◌, ◌++◌, length, length-append, map, fold, refl, ap, sym, ◌∙◌, subst, arith, append_assoc, append-nil}
 use Rattle.std.specs.Prelude.{filter}
-use Rattle.std.proofs.lemmas.List.Elements.{filter-append}
+use Rattle.std.proofs.lemmas.List.Elements.{filter-append, All-append}
+use Rattle.std.specs.List.{All}
 use native.Mathlib.Decide.{ℕ_discrete}
 use mathlib.Core.Logic.{dite}
 use mathlib.Core.List.{IsPrefix}
@@ -102,22 +103,44 @@ module _ (answer : Text → ℕ → Answer) (template : Template) (front : List 
   unfolding batch_of
   batch_of-called operations = called-along [] (record { entries = []; replies = [] }) operations (record { len = refl; calls = ap (λ l. calls_of template l number) (append-nil front) ∙ sym (append-nil (calls_of template front number)) })
 
-trans : (xs ys zs : List Entry) → IsPrefix xs ys → IsPrefix ys zs → IsPrefix xs zs
+pub trans : (xs ys zs : List Entry) → IsPrefix xs ys → IsPrefix ys zs → IsPrefix xs zs
 trans xs ys zs p q = (p.0 ++ q.0, sym (append_assoc xs p.0 q.0) ∙ ap (λ l. l ++ q.0) p.1 ∙ q.1)
 
--- what a handle entered together are calls with their replies, after those that stand in a front that it had seen
-module _ (answer : Text → ℕ → Answer) (template : Template) (before after : Knowledge) (told : List Entry) (seen : IsPrefix told before.front) (whole : entries_of told before.number ≡ before.calls) where
-  calls-before : (front : List Entry) → IsPrefix before.front front → entries_of front before.number ≡ before.calls → calls_of template front before.number ≡ calls_of template told before.number
-  calls-before front more own = calls-stay template before.number told front (trans told before.front front seen more) (own ∙ sym whole)
+-- a handle has as many calls in a front as it has entries
+calls_more : (template : Template) (number : ℕ) (items : List Item) (history : List Entry)
+    → length (filter (λ (i : Item). i.entry.handle == number) (fold (λ items entry. items ++ item_of template items entry ∷ []) items history)) ≡ length (filter (λ (i : Item). i.entry.handle == number) items) + length (entries_of history number)
+calls_more template number items [] = omega arith
+calls_more template number items (e ∷ es) =
+    let item : Item = item_of template items e in
+    let own : Item → Bool = λ i. i.entry.handle == number in
+    let rest = calls_more template number (items ++ item ∷ []) es in
+    let push = ap (λ (l : List Item). length l) (filter-append own items (item ∷ [])) ∙ length-append (filter own items) (filter own (item ∷ [])) in
+    let one = first (e.handle == number) item e (entries_of es number) in
+    omega (arith, rest, push, one)
+  where
+    first : (b : Bool) (i : Item) (e : Entry) (es : List Entry) → length (cond b (i ∷ []) []) + length es ≡ length (cond b (e ∷ es) es)
+    first true i e es = omega arith
+    first false i e es = omega arith
 
-  pub applied-calls : (operations : List Operation) (moment : ℕ) (replies : List Reply) (now : List Entry) → IsApplied answer template before operations moment after replies now
-      → calls_of template after.front before.number ≡ calls_of template told before.number ++ answered operations replies
-  applied-calls operations moment replies now h =
+length-mapped : {X Y : Type 0} (f : X → Y) (xs : List X) → length (map f xs) ≡ length xs
+length-mapped f [] = refl
+length-mapped f (x ∷ xs) = ap suc (length-mapped f xs)
+
+pub calls-length : (template : Template) (front : List Entry) (number : ℕ) → length (calls_of template front number) ≡ length (entries_of front number)
+calls-length template front number =
+    let a = length-mapped call_of (filter (λ (i : Item). i.entry.handle == number) (account template front)) in
+    let b = calls_more template number [] front in
+    omega (arith, a, b)
+
+-- what a handle entered together are calls with their replies, after those of the front where it entered them
+module _ (answer : Text → ℕ → Answer) (template : Template) (before after : Knowledge) where
+  pub applied-since : (operations : List Operation) (moment : ℕ) (replies : List Reply) (now : List Entry) → (h : IsApplied answer template before operations moment after replies now)
+      → calls_of template after.front before.number ≡ calls_of template h.0 before.number ++ answered operations replies
+  applied-since operations moment replies now h =
       let serial : ℕ = length before.calls in
       ap (λ l. calls_of template l before.number) h.4
       ∙ (batch_of-called answer template h.0 before.number serial moment operations).calls
-      ∙ ap (λ l. l ++ answered operations (batch_of answer template h.0 before.number serial moment operations).replies) (calls-before h.0 h.1 h.2)
-      ∙ ap (λ l. calls_of template told before.number ++ answered operations l) (sym h.6)
+      ∙ ap (λ l. calls_of template h.0 before.number ++ answered operations l) (sym h.6)
 
   pub applied-own : (operations : List Operation) (moment : ℕ) (replies : List Reply) (now : List Entry) → IsApplied answer template before operations moment after replies now
       → entries_of after.front after.number ≡ after.calls
@@ -130,14 +153,13 @@ module _ (answer : Text → ℕ → Answer) (template : Template) (before after 
       ∙ ap (λ l. before.calls ++ l) (batch_of-own answer template h.0 before.number serial moment operations)
       ∙ sym h.5
 
-  pub updated-calls : (operation : Operation) (moment : ℕ) (reply : Reply) (now : List Entry) → IsUpdated answer template before operation moment after reply now
-      → calls_of template after.front before.number ≡ calls_of template told before.number ++ record { operation = operation; reply = reply } ∷ []
-  updated-calls operation moment reply now h =
+  pub updated-since : (operation : Operation) (moment : ℕ) (reply : Reply) (now : List Entry) → (h : IsUpdated answer template before operation moment after reply now)
+      → calls_of template after.front before.number ≡ calls_of template h.0 before.number ++ record { operation = operation; reply = reply } ∷ []
+  updated-since operation moment reply now h =
       let entry : Entry = next_entry answer template h.0 before operation moment in
       ap (λ l. calls_of template l before.number) h.4
       ∙ calls-own template h.0 entry before.number refl
-      ∙ ap (λ l. l ++ record { operation = operation; reply = reply_after template h.0 entry } ∷ []) (calls-before h.0 h.1 h.2)
-      ∙ ap (λ r. calls_of template told before.number ++ record { operation = operation; reply = r } ∷ []) (sym h.6)
+      ∙ ap (λ r. calls_of template h.0 before.number ++ record { operation = operation; reply = r } ∷ []) (sym h.6)
 
   pub updated-own : (operation : Operation) (moment : ℕ) (reply : Reply) (now : List Entry) → IsUpdated answer template before operation moment after reply now
       → entries_of after.front after.number ≡ after.calls
@@ -147,3 +169,22 @@ module _ (answer : Text → ℕ → Answer) (template : Template) (before after 
       ∙ entries-one before.number h.0 entry refl
       ∙ ap (λ l. l ++ entry ∷ []) h.2
       ∙ sym h.5
+
+-- entries that were entered together have one moment
+module _ (answer : Text → ℕ → Answer) (template : Template) (front : List Entry) (number serial moment : ℕ) where
+  abbrev AreAt : List Entry → Type 0
+  AreAt entries = All (λ entry. entry.moment ≡ moment) entries
+
+  at_along : (batch : Batch) (operations : List Operation) → AreAt batch.entries → AreAt (fold (with_operation answer template front number serial moment) batch operations).entries
+  at_along batch [] h = h
+  at_along batch (o ∷ os) h =
+      at_along (with_operation answer template front number serial moment batch o) os
+      (All-append (λ (x : Entry). x.moment ≡ moment) batch.entries (entry_of answer template (front ++ batch.entries) number (serial + length batch.entries) o moment ∷ []) h one)
+    where
+      one : AreAt (entry_of answer template (front ++ batch.entries) number (serial + length batch.entries) o moment ∷ [])
+      one zero d within = refl
+      one (suc k) d within = absurd (omega (arith, within))
+
+  pub batch_of-at : (operations : List Operation) → AreAt (batch_of answer template front number serial moment operations).entries
+  unfolding batch_of
+  batch_of-at operations = at_along (record { entries = []; replies = [] }) operations (λ k d within. absurd (omega (arith, within)))

@@ -1,5 +1,5 @@
 -- One step more of a driver.
-use Rattle.std.proofs.Common.{◌≡◌, ℕ, ◌+◌, List, [], ◌∷◌, ◌++◌, Option, Some, None, refl, ap, sym, ◌∙◌, subst, arith, append_assoc, append-nil}
+use Rattle.std.proofs.Common.{◌≡◌, ℕ, zero, suc, ◌+◌, ◌<◌, ◌≤◌, length, drop, length-append, List, [], ◌∷◌, ◌++◌, Option, Some, None, refl, ap, sym, ◌∙◌, subst, arith, append_assoc, append-nil}
 use mathlib.Core.List.{IsPrefix}
 use Rattle.logbook.specs.Pages.{Book}
 use Rattle.sup_types.specs.declared.text.Text.{Text}
@@ -10,8 +10,12 @@ use Rattle.sup_types.specs.declared.history.Operation.TheVariants.{Start, Exit, 
 use Rattle.sup_types.specs.declared.history.Reply.{Reply}
 use Rattle.sup_types.specs.declared.history.Reply.TheVariants.{Started, Restarted}
 use Rattle.sup_log.specs.Tokens.{Told}
-use Rattle.sup_desk.specs.Knowledge.{Knowledge, entries_of, IsUpdated}
-use Rattle.sup_desk.specs.Batches.{IsApplied}
+use Rattle.sup_types.specs.declared.history.Entry.{Entry}
+use Rattle.std.specs.List.{All}
+use Rattle.std.proofs.lemmas.List.Elements.{All-append}
+use Rattle.std.proofs.Math.Seq.{drop-append_seam}
+use Rattle.sup_desk.specs.Knowledge.{Knowledge, entries_of, next_entry, IsUpdated}
+use Rattle.sup_desk.specs.Batches.{batch_of, IsApplied}
 use Rattle.sup_inbox.specs.declared.note.Note.{Note}
 use Rattle.sup_crew.specs.declared.job.Child.{Child}
 use Rattle.sup_crew.specs.Jobs.{weigh}
@@ -22,10 +26,10 @@ use Rattle.sup_crew.specs.Calls.{Call, calls_of, answered, exit_of, exits_in, ex
 use Rattle.std.specs.Prelude.{IsSome, IfNone}
 use Rattle.std.specs.Option.{option_or}
 use Rattle.sup_crew.specs.Drains.{notes_of, replies_of, IsEntered}
-use Rattle.sup_crew.specs.Leads.{front_of, started_job, restarted_job, restarted_jobs, IsLed}
+use Rattle.sup_crew.specs.Leads.{started_job, restarted_job, restarted_jobs, AreAt, HasCalled, HasAll, calls_since, Run, IsLed}
 use Rattle.sup_crew.proofs.Moves.{weigh-append}
 use Rattle.sup_crew.proofs.DrainLemmas.{exits-append}
-use Rattle.sup_crew.proofs.Called.{applied-calls, applied-own, updated-calls, updated-own}
+use Rattle.sup_crew.proofs.Called.{trans, calls-length, calls-stay, applied-since, applied-own, updated-since, updated-own, batch_of-at}
 
 driven-append : (cs ds : List Call) → AreDriven cs → AreDriven ds → AreDriven (cs ++ ds)
 driven-append [] ds a b = b
@@ -85,23 +89,62 @@ job_start : (arg : Text) (reply : Reply) → job_made (Start arg) reply [] ≡ s
 job_start arg (Started number) = refl
 job_start arg _ = refl
 
-module _ (answer : Text → ℕ → Answer) (template : Template) (press : Book) (before after : Knowledge) (ticket : Option Told) (tally tally' : Tally) (put left put' left' : List Child) (entered : List Note) (begun : List Text) (led : IsLed template press before ticket tally put left entered begun) where
+drop-beyond : {X : Type 0} (n : ℕ) (xs ys : List X) → n ≤ length xs → drop n (xs ++ ys) ≡ drop n xs ++ ys
+drop-beyond zero xs ys le = refl
+drop-beyond (suc n) [] ys le = absurd (omega (arith, le))
+drop-beyond (suc n) (x ∷ xs) ys le = drop-beyond n xs ys (omega (arith, le))
+
+-- what is called at the end of a front comes after the calls of the run
+since_more : (template : Template) (first before : Knowledge) (ticket : Option Told) (moment : ℕ) (front : List Entry) (ds : List Call) → HasCalled moment first before → HasAll first before ticket
+    → IsPrefix before.front front → entries_of front before.number ≡ before.calls
+    → drop (length first.calls) (calls_of template front before.number ++ ds) ≡ calls_since template first ticket ++ ds
+since_more template first before None moment front ds called all more own =
+    let xs : List Call = calls_of template front before.number in
+    let len : length xs ≡ length first.calls = calls-length template front before.number ∙ ap (λ (l : List Entry). length l) (own ∙ all) in
+    ap (λ n. drop n (xs ++ ds)) (sym len) ∙ drop-append_seam xs ds
+since_more template first before (Some told) moment front ds called all more own =
+    let xs : List Call = calls_of template front before.number in
+    let long = calls-length template front before.number ∙ ap (λ (l : List Entry). length l) (own ∙ called.calls) ∙ length-append first.calls called.more in
+    let p : IsPrefix told.front front = trans told.front before.front front all.1 more in
+    let same = calls-stay template before.number told.front front p (own ∙ sym all.0) in
+    drop-beyond (length first.calls) xs ds (omega (arith, long))
+    ∙ ap (λ l. drop (length first.calls) l ++ ds) (same ∙ ap (calls_of template told.front) called.number)
+
+called_more : (moment : ℕ) (first before after : Knowledge) (more : List Entry) → HasCalled moment first before → after.number ≡ before.number → after.calls ≡ before.calls ++ more → AreAt moment more → HasCalled moment first after
+called_more moment first before after more h number calls at = record {
+  number = number ∙ h.number;
+  more = h.more ++ more;
+  calls = calls ∙ ap (λ l. l ++ more) h.calls ∙ append_assoc first.calls h.more more;
+  at = All-append (λ (x : Entry). x.moment ≡ moment) h.more more h.at at;
+}
+
+one_at : (moment : ℕ) (entry : Entry) → entry.moment ≡ moment → AreAt moment (entry ∷ [])
+one_at moment entry is zero d within = is
+one_at moment entry is (suc k) d within = absurd (omega (arith, within))
+
+module _ (answer : Text → ℕ → Answer) (run : Run) (before after : Knowledge) (ticket : Option Told) (tally tally' : Tally) (put left put' left' : List Child) (entered : List Note) (begun : List Text) (led : IsLed run before ticket tally put left entered begun) where
+  abbrev template : Template
+  template = run.template
+
   abbrev cs : List Call
-  cs = calls_of template (front_of ticket) before.number
+  cs = calls_since run.template run.before ticket
 
   -- some calls more, which are all those of the front that is told
-  led-more : (now : Told) (ds : List Call) (notes : List Note) (args : List Text) (jobs : List Child)
-      → now.press ≡ press → now.front ≡ after.front → after.number ≡ before.number → entries_of after.front after.number ≡ after.calls
-      → calls_of template after.front before.number ≡ cs ++ ds → AreDriven ds → starts_in ds ≡ args → exits_in ds ≡ exits notes → jobs_made ds notes ≡ jobs
+  led-more : (now : Told) (full ds : List Call) (more : List Entry) (notes : List Note) (args : List Text) (jobs : List Child)
+      → now.press ≡ run.press → now.front ≡ after.front → after.number ≡ before.number → entries_of after.front after.number ≡ after.calls
+      → after.calls ≡ before.calls ++ more → AreAt run.moment more
+      → calls_of template after.front before.number ≡ full ++ ds → drop (length run.before.calls) (full ++ ds) ≡ cs ++ ds
+      → AreDriven ds → starts_in ds ≡ args → exits_in ds ≡ exits notes → jobs_made ds notes ≡ jobs
       → (tally ≡ tally_of cs → tally' ≡ tally_of (cs ++ ds))
       → ((h : Child → ℕ) → weigh h put' + weigh h left' ≡ weigh h put + weigh h left + weigh h jobs)
-      → IsLed template press after (Some now) tally' put' left' (entered ++ notes) (begun ++ args)
-  led-more now ds notes args jobs p f n own calls driven starts exit made count account =
-      let all : calls_of template now.front after.number ≡ cs ++ ds = (λ i. calls_of template (f i) (n i)) ∙ calls in
+      → IsLed run after (Some now) tally' put' left' (entered ++ notes) (begun ++ args)
+  led-more now full ds more notes args jobs p f n own longer at calls since driven starts exit made count account =
+      let all : calls_since template run.before (Some now) ≡ cs ++ ds =
+      (λ i. drop (length run.before.calls) (calls_of template (f i) (sym led.called.number i))) ∙ ap (drop (length run.before.calls)) calls ∙ since in
       record {
         of_press = p;
-        front = ([], append-nil now.front ∙ f);
-        whole = ap (λ l. entries_of l after.number) f ∙ own;
+        called = called_more run.moment run.before before after more led.called n longer at;
+        whole = (ap (λ l. entries_of l after.number) f ∙ own, ([], append-nil now.front ∙ f));
         driven = subst AreDriven (sym all) (driven-append cs ds led.driven driven);
         starts = ap starts_in all ∙ starts-append cs ds ∙ (λ i. led.starts i ++ starts i);
         exits_are = ap exits_in all ∙ exits_in-append cs ds ∙ (λ i. led.exits_are i ++ exit i) ∙ sym (exits-append entered notes);
@@ -114,53 +157,62 @@ module _ (answer : Text → ℕ → Answer) (template : Template) (press : Book)
             omega (arith, a, b, c, d);
       }
 
-  pub led-started : (now : Told) (arg : Text) (moment : ℕ) (reply : Reply) → IsUpdated answer template before (Start arg) moment after reply now.front → now.press ≡ press → tally' ≡ with_start tally reply
+  pub led-started : (now : Told) (arg : Text) (reply : Reply) → IsUpdated answer template before (Start arg) run.moment after reply now.front → now.press ≡ run.press → tally' ≡ with_start tally reply
       → ((h : Child → ℕ) → weigh h put' + weigh h left' ≡ weigh h put + weigh h left + weigh h (started_job arg reply))
-      → IsLed template press after (Some now) tally' put' left' entered (begun ++ arg ∷ [])
-  led-started now arg moment reply h p t account =
-      subst (λ l. IsLed template press after (Some now) tally' put' left' l (begun ++ arg ∷ [])) (append-nil entered)
-      (led-more now (record { operation = Start arg; reply = reply } ∷ []) [] (arg ∷ []) (started_job arg reply)
-      p h.7 h.3 (updated-own answer template before after (front_of ticket) led.front led.whole (Start arg) moment reply now.front h)
-      (updated-calls answer template before after (front_of ticket) led.front led.whole (Start arg) moment reply now.front h)
+      → IsLed run after (Some now) tally' put' left' entered (begun ++ arg ∷ [])
+  led-started now arg reply h p t account =
+      let ds : List Call = record { operation = Start arg; reply = reply } ∷ [] in
+      let entry : Entry = next_entry answer template h.0 before (Start arg) run.moment in
+      subst (λ l. IsLed run after (Some now) tally' put' left' l (begun ++ arg ∷ [])) (append-nil entered)
+      (led-more now (calls_of template h.0 before.number) ds (entry ∷ []) [] (arg ∷ []) (started_job arg reply)
+      p h.7 h.3 (updated-own answer template before after (Start arg) run.moment reply now.front h) h.5 (one_at run.moment entry refl)
+      (updated-since answer template before after (Start arg) run.moment reply now.front h)
+      (since_more template run.before before ticket run.moment h.0 ds led.called led.whole h.1 h.2)
       (tt, tt) refl refl (append-nil (job_made (Start arg) reply []) ∙ job_start arg reply)
       (λ e. t ∙ ap (λ u. with_start u reply) e ∙ sym (tally-start cs arg reply)) account)
 
-  pub led-drained : (now : Told) (pairs : List (Note × Reply)) (moment : ℕ) → IsApplied answer template before (exits (notes_of pairs)) moment after (replies_of pairs) now.front → now.press ≡ press → tally' ≡ with_exits tally (replies_of pairs)
+  pub led-drained : (now : Told) (pairs : List (Note × Reply)) → IsApplied answer template before (exits (notes_of pairs)) run.moment after (replies_of pairs) now.front → now.press ≡ run.press → tally' ≡ with_exits tally (replies_of pairs)
       → ((h : Child → ℕ) → weigh h put' + weigh h left' ≡ weigh h put + weigh h left + weigh h (restarted_jobs pairs))
-      → IsLed template press after (Some now) tally' put' left' (entered ++ notes_of pairs) begun
-  led-drained now pairs moment h p t account =
-      subst (λ l. IsLed template press after (Some now) tally' put' left' (entered ++ notes_of pairs) l) (append-nil begun)
-      (led-more now (answered (exits (notes_of pairs)) (replies_of pairs)) (notes_of pairs) [] (restarted_jobs pairs)
-      p h.7 h.3 (applied-own answer template before after (front_of ticket) led.front led.whole (exits (notes_of pairs)) moment (replies_of pairs) now.front h)
-      (applied-calls answer template before after (front_of ticket) led.front led.whole (exits (notes_of pairs)) moment (replies_of pairs) now.front h)
+      → IsLed run after (Some now) tally' put' left' (entered ++ notes_of pairs) begun
+  led-drained now pairs h p t account =
+      let os : List Operation = exits (notes_of pairs) in
+      let ds : List Call = answered os (replies_of pairs) in
+      let more : List Entry = (batch_of answer template h.0 before.number (length before.calls) run.moment os).entries in
+      subst (λ l. IsLed run after (Some now) tally' put' left' (entered ++ notes_of pairs) l) (append-nil begun)
+      (led-more now (calls_of template h.0 before.number) ds more (notes_of pairs) [] (restarted_jobs pairs)
+      p h.7 h.3 (applied-own answer template before after os run.moment (replies_of pairs) now.front h) h.5 (batch_of-at answer template h.0 before.number (length before.calls) run.moment os)
+      (applied-since answer template before after os run.moment (replies_of pairs) now.front h)
+      (since_more template run.before before ticket run.moment h.0 ds led.called led.whole h.1 h.2)
       (driven_exits pairs) (starts_exits pairs) (exits_exits pairs) (jobs_exits pairs) (λ e. t ∙ tally-exits tally cs pairs e) account)
 
   -- a refused update, or none
-  pub led-stays : IsPrefix before.front after.front → after.calls ≡ before.calls → after.number ≡ before.number → IsLed template press after ticket tally put left entered begun
-  led-stays more calls number =
-      let at : (n : ℕ) → n ≡ after.number → IsLed template press (record { number = n; front = after.front; calls = after.calls }) ticket tally put left entered begun → IsLed template press after ticket tally put left entered begun = λ n e w. subst (λ (k : ℕ). IsLed template press (record { number = k; front = after.front; calls = after.calls }) ticket tally put left entered begun) e w in
-      at before.number (sym number) (record {
-        of_press = led.of_press;
-        front = (led.front.0 ++ more.0, sym (append_assoc (front_of ticket) led.front.0 more.0) ∙ ap (λ l. l ++ more.0) led.front.1 ∙ more.1);
-        whole = led.whole ∙ sym calls;
-        driven = led.driven;
-        starts = led.starts;
-        exits_are = led.exits_are;
-        counts = led.counts;
-        jobs = led.jobs;
-      })
+  pub led-stays : IsPrefix before.front after.front → after.calls ≡ before.calls → after.number ≡ before.number → IsLed run after ticket tally put left entered begun
+  led-stays more calls number = record {
+    of_press = led.of_press;
+    called = called_more run.moment run.before before after [] led.called number (calls ∙ sym (append-nil before.calls)) (λ k d within. absurd (omega (arith, within)));
+    whole = stays ticket led.whole;
+    driven = led.driven;
+    starts = led.starts;
+    exits_are = led.exits_are;
+    counts = led.counts;
+    jobs = led.jobs;
+  }
+    where
+      stays : (ticket : Option Told) → HasAll run.before before ticket → HasAll run.before after ticket
+      stays None h = calls ∙ h
+      stays (Some told) h = ((λ i. entries_of told.front (number i)) ∙ h.0 ∙ sym calls, trans told.front before.front after.front h.1 more)
 
   -- what a drain entered, or nothing
-  pub led-entered : (told : Option Told) (pairs : List (Note × Reply)) (moment : ℕ) → IsPrefix before.front after.front → IsEntered answer template press before after moment pairs told → tally' ≡ with_exits tally (replies_of pairs)
+  pub led-entered : (told : Option Told) (pairs : List (Note × Reply)) → IsPrefix before.front after.front → IsEntered answer template run.press before after run.moment pairs told → tally' ≡ with_exits tally (replies_of pairs)
       → ((h : Child → ℕ) → weigh h put' + weigh h left' ≡ weigh h put + weigh h left + weigh h (restarted_jobs pairs))
-      → IsLed template press after (option_or told ticket) tally' put' left' (entered ++ notes_of pairs) begun
-  led-entered None pairs moment more h t account =
+      → IsLed run after (option_or told ticket) tally' put' left' (entered ++ notes_of pairs) begun
+  led-entered None pairs more h t account =
       let stays = led-stays more h.1 h.2 in
       let none : entered ++ notes_of pairs ≡ entered = ap (λ l. entered ++ notes_of l) h.0 ∙ append-nil entered in
       let same : tally' ≡ tally = t ∙ ap (λ l. with_exits tally (replies_of l)) h.0 in
-      subst (λ l. IsLed template press after ticket tally' put' left' l begun) (sym none) (record {
+      subst (λ l. IsLed run after ticket tally' put' left' l begun) (sym none) (record {
         of_press = stays.of_press;
-        front = stays.front;
+        called = stays.called;
         whole = stays.whole;
         driven = stays.driven;
         starts = stays.starts;
@@ -168,14 +220,14 @@ module _ (answer : Text → ℕ → Answer) (template : Template) (press : Book)
         counts = same ∙ stays.counts;
         jobs = λ w. let a = account w in let b = stays.jobs w in let c = ap (λ l. weigh w (restarted_jobs l)) h.0 in omega (arith, a, b, c);
       })
-  led-entered (Some now) pairs moment more h t account = led-drained now pairs moment h.0 h.1 t account
+  led-entered (Some now) pairs more h t account = led-drained now pairs h.0 h.1 t account
 
 -- a driver that entered nothing
-pub led_begins : (template : Template) (press : Book) (knows : Knowledge) → knows.calls ≡ [] → IsLed template press knows None (tally_of []) [] [] [] []
-led_begins template press knows none = record {
+pub led_begins : (run : Run) → IsLed run run.before None (tally_of []) [] [] [] []
+led_begins run = record {
   of_press = tt;
-  front = (knows.front, refl);
-  whole = sym none;
+  called = record { number = refl; more = []; calls = sym (append-nil run.before.calls); at = λ k d within. absurd (omega (arith, within)) };
+  whole = refl;
   driven = tt;
   starts = refl;
   exits_are = refl;

@@ -1,4 +1,5 @@
 pub mod Agree
+pub mod Born
 pub mod Called
 pub mod DrainLemmas
 mod Handed

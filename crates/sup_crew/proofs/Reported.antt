@@ -4,20 +4,19 @@ use Rattle.std.specs.Prelude.{IfNone}
 use Rattle.std.proofs.lemmas.List.{drop_all}
 use Rattle.sup_types.specs.declared.text.Text.{Text}
 use Rattle.sup_types.specs.declared.reason.Reason.{Reason}
-use Rattle.sup_types.specs.declared.template.Template.{Template}
-use Rattle.sup_types.specs.declared.history.Entry.{Entry}
 use Rattle.sup_types.specs.declared.history.Operation.{Operation}
 use Rattle.sup_types.specs.declared.history.Operation.TheVariants.{Start, Exit, Retry, Terminate, Stop}
 use Rattle.sup_types.specs.declared.history.Reply.{Reply}
 use Rattle.sup_types.specs.declared.history.Reply.TheVariants.{Started, Restarted}
-use Rattle.sup_core.specs.Account.{Item, account, argument_of}
+use Rattle.sup_core.specs.Account.{Item, argument_of}
 use Rattle.sup_inbox.specs.declared.note.Note.{Note}
 use Rattle.sup_crew.specs.declared.job.Child.{Child}
-use Rattle.sup_crew.specs.Calls.{Call, calls_of, child_made, children_made, exit_of, exits_in, exits, notes_after, jobs_made, AreDriven}
+use Rattle.sup_crew.specs.Calls.{Call, child_made, children_made, exit_of, exits_in, exits, notes_after, jobs_made, AreDriven}
 use Rattle.sup_crew.specs.Jobs.{weigh}
 use Rattle.sup_crew.specs.Reports.{child_ended, children_ended, IsNamed, AreNamed, AreOwn}
 use Rattle.sup_crew.specs.Work.{ended, AreEnds}
 use Rattle.sup_crew.proofs.Agree.{bad, bad-right, right-of, told-parts, agrees}
+use Rattle.sup_crew.proofs.Right.{AreRightCalls}
 use Rattle.sup_crew.proofs.Moves.{weigh-append}
 
 -- children of which none is bad have the arguments that the account gives them
@@ -101,18 +100,12 @@ all_named may_end items (c ∷ cs) notes told own ends =
     )
 
 -- of a driver whose jobs are those of the notes that were entered, of other notes and of jobs that are left
-module _ (template : Template) (history : List Entry) (number : ℕ) (entered others : List Note) (left : List Child)
-    (driven : AreDriven (calls_of template history number))
-    (told : exits_in (calls_of template history number) ≡ exits entered)
-    (jobs : (h : Child → ℕ) → weigh h (jobs_made (calls_of template history number) entered) ≡ weigh h (ended entered) + (weigh h (ended others) + weigh h left)) where
-  abbrev items : List Item
-  items = account template history
-
-  abbrev cs : List Call
-  cs = calls_of template history number
-
+module _ (items : List Item) (cs : List Call) (right : AreRightCalls items cs) (entered others : List Note) (left : List Child)
+    (driven : AreDriven cs)
+    (told : exits_in cs ≡ exits entered)
+    (jobs : (h : Child → ℕ) → weigh h (jobs_made cs entered) ≡ weigh h (ended entered) + (weigh h (ended others) + weigh h left)) where
   made : (h : Child → ℕ) → weigh h (children_made items cs) ≡ weigh h (ended entered) + (weigh h (ended others) + weigh h left)
-  made h = ap (weigh h) (sym (agrees template history number entered (λ h. weigh h (ended others) + weigh h left) driven told jobs)) ∙ jobs h
+  made h = ap (weigh h) (sym (agrees items cs right entered (λ h. weigh h (ended others) + weigh h left) driven told jobs)) ∙ jobs h
 
   own_entered : AreOwn items (ended entered)
   own_entered = own-of items (ended entered) (λ m. let a = made (bad items m) in let b = all_good items m cs in omega (arith, a, b))

@@ -1,5 +1,5 @@
 -- What a reply says of the numbers and arguments of children.
-use Rattle.std.proofs.Common.{◌≡◌, ℕ, zero, suc, ◌+◌, ◌-◌, ◌<◌, ◌≤◌, Bool, true, false, cond, List, [], ◌∷◌, ◌++◌, length, map, get_or, fold, refl, ap, sym, ◌∙◌, arith}
+use Rattle.std.proofs.Common.{◌≡◌, ℕ, zero, suc, ◌+◌, ◌-◌, ◌<◌, ◌≤◌, Bool, true, false, cond, List, [], ◌∷◌, ◌++◌, length, drop, Option, Some, None, map, get_or, fold, refl, ap, sym, ◌∙◌, arith}
 use Rattle.std.specs.Prelude.{◌==◌, filter, if◌then◌else◌}
 use Rattle.std.specs.List.{list_any}
 use Rattle.std.proofs.lemmas.Bool.{cond_both}
@@ -20,7 +20,10 @@ use Rattle.sup_core.specs.Changes.{makes_child, start_argument}
 use Rattle.sup_core.specs.Account.{Item, made_count, with_argument, arguments, argument_of, is_gone, row_of, listed_rows, standing, item_of, account}
 use Rattle.sup_core.proofs.ListingLemmas.{listed-below}
 use Rattle.sup_core.proofs.HistoryLemmas.{IsApt, apt_reply, IsSound, sound-none, sound-step, made_count-push, arguments-push}
+use Rattle.sup_log.specs.Tokens.{Told}
+use Rattle.sup_desk.specs.Knowledge.{Knowledge}
 use Rattle.sup_crew.specs.Calls.{Call, call_of, calls_of}
+use Rattle.sup_crew.specs.Leads.{front_of, calls_since}
 
 -- the reply to a start says no restart, and that to an exit no start, and no restart of another child
 abbrev pub NamesStart : Reply → Type 0
@@ -185,3 +188,13 @@ right_filtered items p (i ∷ is) h = one (p i) (right_filtered items p is h.2)
 
 pub calls-right : (template : Template) (history : List Entry) (number : ℕ) → AreRightCalls (account template history) (calls_of template history number)
 calls-right template history number = right_filtered (account template history) (λ i. i.entry.handle == number) (account template history) (account-right template history)
+
+right_rest : (items : List Item) (n : ℕ) (cs : List Call) → AreRightCalls items cs → AreRightCalls items (drop n cs)
+right_rest items zero cs h = h
+right_rest items (suc n) [] h = tt
+right_rest items (suc n) (c ∷ cs) h = right_rest items n cs h.2
+
+-- the same of the calls of a run
+pub since-right : (template : Template) (before : Knowledge) (ticket : Option Told) → AreRightCalls (account template (front_of ticket)) (calls_since template before ticket)
+since-right template before None = tt
+since-right template before (Some told) = right_rest (account template told.front) (length before.calls) (calls_of template told.front before.number) (calls-right template told.front before.number)

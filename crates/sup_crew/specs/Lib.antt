@@ -1,3 +1,4 @@
+pub mod Births
 pub mod Calls
 pub mod Drains
 pub mod Faults

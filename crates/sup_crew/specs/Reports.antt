@@ -1,6 +1,5 @@
 -- What a run did: the calls of its driver, and what became of each child that they made.
 use Rattle.std.specs.Prelude.{◌≡◌, ℕ, ◌+◌, List, [], ◌∷◌, ◌++◌, IfSome, IfNone}
-use Rattle.logbook.specs.Pages.{Book}
 use Rattle.sup_types.specs.declared.text.Text.{Text}
 use Rattle.sup_types.specs.declared.reason.Reason.{Reason}
 use Rattle.sup_types.specs.declared.template.Template.{Template}
@@ -12,9 +11,11 @@ use Rattle.sup_inbox.specs.declared.note.Note.{Note}
 use Rattle.sup_crew.specs.declared.job.Child.{Child}
 use Rattle.sup_crew.specs.declared.report.Report.{Report}
 use Rattle.sup_crew.specs.declared.tally.Tally.{Tally}
-use Rattle.sup_crew.specs.Calls.{Call, calls_of, children_made, starts_in, AreDriven}
+use Rattle.sup_crew.specs.Calls.{Call, children_made, starts_in, AreDriven}
 use Rattle.sup_crew.specs.Jobs.{weigh, children_of}
-use Rattle.sup_crew.specs.Leads.{front_of}
+use Rattle.sup_desk.specs.Knowledge.{Knowledge}
+use Rattle.sup_crew.specs.Leads.{front_of, calls_since, HasCalled, HasAll, IsCause, Run, run_of}
+use Rattle.logbook.specs.Pages.{Book}
 use Rattle.sup_crew.specs.Tallies.{tally_of}
 use Rattle.sup_crew.specs.Work.{ended, AreEnds}
 
@@ -45,8 +46,8 @@ module _ {N : Type 0} {G : Ghosts N} where
   abbrev pub items_of_run : Template → Report N G → List Item
   items_of_run template r = account template (front_of r.ticket)
 
-  abbrev pub calls_of_run : Template → Report N G → List Call
-  calls_of_run template r = calls_of template (front_of r.ticket) r.driver
+  abbrev pub calls_of_run : Template → Knowledge → Report N G → List Call
+  calls_of_run template before r = calls_since template before r.ticket
 
   abbrev pub counts_of_run : Report N G → Tally
   counts_of_run r =
@@ -64,16 +65,28 @@ module _ {N : Type 0} {G : Ghosts N} where
   abbrev pub notes_of_run : Report N G → List Note
   notes_of_run r = r.held.items ++ r.inbox.items ++ r.unposted.items
 
-  -- the driver started the first of the plan and ended children for the reasons of the body, and no more; each child that it made ended by
-  -- one of its exits, or a note tells its end, or its job is left; and the counts are those of its calls by reply
-  pub record IsRun (may_end : ℕ → Text → Reason → Type 0) (template : Template) (press : Book) (plan : List Text) (r : Report N G) : Type 0 where
-    pub of_press : IfSome r.ticket (λ told. told.press ≡ press)
-    pub driven : AreDriven (calls_of_run template r)
-    pub starts : starts_in (calls_of_run template r) ++ r.unstarted.items ≡ plan
+  -- what the driver's handle did beyond what it knew before: it started the first of the plan and ended children for the reasons of the
+  -- body, all at one moment, and no more; each child that it made ended by one of its exits, or a note tells its end, or its job is left;
+  -- the counts are those of its calls by reply; and a fault is that of its last call
+  pub record IsRun (may_end : ℕ → Text → Reason → Type 0) (run : Run) (plan : List Text) (after : Knowledge) (r : Report N G) : Type 0 where
+    pub of_press : IfSome r.ticket (λ told. told.press ≡ run.press)
+    pub driver : r.driver ≡ run.before.number
+    pub called : HasCalled run.moment run.before after
+    pub whole : HasAll run.before after r.ticket
+    pub driven : AreDriven (calls_of_run run.template run.before r)
+    pub starts : starts_in (calls_of_run run.template run.before r) ++ r.unstarted.items ≡ plan
     pub all : IfNone r.fault (r.unstarted.items ≡ [])
-    pub named : AreNamed may_end (items_of_run template r) (calls_of_run template r)
-    pub agree : (h : Child → ℕ) → weigh h (children_made (items_of_run template r) (calls_of_run template r))
-        ≡ weigh h (children_ended (items_of_run template r) (calls_of_run template r)) + weigh h (ended (notes_of_run r)) + weigh h (children_of r.left.items)
-    pub own : AreOwn (items_of_run template r) (ended (notes_of_run r)) × AreOwn (items_of_run template r) (children_of r.left.items)
+    pub cause : IfSome r.fault (IsCause run.template after)
+    pub named : AreNamed may_end (items_of_run run.template r) (calls_of_run run.template run.before r)
+    pub agree : (h : Child → ℕ) → weigh h (children_made (items_of_run run.template r) (calls_of_run run.template run.before r))
+        ≡ weigh h (children_ended (items_of_run run.template r) (calls_of_run run.template run.before r)) + weigh h (ended (notes_of_run r)) + weigh h (children_of r.left.items)
+    pub own : AreOwn (items_of_run run.template r) (ended (notes_of_run r)) × AreOwn (items_of_run run.template r) (children_of r.left.items)
     pub ends : AreEnds may_end (notes_of_run r)
-    pub counts : counts_of_run r ≡ tally_of (calls_of_run template r)
+    pub counts : counts_of_run r ≡ tally_of (calls_of_run run.template run.before r)
+
+  -- the same by a handle that made no call before the run and belongs to it
+  pub record IsRunOfItsOwn (may_end : ℕ → Text → Reason → Type 0) (template : Template) (press : Book) (moment : ℕ) (plan : List Text) (r : Report N G) : Type 0 where
+    pub before : Knowledge
+    pub new : before.calls ≡ []
+    pub after : Knowledge
+    pub ran : IsRun may_end (run_of template press moment before) plan after r

@@ -82,12 +82,12 @@ pub fn close<N: Name, B: Body, R: Wait>(
     joined: Joined<N>,
     room: Room,
 ) -> Report<N>
-    requires joined { IsJoined (B.may_end body.now) N.template N.press jobs.now inbox.id workers children.items joined }
+    requires joined { (run : _) × (after : _) × IsJoined (B.may_end body.now) run jobs.now inbox.id workers children.items after joined }
     requires ready { IsReady joined.hand joined.queued (vec_len joined.left) (vec_capacity joined.left) }
     requires workers { workers < 1024 }
     requires empty { (room.posters.items ≡ []) × (room.unposted.items ≡ []) × (room.inbox.items ≡ []) × (room.held.items ≡ []) }
     requires room { (workers ≤ vec_capacity room.posters) × (workers ≤ vec_capacity room.unposted) × (inbox.capacity ≤ vec_capacity room.inbox) × (64 ≤ vec_capacity room.held) }
-    ensures { IsRun (B.may_end body.now) N.template N.press children.items result }
+    ensures { (run : _) (after : _) → IsJoined (B.may_end body.now) run jobs.now inbox.id workers children.items after joined → IsRun (B.may_end body.now) run children.items after result }
 {
     let (taker, held) = joined.drain.end();
     let (hand, posters, unposted) = collect(

@@ -1,11 +1,10 @@
 //! A run: the workers in their threads, and the driver.
-ghost use Rattle.std.specs.Prelude.{◌≡◌, ◌+◌, ◌<◌, ◌≤◌, [], IfOk, length, vec_len, vec_capacity};
+ghost use Rattle.std.specs.Prelude.{◌≡◌, ◌+◌, ◌<◌, ◌≤◌, [], IfOk, OnErr, length, vec_len, vec_capacity};
 ghost use Rattle.sup_crew.specs.Jobs.{share, children_of};
-ghost use Rattle.sup_crew.specs.Leads.{IsReady};
+ghost use Rattle.sup_crew.specs.Leads.{IsReady, run_of};
 ghost use Rattle.sup_crew.specs.Runs.{IsJoined};
 ghost use Rattle.sup_inbox.specs.Ends.{AreFrom, AreNew};
 
-use crate::asker::Asker;
 use crate::body::Body;
 use crate::drain::Drain;
 use crate::finished::Finished;
@@ -19,7 +18,7 @@ use std::alloc::Global;
 use std::sync::Wait;
 use std::sync::atomic::{AtomicBool, Ordering};
 use std::thread::{Scope, Threads};
-use sup_desk::{Desk, Handle, Name, UpdateFault};
+use sup_desk::{Asker, Caller, Desk, Name, UpdateFault};
 use sup_inbox::{Inbox, Poster, Taker};
 use sup_log::Ticket;
 use sup_types::{Starter, Text};
@@ -61,32 +60,35 @@ fn drive<'s, 'd: 's, E, N, S, P, B, R>(
     turns: u64,
     moment: u64,
     children: &[Text],
-    handle: Handle<'d, N, S, P>,
+    desk: &'d Desk<N, S, P>,
+    caller: Caller<N>,
     hand: Hand<N>,
     posters: Vec<Poster>,
-    askers: Vec<Asker<'d, N, S, P>>,
+    askers: Vec<Asker<N>>,
     taker: Taker,
     finished: Vec<Finished<N>>,
-) -> Result<Joined<N>, CrewFault>
+) -> (Caller<N>, Result<Joined<N>, CrewFault>)
 where
     N: Name + Send + Sync + 's,
     S: Starter + Drop + Send + Sync + 's,
     P: Wait + Drop + Send + Sync + 's,
     B: Body + Sync,
     R: Threads + Wait + Sync,
-    requires handle { handle.calls ≡ [] }
     requires hand { hand ≡ record { queue = jobs.now; share = share 1024 [] [] } }
     requires posters { AreFrom inbox.now.id 1 posters.items × AreNew posters.items × (vec_len posters < 1024) }
     requires taker { taker ≡ record { inbox = inbox.now.id; posters = vec_len posters; taken = [] } }
     requires lists { (finished.items ≡ []) × (vec_len posters ≤ vec_capacity finished) }
-    ensures joined { IfOk result (λ j. IsJoined (B.may_end body.now) N.template N.press jobs.now inbox.now.id (vec_len posters) children.now j) }
-    ensures ready { IfOk result (λ j. IsReady j.hand j.queued (vec_len j.left) (vec_capacity j.left)) }
+    ensures joined { IfOk result.1 (λ j. IsJoined (B.may_end body.now) (run_of N.template N.press moment caller) jobs.now inbox.now.id (vec_len posters) children.now result.0 j) }
+    ensures kept { OnErr result.1 ((result.0.calls ≡ caller.calls) × (result.0.number ≡ caller.number)) }
+    ensures ready { IfOk result.1 (λ j. IsReady j.hand j.queued (vec_len j.left) (vec_capacity j.left)) }
 {
-    let (hand, workers) = start(
+    let Ok((hand, workers)) = start(
         scope, rt, alloc, jobs, inbox, body, over, turns, hand, posters, askers,
-    )?;
+    ) else {
+        return (caller, Err(CrewFault::OutOfMemory));
+    };
     let mut lead = Lead {
-        handle,
+        handle: desk.bind(caller),
         hand,
         queued: 0,
         left: Vec::new(alloc),
@@ -100,27 +102,37 @@ where
     over.store(true, Ordering::SeqCst);
     let finished = join_all(rt, jobs, inbox, body, workers, finished);
     let fault = lead.drain_rest(rt, alloc, jobs, inbox, &mut drain, moment, fault);
-    Ok(Joined {
-        driver: lead.handle.number(),
-        ticket: lead.ticket,
-        tally: lead.tally,
-        hand: lead.hand,
-        queued: lead.queued,
-        left: lead.left,
+    let Lead {
+        handle,
+        hand,
+        queued,
+        left,
+        ticket,
+        tally,
+    } = lead;
+    let (caller, _) = handle.unbind();
+    let joined = Joined {
+        driver: caller.number(),
+        ticket,
+        tally,
+        hand,
+        queued,
+        left,
         drain,
         started,
         fault,
         finished,
-    })
+    };
+    (caller, Ok(joined))
 }
 
 /// An asker for each of so many workers.
-fn lend<'d, N, S, P, R>(
+fn lend<N, S, P, R>(
     rt: &R,
     alloc: Global,
-    desk: &'d Desk<N, S, P>,
+    desk: &Desk<N, S, P>,
     workers: usize,
-) -> Result<Vec<Asker<'d, N, S, P>>, CrewFault>
+) -> Result<Vec<Asker<N>>, CrewFault>
 where
     N: Name,
     S: Starter + Drop,
@@ -132,12 +144,15 @@ where
         return Err(CrewFault::OutOfMemory);
     };
     while askers.len() < workers {
-        askers.push_reserved(Asker::new(desk.handle(rt)?));
+        match desk.asker(rt) {
+            Ok(asker) => askers.push_reserved(asker),
+            Err(_) => return Err(CrewFault::NoHandle),
+        }
     }
     Ok(askers)
 }
 
-/// Makes the driver's handle and one for each worker, and runs.
+/// Makes an asker for each worker, and runs.
 pub fn run_in<'s, E, N, S, P, B, R>(
     scope: &Scope<'s, E>,
     rt: &'s R,
@@ -150,11 +165,12 @@ pub fn run_in<'s, E, N, S, P, B, R>(
     turns: u64,
     moment: u64,
     children: &[Text],
+    caller: Caller<N>,
     hand: Hand<N>,
     posters: Vec<Poster>,
     taker: Taker,
     finished: Vec<Finished<N>>,
-) -> Result<Joined<N>, CrewFault>
+) -> (Caller<N>, Result<Joined<N>, CrewFault>)
 where
     N: Name + Send + Sync + 's,
     S: Starter + Drop + Send + Sync + 's,
@@ -165,13 +181,15 @@ where
     requires posters { AreFrom inbox.now.id 1 posters.items × AreNew posters.items × (vec_len posters < 1024) }
     requires taker { taker ≡ record { inbox = inbox.now.id; posters = vec_len posters; taken = [] } }
     requires lists { (finished.items ≡ []) × (vec_len posters ≤ vec_capacity finished) }
-    ensures joined { IfOk result (λ j. IsJoined (B.may_end body.now) N.template N.press jobs.now inbox.now.id (vec_len posters) children.now j) }
-    ensures ready { IfOk result (λ j. IsReady j.hand j.queued (vec_len j.left) (vec_capacity j.left)) }
+    ensures joined { IfOk result.1 (λ j. IsJoined (B.may_end body.now) (run_of N.template N.press moment caller) jobs.now inbox.now.id (vec_len posters) children.now result.0 j) }
+    ensures kept { OnErr result.1 ((result.0.calls ≡ caller.calls) × (result.0.number ≡ caller.number)) }
+    ensures ready { IfOk result.1 (λ j. IsReady j.hand j.queued (vec_len j.left) (vec_capacity j.left)) }
 {
-    let handle = desk.handle(rt)?;
-    let askers = lend(rt, alloc, desk, posters.len())?;
-    drive(
-        scope, rt, alloc, jobs, inbox, body, over, turns, moment, children, handle, hand, posters,
-        askers, taker, finished,
-    )
+    match lend(rt, alloc, desk, posters.len()) {
+        Ok(askers) => drive(
+            scope, rt, alloc, jobs, inbox, body, over, turns, moment, children, desk, caller, hand,
+            posters, askers, taker, finished,
+        ),
+        Err(fault) => (caller, Err(fault)),
+    }
 }

@@ -1,5 +1,6 @@
 //! Jobs: children to run.
 ghost use Rattle.std.specs.Prelude.{◌≡◌};
+ghost use Rattle.sup_crew.specs.Births.{IsBorn};
 
 use std::marker::PhantomData;
 use sup_desk::Name;
@@ -7,7 +8,7 @@ use sup_log::Ticket;
 use sup_types::Text;
 
 /// A child that was made and is to run, of the desk that N names: its number, the argument with which it was started, and a
-/// ticket of the update that made it.
+/// ticket of the update that made it. It can't be copied, and is used up by the one run of its body.
 #[derive(Drop)]
 pub struct Job<N: Name> {
     /// The number of the child.
@@ -17,13 +18,15 @@ pub struct Job<N: Name> {
     /// The history up to and with its start.
     pub ticket: Ticket,
     pub(crate) of: PhantomData<N>,
-    ghost told: { ticket.press ≡ N.press },
+    pub ghost told: { ticket.press ≡ N.press },
+    pub ghost born: { IsBorn N.template ticket.front number },
 }
 
 impl<N: Name> Job<N> {
     /// A job of the desk from which the ticket comes.
     pub fn new(number: u64, arg: Text, ticket: Ticket) -> Job<N>
-        requires { ticket.press ≡ N.press }
+        requires press { ticket.press ≡ N.press }
+        requires born { IsBorn N.template ticket.front number }
         ensures child { (result.number ≡ number) × (result.arg ≡ arg) }
         ensures ticket { result.ticket ≡ ticket }
     {

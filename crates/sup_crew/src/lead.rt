@@ -1,9 +1,10 @@
 //! The driver's side of a run: what it entered, and the jobs that it queued or kept.
-ghost use Rattle.std.specs.Prelude.{◌≡◌, List, ◌+◌, ◌<◌, ◌≤◌, [], ◌∷◌, ◌++◌, length, take, IfOk, IfErr, OnErr, IfNone, IsSome, MatchOption, vec_len, vec_capacity};
+ghost use Rattle.std.specs.Prelude.{◌≡◌, List, ◌+◌, ◌<◌, ◌≤◌, [], ◌∷◌, ◌++◌, length, take, IfOk, IfErr, OnErr, IfNone, IsSome, IfSome, MatchOption, vec_len, vec_capacity};
 ghost use Rattle.std.specs.Option.{option_or};
 ghost use Rattle.sup_crew.specs.Drains.{replies_of};
 ghost use Rattle.sup_crew.specs.Jobs.{weigh, share, child_of, children_of};
-ghost use Rattle.sup_crew.specs.Leads.{IsLed, IsReady, started_job, restarted_jobs};
+ghost use Rattle.sup_crew.specs.Births.{IsBorn, IsBornBy, AreBornBy};
+ghost use Rattle.sup_crew.specs.Leads.{IsCause, IsLed, IsReady, run_of, started_job, restarted_jobs};
 ghost use Rattle.sup_crew.specs.Tallies.{with_start, with_exits};
 
 use crate::drain::{Drain, DrainFault, Drained, HELD};
@@ -86,8 +87,9 @@ impl<'d, N: Name, S: Starter + Drop, P: Wait + Drop> Lead<'d, N, S, P> {
         requires ready { IsReady self.old.hand self.old.queued (vec_len self.old.left) (vec_capacity self.old.left) }
         ensures hand { self.new.hand ≡ record { queue = jobs.now; share = share self.old.hand.share.parts self.new.hand.share.put self.old.hand.share.taken } }
         ensures ready { IsReady self.new.hand self.new.queued (vec_len self.new.left) (vec_capacity self.new.left) }
-        ensures ok { IfOk result (λ _. (entered : _) (begun : _) → IsLed N.template N.press self.old.handle self.old.ticket self.old.tally self.old.hand.share.put (children_of self.old.left.items) entered begun → IsLed N.template N.press self.new.handle self.new.ticket self.new.tally self.new.hand.share.put (children_of self.new.left.items) entered (begun ++ arg.now ∷ [])) }
-        ensures err { OnErr result ((entered : _) (begun : _) → IsLed N.template N.press self.old.handle self.old.ticket self.old.tally self.old.hand.share.put (children_of self.old.left.items) entered begun → IsLed N.template N.press self.new.handle self.new.ticket self.new.tally self.new.hand.share.put (children_of self.new.left.items) entered begun) }
+        ensures cause { IfErr result (λ e. IsCause N.template self.new.handle e) }
+        ensures ok { IfOk result (λ _. (before : _) (entered : _) (begun : _) → IsLed (run_of N.template N.press moment before) self.old.handle self.old.ticket self.old.tally self.old.hand.share.put (children_of self.old.left.items) entered begun → IsLed (run_of N.template N.press moment before) self.new.handle self.new.ticket self.new.tally self.new.hand.share.put (children_of self.new.left.items) entered (begun ++ arg.now ∷ [])) }
+        ensures err { OnErr result ((before : _) (entered : _) (begun : _) → IsLed (run_of N.template N.press moment before) self.old.handle self.old.ticket self.old.tally self.old.hand.share.put (children_of self.old.left.items) entered begun → IsLed (run_of N.template N.press moment before) self.new.handle self.new.ticket self.new.tally self.new.hand.share.put (children_of self.new.left.items) entered begun) }
     {
         make_room(&mut self.left, self.queued, 1)?;
         let done = self.handle.start_child(rt, moment, *arg)?;
@@ -100,6 +102,7 @@ impl<'d, N: Name, S: Starter + Drop, P: Wait + Drop> Lead<'d, N, S, P> {
         requires hand { (self.old.hand.queue ≡ jobs.now) × (0 < self.old.hand.share.parts) }
         requires ready { (self.old.queued ≡ length self.old.hand.share.put) × (vec_len self.old.left + self.old.queued + 1 ≤ vec_capacity self.old.left) }
         requires press { done.ticket.press ≡ N.press }
+        requires born { IsBornBy N.template done.ticket.front done.reply }
         ensures handle { self.new.handle ≡ self.old.handle }
         ensures hand { self.new.hand ≡ record { queue = jobs.now; share = share self.old.hand.share.parts self.new.hand.share.put self.old.hand.share.taken } }
         ensures ready { IsReady self.new.hand self.new.queued (vec_len self.new.left) (vec_capacity self.new.left) }
@@ -135,7 +138,8 @@ impl<'d, N: Name, S: Starter + Drop, P: Wait + Drop> Lead<'d, N, S, P> {
         requires ready { IsReady self.old.hand self.old.queued (vec_len self.old.left) (vec_capacity self.old.left) }
         ensures hand { self.new.hand ≡ record { queue = jobs.now; share = share self.old.hand.share.parts self.new.hand.share.put self.old.hand.share.taken } }
         ensures ready { IsReady self.new.hand self.new.queued (vec_len self.new.left) (vec_capacity self.new.left) }
-        ensures led { (entered : _) (begun : _) → IsLed N.template N.press self.old.handle self.old.ticket self.old.tally self.old.hand.share.put (children_of self.old.left.items) entered begun → IsLed N.template N.press self.new.handle self.new.ticket self.new.tally self.new.hand.share.put (children_of self.new.left.items) entered (begun ++ take result.0 children.now) }
+        ensures cause { IfSome result.1 (λ e. IsCause N.template self.new.handle e) }
+        ensures led { (before : _) (entered : _) (begun : _) → IsLed (run_of N.template N.press moment before) self.old.handle self.old.ticket self.old.tally self.old.hand.share.put (children_of self.old.left.items) entered begun → IsLed (run_of N.template N.press moment before) self.new.handle self.new.ticket self.new.tally self.new.hand.share.put (children_of self.new.left.items) entered (begun ++ take result.0 children.now) }
         ensures all { IfNone result.1 (result.0 ≡ length children.now) }
         ensures few { result.0 ≤ length children.now }
     {
@@ -152,6 +156,7 @@ impl<'d, N: Name, S: Starter + Drop, P: Wait + Drop> Lead<'d, N, S, P> {
         requires hand { (self.old.hand.queue ≡ jobs.now) × (0 < self.old.hand.share.parts) }
         requires ready { (self.old.queued ≡ length self.old.hand.share.put) × (vec_len self.old.left + self.old.queued + vec_len done.pairs ≤ vec_capacity self.old.left) }
         requires press { MatchOption done.ticket (done.pairs.items ≡ []) (λ t. t.press ≡ N.press) }
+        requires born { IfSome done.ticket (λ t. AreBornBy N.template t.front done.pairs.items) }
         ensures handle { self.new.handle ≡ self.old.handle }
         ensures hand { self.new.hand ≡ record { queue = jobs.now; share = share self.old.hand.share.parts self.new.hand.share.put self.old.hand.share.taken } }
         ensures ready { IsReady self.new.hand self.new.queued (vec_len self.new.left) (vec_capacity self.new.left) }
@@ -198,7 +203,8 @@ impl<'d, N: Name, S: Starter + Drop, P: Wait + Drop> Lead<'d, N, S, P> {
         ensures hand { self.new.hand ≡ record { queue = jobs.now; share = share self.old.hand.share.parts self.new.hand.share.put self.old.hand.share.taken } }
         ensures ready { IsReady self.new.hand self.new.queued (vec_len self.new.left) (vec_capacity self.new.left) }
         ensures drain { (drain.new.inbox ≡ drain.old.inbox) × (drain.new.posters ≡ drain.old.posters) }
-        ensures led { (begun : _) → IsLed N.template N.press self.old.handle self.old.ticket self.old.tally self.old.hand.share.put (children_of self.old.left.items) drain.old.entered begun → IsLed N.template N.press self.new.handle self.new.ticket self.new.tally self.new.hand.share.put (children_of self.new.left.items) drain.new.entered begun }
+        ensures cause { IfSome result.1 (λ e. IsCause N.template self.new.handle e) }
+        ensures led { (before : _) (begun : _) → IsLed (run_of N.template N.press moment before) self.old.handle self.old.ticket self.old.tally self.old.hand.share.put (children_of self.old.left.items) drain.old.entered begun → IsLed (run_of N.template N.press moment before) self.new.handle self.new.ticket self.new.tally self.new.hand.share.put (children_of self.new.left.items) drain.new.entered begun }
     {
         if let Err(fault) = make_room(&mut self.left, self.queued, HELD) {
             return (0, Some(fault));
@@ -230,7 +236,8 @@ impl<'d, N: Name, S: Starter + Drop, P: Wait + Drop> Lead<'d, N, S, P> {
         ensures hand { self.new.hand ≡ record { queue = jobs.now; share = share self.old.hand.share.parts self.new.hand.share.put self.old.hand.share.taken } }
         ensures ready { IsReady self.new.hand self.new.queued (vec_len self.new.left) (vec_capacity self.new.left) }
         ensures drain { (drain.new.inbox ≡ drain.old.inbox) × (drain.new.posters ≡ drain.old.posters) }
-        ensures led { (begun : _) → IsLed N.template N.press self.old.handle self.old.ticket self.old.tally self.old.hand.share.put (children_of self.old.left.items) drain.old.entered begun → IsLed N.template N.press self.new.handle self.new.ticket self.new.tally self.new.hand.share.put (children_of self.new.left.items) drain.new.entered (begun ++ take result.0 children.now) }
+        ensures cause { IfSome result.1 (λ e. IsCause N.template self.new.handle e) }
+        ensures led { (before : _) (begun : _) → IsLed (run_of N.template N.press moment before) self.old.handle self.old.ticket self.old.tally self.old.hand.share.put (children_of self.old.left.items) drain.old.entered begun → IsLed (run_of N.template N.press moment before) self.new.handle self.new.ticket self.new.tally self.new.hand.share.put (children_of self.new.left.items) drain.new.entered (begun ++ take result.0 children.now) }
         ensures all { IfNone result.1 (result.0 ≡ length children.now) }
         ensures few { result.0 ≤ length children.now }
     {
@@ -259,7 +266,8 @@ impl<'d, N: Name, S: Starter + Drop, P: Wait + Drop> Lead<'d, N, S, P> {
         ensures hand { self.new.hand ≡ record { queue = jobs.now; share = share self.old.hand.share.parts self.new.hand.share.put self.old.hand.share.taken } }
         ensures ready { IsReady self.new.hand self.new.queued (vec_len self.new.left) (vec_capacity self.new.left) }
         ensures drain { (drain.new.inbox ≡ drain.old.inbox) × (drain.new.posters ≡ drain.old.posters) }
-        ensures led { (begun : _) → IsLed N.template N.press self.old.handle self.old.ticket self.old.tally self.old.hand.share.put (children_of self.old.left.items) drain.old.entered begun → IsLed N.template N.press self.new.handle self.new.ticket self.new.tally self.new.hand.share.put (children_of self.new.left.items) drain.new.entered begun }
+        ensures cause { IfSome result (λ e. IsCause N.template self.new.handle e) }
+        ensures led { (before : _) (begun : _) → IsLed (run_of N.template N.press moment before) self.old.handle self.old.ticket self.old.tally self.old.hand.share.put (children_of self.old.left.items) drain.old.entered begun → IsLed (run_of N.template N.press moment before) self.new.handle self.new.ticket self.new.tally self.new.hand.share.put (children_of self.new.left.items) drain.new.entered begun }
     {
         let mut taken = 0usize;
         let mut idle = 0u64;
@@ -296,11 +304,13 @@ impl<'d, N: Name, S: Starter + Drop, P: Wait + Drop> Lead<'d, N, S, P> {
         requires hand { (self.old.hand.queue ≡ jobs.now) × (0 < self.old.hand.share.parts) }
         requires ready { IsReady self.old.hand self.old.queued (vec_len self.old.left) (vec_capacity self.old.left) }
         requires drain { drain.old.inbox ≡ inbox.now.id }
+        requires cause { IfSome fault (λ e. IsCause N.template self.old.handle e) }
         ensures hand { self.new.hand ≡ record { queue = jobs.now; share = share self.old.hand.share.parts self.new.hand.share.put self.old.hand.share.taken } }
         ensures ready { IsReady self.new.hand self.new.queued (vec_len self.new.left) (vec_capacity self.new.left) }
         ensures drain { (drain.new.inbox ≡ drain.old.inbox) × (drain.new.posters ≡ drain.old.posters) }
         ensures stays { IsSome fault → IsSome result }
-        ensures led { (begun : _) → IsLed N.template N.press self.old.handle self.old.ticket self.old.tally self.old.hand.share.put (children_of self.old.left.items) drain.old.entered begun → IsLed N.template N.press self.new.handle self.new.ticket self.new.tally self.new.hand.share.put (children_of self.new.left.items) drain.new.entered begun }
+        ensures cause { IfSome result (λ e. IsCause N.template self.new.handle e) }
+        ensures led { (before : _) (begun : _) → IsLed (run_of N.template N.press moment before) self.old.handle self.old.ticket self.old.tally self.old.hand.share.put (children_of self.old.left.items) drain.old.entered begun → IsLed (run_of N.template N.press moment before) self.new.handle self.new.ticket self.new.tally self.new.hand.share.put (children_of self.new.left.items) drain.new.entered begun }
     {
         if fault.is_some() {
             return fault;

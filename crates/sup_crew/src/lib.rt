@@ -7,7 +7,7 @@
 //! argument, ended by one of these exits, or is told of by a note that is held, left in the inbox or was not posted, or
 //! its job is left; and the report's numbers are those of the driver's updates by what was replied. A [`Drain`] can be used
 //! alone: it enters each note that it took once, in order, by one publication for up to 64 of them, or holds it. A body asks
-//! through an [`Asker`], which makes no update.
+//! through an [`Asker`](sup_desk::Asker), which makes no update.
 //!
 //! ```text
 //! let plan = Plan { children, workers: 4, inbox: 64, turns: 1 << 20, moment: 0 };
@@ -22,7 +22,6 @@
 #![tactic(auto)]
 
 mod account;
-mod asker;
 mod body;
 mod closing;
 mod crew;
@@ -39,11 +38,10 @@ mod threads;
 mod turns;
 mod worker;
 
-pub use asker::Asker;
 pub use body::Body;
 pub use drain::{Drain, DrainFault, Drained, HELD};
 pub use job::Job;
 pub use plan::{CrewFault, Plan};
 pub use report::Report;
-pub use run::run_crew;
+pub use run::{run_crew, run_crew_with};
 pub use turns::{Reads, read_turns};

@@ -4,7 +4,6 @@ ghost use Rattle.sup_crew.specs.Jobs.{share};
 ghost use Rattle.sup_crew.specs.Work.{IsWorked, AreWorked};
 ghost use Rattle.sup_inbox.specs.Ends.{AreFrom, AreNew};
 
-use crate::asker::Asker;
 use crate::body::Body;
 use crate::finished::Finished;
 use crate::queue::{Hand, Jobs};
@@ -13,9 +12,9 @@ use std::alloc::Global;
 use std::sync::Wait;
 use std::sync::atomic::{AtomicBool, Ordering};
 use std::thread::{Promise, PromisedHandle, Scope, Threads};
-use sup_desk::Name;
+use sup_desk::{Asker, Name};
 use sup_inbox::{Inbox, Poster};
-use sup_types::{OutOfMemory, Starter};
+use sup_types::OutOfMemory;
 
 /// That the worker with this number hands back all that it took.
 pub struct Works<'a, N: Name, B> {
@@ -45,7 +44,7 @@ pub type Worker<'a, N, B> = PromisedHandle<Finished<N>, Works<'a, N, B>>;
 
 /// Starts a worker for each poster, with an asker each. Where one can't be started, the run is over, and the started ones
 /// are joined.
-pub fn start<'s, 'd: 's, E, N, S, P, B, R>(
+pub fn start<'s, E, N, B, R>(
     scope: &Scope<'s, E>,
     rt: &'s R,
     alloc: Global,
@@ -56,12 +55,10 @@ pub fn start<'s, 'd: 's, E, N, S, P, B, R>(
     turns: u64,
     hand: Hand<N>,
     posters: Vec<Poster>,
-    askers: Vec<Asker<'d, N, S, P>>,
+    askers: Vec<Asker<N>>,
 ) -> Result<(Hand<N>, Vec<Worker<'s, N, B>>), OutOfMemory>
 where
     N: Name + Send + Sync + 's,
-    S: Starter + Drop + Send + Sync + 's,
-    P: Wait + Drop + Send + Sync + 's,
     B: Body + Sync,
     R: Threads + Wait + Sync,
     requires hand { hand ≡ record { queue = jobs.now; share = share 1024 [] [] } }

@@ -2,10 +2,8 @@
 ghost use Rattle.std.specs.Prelude.{◌≡◌, length, IfOk};
 ghost use mathlib.Core.List.{IsPrefix};
 
-use std::sync::Wait;
-use sup_desk::{Handle, Name};
+use sup_desk::{HandleOf, Name};
 use sup_log::Gone;
-use sup_types::Starter;
 
 /// What a reader did.
 #[derive(Clone, Copy, Debug, PartialEq, Eq)]
@@ -17,10 +15,7 @@ pub struct Reads {
 }
 
 /// Asks so many times how many children there are. It takes no lock and no memory.
-pub fn read_turns<N: Name, S: Starter + Drop, R: Wait + Drop>(
-    handle: &mut Handle<'_, N, S, R>,
-    turns: u64,
-) -> Result<Reads, Gone>
+pub fn read_turns<N: Name, D>(handle: &mut HandleOf<'_, N, D>, turns: u64) -> Result<Reads, Gone>
     ensures reads { IfOk result (λ reads. (reads.answered ≡ turns) × (reads.last ≡ length handle.new.front)) }
     ensures front { IsPrefix handle.old.front handle.new.front }
     ensures calls { (handle.new.calls ≡ handle.old.calls) × (handle.new.number ≡ handle.old.number) }

@@ -3,7 +3,6 @@ ghost use Rattle.std.specs.Prelude.{◌≡◌, [], ◌++◌, ◌∷◌, length, 
 ghost use Rattle.sup_crew.specs.Jobs.{share};
 ghost use Rattle.sup_crew.specs.Work.{IsWorked};
 
-use crate::asker::Asker;
 use crate::body::Body;
 use crate::finished::Finished;
 use crate::job::Job;
@@ -11,9 +10,8 @@ use crate::queue::{Hand, Jobs};
 use std::sync::Wait;
 use std::sync::atomic::{AtomicBool, Ordering};
 use std::thread;
-use sup_desk::Name;
+use sup_desk::{Asker, Name};
 use sup_inbox::{Inbox, InboxFull, Poster};
-use sup_types::Starter;
 
 /// Posts an exit, and tries again where the inbox is full, at most `turns` times and not once the run is over.
 fn post_until<R: Wait>(
@@ -49,7 +47,7 @@ fn post_until<R: Wait>(
 
 /// Takes jobs, runs the body and posts how each ended, until the run is over or an exit can't be posted. The asker has
 /// learnt a job's ticket before its body runs.
-pub fn work<N: Name, S: Starter + Drop, P: Wait + Drop, B: Body, R: Wait>(
+pub fn work<N: Name, B: Body, R: Wait>(
     rt: &R,
     jobs: &Jobs<N>,
     inbox: &Inbox,
@@ -58,7 +56,7 @@ pub fn work<N: Name, S: Starter + Drop, P: Wait + Drop, B: Body, R: Wait>(
     turns: u64,
     hand: Hand<N>,
     poster: Poster,
-    asker: Asker<'_, N, S, P>,
+    asker: Asker<N>,
 ) -> Finished<N>
     requires hand { hand ≡ record { queue = jobs.now; share = share 1 [] [] } }
     requires poster { (poster.inbox ≡ inbox.now.id) × (poster.posted ≡ []) }
@@ -92,22 +90,14 @@ pub fn work<N: Name, S: Starter + Drop, P: Wait + Drop, B: Body, R: Wait>(
 }
 
 /// Learns the job's ticket, and runs the body.
-fn run_job<N: Name, S: Starter + Drop, P: Wait + Drop, B: Body>(
-    body: &B,
-    job: Job<N>,
-    asker: &mut Asker<'_, N, S, P>,
-) -> InboxFull
+fn run_job<N: Name, B: Body>(body: &B, job: Job<N>, asker: &mut Asker<N>) -> InboxFull
     ensures child { (result.number ≡ job.number) × (result.arg ≡ job.arg) }
     ensures reason { B.may_end body.now job.number job.arg result.reason }
 {
-    let Job {
-        number,
-        arg,
-        ticket,
-        of: _,
-    } = job;
-    let _ = asker.learn(&ticket);
-    let reason = body.run(number, &arg, asker);
+    let number = job.number;
+    let arg = job.arg;
+    let _ = asker.learn(&job.ticket);
+    let reason = body.run(job, asker);
     InboxFull {
         number,
         arg,

@@ -9,6 +9,10 @@ use Rattle.sup_types.specs.declared.history.Entry.{Entry}
 use Rattle.sup_types.specs.declared.history.Reply.{Reply}
 use Rattle.sup_core.specs.Account.{entry_of, reply_after}
 
+-- what an asker knows: the front that it has seen
+pub record Asking : Type 0 where
+  pub front : List Entry
+
 -- a handle's number, the front that it has seen, and its own calls
 pub record Knowledge : Type 0 where
   pub number : ℕ

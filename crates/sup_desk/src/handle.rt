@@ -1,5 +1,5 @@
 //! Handles: the callers of a desk.
-ghost use Rattle.std.specs.Prelude.{◌≡◌, ◌≤◌, ◌<◌, [], length, take, drop, IfOk, IsOk, OnOk, OnErr, IfErr, IfSome, IfNone, IsTrue, ◌↔◌, ◌+◌, true, false};
+ghost use Rattle.std.specs.Prelude.{◌≡◌, ◌≤◌, ◌<◌, ◌++◌, [], length, take, drop, IfOk, IsOk, OnOk, OnErr, IfErr, IfSome, IfNone, IsTrue, ◌↔◌, ◌+◌, true, false};
 ghost use mathlib.Core.List.{IsPrefix};
 ghost use Rattle.sup_core.specs.State.{MatchSeen};
 ghost use Rattle.sup_core.specs.Queries.{which, count, child};
@@ -10,12 +10,13 @@ ghost use Rattle.sup_desk.specs.Batches.{IsApplied};
 ghost use Rattle.sup_desk.specs.Books.{IsSplit};
 ghost use Rattle.sup_desk.specs.Audits.{AreNumbered, IsGrown, HasSeenAll};
 
+use crate::asker::Asker;
 use crate::book::Book;
+use crate::caller::Caller;
 use crate::desk::Desk;
 use crate::faults::{QueryFault, TicketFault, UpdateFault};
 use crate::laws::{Done, Rest, enter, enter_all, give_ticket};
 use crate::name::Name;
-use crate::pass::Pass;
 use std::alloc::{Allocator, Global};
 use std::collections::VecDeque;
 use std::marker::Model;
@@ -40,25 +41,34 @@ pub struct Part<A: Allocator = Global> {
     pub fault: UpdateFault,
 }
 
-/// A caller of the desk from which it is borrowed. It may be moved to one thread.
+/// A caller of the desk from which it is borrowed: an asker, beside a borrow of the desk `D`. It may be moved to one
+/// thread. Its queries are its asker's: they take no lock, and each is proved to return.
 #[derive(Drop)]
-pub struct Handle<'d, N: Name, S: Starter + Drop, R: Wait + Drop> {
-    pub(crate) pass: Pass<N>,
-    pub(crate) desk: &'d Desk<N, S, R>,
+pub struct HandleOf<'d, N: Name, D> {
+    pub(crate) number: u64,
+    pub(crate) asker: Asker<N>,
+    pub(crate) calls: u64,
+    pub(crate) desk: &'d D,
 }
 
-impl<'d, N: Name, S: Starter + Drop, R: Wait + Drop> Model for Handle<'d, N, S, R> {
-    ghost use Rattle.sup_desk.specs.Knowledge.{Knowledge};
+/// A handle of a desk with this starter, whose publications wait by R.
+pub type Handle<'d, N, S, R> = HandleOf<'d, N, Desk<N, S, R>>;
+
+impl<'d, N: Name, D> Model for HandleOf<'d, N, D> {
+    ghost use Rattle.std.specs.Prelude.{◌≡◌, ◌≤◌, length, take};
+    ghost use Rattle.sup_desk.specs.Knowledge.{Knowledge, entries_of};
 
     ghost Value = { Knowledge };
 
-    ghost view = { λ h. h.pass };
+    ghost view = { λ h. record { number = h.number; front = h.asker.front; calls = take h.calls (entries_of h.asker.front h.number) } };
+
+    ghost invariant = { λ h. h.calls ≤ length (entries_of h.asker.front h.number) };
 }
 
 /// Updates. Each waits for the lock, learns all that is published, and is entered in the history at once: its reply is
 /// that of a supervisor of one thread after a history that begins with all that the handle had seen, learnt or done.
 /// The start function is asked under the lock. After a refusal the history and every published answer are as before.
-impl<'d, N: Name, S: Starter + Drop, R: Wait + Drop> Handle<'d, N, S, R> {
+impl<'d, N: Name, S: Starter + Drop, R: Wait + Drop> HandleOf<'d, N, Desk<N, S, R>> {
     /// Starts a child with this argument, at this moment in seconds.
     pub fn start_child<W: Wait>(
         &mut self,
@@ -155,10 +165,11 @@ impl<'d, N: Name, S: Starter + Drop, R: Wait + Drop> Handle<'d, N, S, R> {
         ensures full { IfErr result (λ e. e ≡ UpdateFault.HistoryFull → (length self.new.front ≡ N.template.entries) × (entries_of self.new.front self.new.number ≡ self.new.calls)) }
         ensures memory { IfErr result (λ e. e ≡ UpdateFault.OutOfMemory → entries_of self.new.front self.new.number ≡ self.new.calls) }
     {
+        let desk = self.desk;
         enter(
-            &mut *self.desk.book.lock(rt),
-            &self.desk.starter,
-            &mut self.pass,
+            &mut *desk.book.lock(rt),
+            &desk.starter,
+            self,
             moment,
             operation,
         )
@@ -195,10 +206,11 @@ impl<'d, N: Name, S: Starter + Drop, R: Wait + Drop> Handle<'d, N, S, R> {
                 fault: UpdateFault::OutOfMemory,
             });
         };
+        let desk = self.desk;
         let entered = enter_all(
-            &mut *self.desk.book.lock(rt),
-            &self.desk.starter,
-            &mut self.pass,
+            &mut *desk.book.lock(rt),
+            &desk.starter,
+            self,
             moment,
             operations,
             &mut replies,
@@ -215,8 +227,8 @@ impl<'d, N: Name, S: Starter + Drop, R: Wait + Drop> Handle<'d, N, S, R> {
     }
 }
 
-/// What takes no lock but for `ticket`.
-impl<'d, N: Name, S: Starter + Drop, R: Wait + Drop> Handle<'d, N, S, R> {
+/// Tickets.
+impl<'d, N: Name, S: Starter + Drop, R: Wait + Drop> HandleOf<'d, N, Desk<N, S, R>> {
     /// A ticket for all of the history, which the handle has then seen. Its calls are all that stand there under its
     /// number. It waits for the lock.
     pub fn ticket<W: Wait>(&mut self, rt: &W) -> Result<Ticket, TicketFault>
@@ -225,7 +237,8 @@ impl<'d, N: Name, S: Starter + Drop, R: Wait + Drop> Handle<'d, N, S, R> {
         ensures calls { (self.new.calls ≡ self.old.calls) × (self.new.number ≡ self.old.number) }
         ensures gone { IfErr result (λ e. e ≡ TicketFault.Gone → ⊥) }
     {
-        give_ticket(&*self.desk.book.lock(rt), &mut self.pass)
+        let desk = self.desk;
+        give_ticket(&*desk.book.lock(rt), self)
     }
 
     /// A ticket for all of the history of this book, which the handle has then seen.
@@ -234,18 +247,77 @@ impl<'d, N: Name, S: Starter + Drop, R: Wait + Drop> Handle<'d, N, S, R> {
         ensures split { OnErr result (IsSplit book.now self.new) }
         ensures grown { IsGrown self.old self.new }
     {
-        give_ticket(book, &mut self.pass)
+        give_ticket(book, self)
     }
+}
 
+/// What takes no lock and never waits.
+impl<'d, N: Name, D> HandleOf<'d, N, D> {
     /// Its number: 1, 2, 3, .. in the order of making.
     pub fn number(&self) -> u64
         ensures { result ≡ self.now.number }
     {
-        self.pass.number()
+        self.number
+    }
+
+    /// The handle without its desk, and the desk.
+    pub fn unbind(self) -> (Caller<N>, &'d D)
+        ensures { result.0 ≡ self.entry }
+    {
+        let HandleOf {
+            number,
+            asker,
+            calls,
+            desk,
+        } = self;
+        let caller = Caller {
+            number,
+            asker,
+            calls,
+        };
+        (caller, desk)
+    }
+
+    /// The handle of this desk that the caller was.
+    pub(crate) fn of(caller: Caller<N>, desk: &'d D) -> HandleOf<'d, N, D>
+        ensures { result ≡ caller }
+    {
+        let Caller {
+            number,
+            asker,
+            calls,
+        } = caller;
+        HandleOf {
+            number,
+            asker,
+            calls,
+            desk,
+        }
+    }
+
+    /// How many calls it has made.
+    pub(crate) fn calls(&self) -> u64
+        ensures count { result ≡ length self.now.calls }
+        ensures first { self.now.calls ≡ take (length self.now.calls) (entries_of self.now.front self.now.number) }
+    {
+        self.calls
+    }
+
+    /// Takes a ticket's front for its own, which is its front and more calls, all of its own.
+    pub(crate) fn adopt(&mut self, told: &Ticket)
+        requires press { told.now.press ≡ N.press }
+        requires front { IsPrefix self.old.front told.now.front }
+        requires whole { entries_of self.old.front self.old.number ≡ self.old.calls }
+        requires mine { entries_of (drop (length self.old.front) told.now.front) self.old.number ≡ drop (length self.old.front) told.now.front }
+        ensures { self.new ≡ record { number = self.old.number; front = told.now.front; calls = self.old.calls ++ drop (length self.old.front) told.now.front } }
+    {
+        let more = told.stamp() - self.asker.front();
+        let _ = self.asker.learn(told);
+        self.calls += more;
     }
 
     /// Whether these are handle 1, handle 2, .., in the order of making, as an audit asks for them.
-    pub fn are_in_order(handles: &[Handle<'d, N, S, R>]) -> bool
+    pub fn are_in_order(handles: &[HandleOf<'d, N, D>]) -> bool
         ensures { IsTrue result ↔ AreNumbered handles.now }
     {
         for (place, handle) in handles.iter().enumerate() {
@@ -260,7 +332,7 @@ impl<'d, N: Name, S: Starter + Drop, R: Wait + Drop> Handle<'d, N, S, R> {
     pub fn front(&self) -> u64
         ensures { result ≡ length self.now.front }
     {
-        self.pass.front()
+        self.asker.front()
     }
 
     /// How many children there are at one front, which begins with all that the handle had seen, learnt or done.
@@ -269,7 +341,7 @@ impl<'d, N: Name, S: Starter + Drop, R: Wait + Drop> Handle<'d, N, S, R> {
         ensures calls { (self.new.calls ≡ self.old.calls) × (self.new.number ≡ self.old.number) }
         ensures answer { IfOk result (λ answer. answer ≡ count N.template self.new.front) }
     {
-        self.pass.count_children()
+        self.asker.count_children()
     }
 
     /// The listed child with this number at such a front.
@@ -278,7 +350,7 @@ impl<'d, N: Name, S: Starter + Drop, R: Wait + Drop> Handle<'d, N, S, R> {
         ensures calls { (self.new.calls ≡ self.old.calls) × (self.new.number ≡ self.old.number) }
         ensures answer { IfOk result (λ answer. answer ≡ child N.template self.new.front number) }
     {
-        self.pass.child(number)
+        self.asker.child(number)
     }
 
     /// The listed children at such a front, by ascending numbers.
@@ -287,7 +359,7 @@ impl<'d, N: Name, S: Starter + Drop, R: Wait + Drop> Handle<'d, N, S, R> {
         ensures calls { (self.new.calls ≡ self.old.calls) × (self.new.number ≡ self.old.number) }
         ensures answer { IfOk result (λ seen. MatchSeen seen (λ rows. which N.template self.new.front ≡ Seen.Up rows.items) (which N.template self.new.front ≡ Seen.Down)) }
     {
-        self.pass.which_children()
+        self.asker.which_children()
     }
 
     /// Calls `f` once on a view at such a front, and not at all where the supervisor is down. `f` may make no update,
@@ -299,7 +371,7 @@ impl<'d, N: Name, S: Starter + Drop, R: Wait + Drop> Handle<'d, N, S, R> {
         ensures answer { let view = sight (record { press = N.press; template = N.template; front = self.new.front })
             in IfOk result (λ seen. IsAnswered F.FnOnce f view view.standing.down seen) }
     {
-        self.pass.inspect(f)
+        self.asker.inspect(f)
     }
 
     /// From now on its front begins with the ticket's, which is of the same desk. It enters nothing and always succeeds.
@@ -310,7 +382,7 @@ impl<'d, N: Name, S: Starter + Drop, R: Wait + Drop> Handle<'d, N, S, R> {
         ensures calls { (self.new.calls ≡ self.old.calls) × (self.new.number ≡ self.old.number) }
         ensures learnt { IsPrefix ticket.now.front self.new.front }
     {
-        self.pass.learn(ticket)
+        self.asker.learn(ticket)
     }
 
     /// A termination names a process and no identifier.

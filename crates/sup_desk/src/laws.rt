@@ -10,16 +10,18 @@ ghost use Rattle.sup_desk.specs.Audits.{AreNumbered, AreGrown, HaveSeenAll, IsAn
 ghost use Rattle.sup_desk.specs.Batches.{batch_of, IsApplied};
 ghost use Rattle.std.specs.VecDeque.{deque_len};
 
+use crate::asker::Asker;
 use crate::book::Book;
+use crate::caller::Caller;
+use crate::desk::Desk;
 use crate::faults::{HandleFault, TicketFault, UpdateFault};
-use crate::handle::Handle;
+use crate::handle::HandleOf;
 use crate::leaf::Leaf;
 use crate::name::Name;
-use crate::pass::Pass;
 use std::alloc::Allocator;
 use std::collections::VecDeque;
 use std::sync::Wait;
-use sup_log::Ticket;
+use sup_log::{NoPlace, Ticket};
 use sup_types::{Answer, Entry, Operation, Reply, Starter};
 
 /// An update that was entered: its reply, and a ticket for the history up to and with it.
@@ -30,17 +32,20 @@ pub struct Done {
 }
 
 /// Lets the handle see all of the history, in which its calls are all that stand under its number. A ticket for it.
-fn meet<N: Name, R: Wait + Drop>(book: &Book<N, R>, pass: &mut Pass<N>) -> Option<Ticket>
-    ensures met { IfSome result (λ t. (pass.new.front ≡ book.now.history) × (entries_of pass.new.front pass.new.number ≡ pass.new.calls) × IsMade book.now.made pass.new.number) }
-    ensures told { IfSome result (λ t. (t.front ≡ pass.new.front) × (t.press ≡ N.press)) }
-    ensures split { IfNone result (IsSplit book.now pass.new) }
-    ensures learnt { IsPrefix book.now.history pass.new.front }
-    ensures front { IsPrefix pass.old.front pass.new.front }
-    ensures calls { (pass.new.calls ≡ pass.old.calls) × (pass.new.number ≡ pass.old.number) }
+fn meet<N: Name, D, R: Wait + Drop>(
+    book: &Book<N, R>,
+    handle: &mut HandleOf<'_, N, D>,
+) -> Option<Ticket>
+    ensures met { IfSome result (λ t. (handle.new.front ≡ book.now.history) × (entries_of handle.new.front handle.new.number ≡ handle.new.calls) × IsMade book.now.made handle.new.number) }
+    ensures told { IfSome result (λ t. (t.front ≡ handle.new.front) × (t.press ≡ N.press)) }
+    ensures split { IfNone result (IsSplit book.now handle.new) }
+    ensures learnt { IsPrefix book.now.history handle.new.front }
+    ensures front { IsPrefix handle.old.front handle.new.front }
+    ensures calls { (handle.new.calls ≡ handle.old.calls) × (handle.new.number ≡ handle.old.number) }
 {
     let ticket = book.leaf.tell();
-    let _ = pass.learn(&ticket);
-    if book.leaf.ties(pass) {
+    let _ = handle.learn(&ticket);
+    if book.leaf.ties(handle) {
         Some(ticket)
     } else {
         None
@@ -84,44 +89,44 @@ fn write<N: Name, S: Starter, R: Wait + Drop>(
 }
 
 /// Enters an update of the handle in the book.
-pub fn enter<N: Name, S: Starter, R: Wait + Drop>(
+pub fn enter<N: Name, D, S: Starter, R: Wait + Drop>(
     book: &mut Book<N, R>,
     starter: &S,
-    pass: &mut Pass<N>,
+    handle: &mut HandleOf<'_, N, D>,
     moment: u64,
     operation: Operation,
 ) -> Result<Done, UpdateFault>
-    ensures ok { IfOk result (λ d. IsUpdated S.answer N.template pass.old operation moment pass.new d.reply d.ticket.front) }
+    ensures ok { IfOk result (λ d. IsUpdated S.answer N.template handle.old operation moment handle.new d.reply d.ticket.front) }
     ensures press { IfOk result (λ d. d.ticket.press ≡ N.press) }
-    ensures front { IsPrefix pass.old.front pass.new.front }
-    ensures calls { OnErr result ((pass.new.calls ≡ pass.old.calls) × (pass.new.number ≡ pass.old.number)) }
+    ensures front { IsPrefix handle.old.front handle.new.front }
+    ensures calls { OnErr result ((handle.new.calls ≡ handle.old.calls) × (handle.new.number ≡ handle.old.number)) }
 
     // What the book is then.
-    ensures entered { OnOk result (book.new ≡ record book.old { history = book.old.history ++ next_entry S.answer N.template book.old.history pass.old operation moment ∷ []; editions = book.old.editions + 1 }) }
-    ensures seen { OnOk result (pass.new.front ≡ book.new.history) }
+    ensures entered { OnOk result (book.new ≡ record book.old { history = book.old.history ++ next_entry S.answer N.template book.old.history handle.old operation moment ∷ []; editions = book.old.editions + 1 }) }
+    ensures seen { OnOk result (handle.new.front ≡ book.new.history) }
     ensures kept { OnErr result (book.new ≡ book.old) }
 
     // When each refusal comes.
-    ensures learnt { IsPrefix book.old.history pass.new.front }
+    ensures learnt { IsPrefix book.old.history handle.new.front }
     ensures gone { IfErr result (λ e. e ≡ UpdateFault.Gone → ⊥) }
-    ensures split { IfErr result (λ e. e ≡ UpdateFault.Split → IsSplit book.old pass.new) }
-    ensures full { IfErr result (λ e. e ≡ UpdateFault.HistoryFull → (length pass.new.front ≡ N.template.entries) × (entries_of pass.new.front pass.new.number ≡ pass.new.calls)) }
-    ensures memory { IfErr result (λ e. e ≡ UpdateFault.OutOfMemory → entries_of pass.new.front pass.new.number ≡ pass.new.calls) }
+    ensures split { IfErr result (λ e. e ≡ UpdateFault.Split → IsSplit book.old handle.new) }
+    ensures full { IfErr result (λ e. e ≡ UpdateFault.HistoryFull → (length handle.new.front ≡ N.template.entries) × (entries_of handle.new.front handle.new.number ≡ handle.new.calls)) }
+    ensures memory { IfErr result (λ e. e ≡ UpdateFault.OutOfMemory → entries_of handle.new.front handle.new.number ≡ handle.new.calls) }
 {
-    if meet(book, pass).is_none() {
+    if meet(book, handle).is_none() {
         return Err(UpdateFault::Split);
     }
     let reply = write(
         &mut book.leaf,
         starter,
-        pass.number(),
-        pass.calls(),
+        handle.number(),
+        handle.calls(),
         moment,
         operation,
     )?;
     book.leaf.publish();
     let ticket = book.leaf.tell();
-    pass.adopt(&ticket);
+    handle.adopt(&ticket);
     Ok(Done { reply, ticket })
 }
 
@@ -158,35 +163,35 @@ fn write_all<N: Name, S: Starter, R: Wait + Drop, A: Allocator>(
 }
 
 /// The same for a handle that has seen all of the history, with the fault that ended it.
-fn enter_met<N: Name, S: Starter, R: Wait + Drop, A: Allocator>(
+fn enter_met<N: Name, D, S: Starter, R: Wait + Drop, A: Allocator>(
     book: &mut Book<N, R>,
     starter: &S,
-    pass: &mut Pass<N>,
+    handle: &mut HandleOf<'_, N, D>,
     moment: u64,
     operations: &mut VecDeque<Operation>,
     replies: &mut Vec<Reply, A>,
 ) -> (Ticket, Option<UpdateFault>)
     requires none { vec_len replies.old ≡ 0 }
     requires room { deque_len operations.old ≤ vec_capacity replies.old }
-    requires front { pass.old.front ≡ book.old.history }
-    requires whole { entries_of book.old.history pass.old.number ≡ pass.old.calls }
-    requires made { IsMade book.old.made pass.old.number }
-    ensures book { let done = batch_of S.answer N.template book.old.history pass.old.number (length pass.old.calls) moment (take (length replies.new.items) operations.old.items)
+    requires front { handle.old.front ≡ book.old.history }
+    requires whole { entries_of book.old.history handle.old.number ≡ handle.old.calls }
+    requires made { IsMade book.old.made handle.old.number }
+    ensures book { let done = batch_of S.answer N.template book.old.history handle.old.number (length handle.old.calls) moment (take (length replies.new.items) operations.old.items)
         in book.new ≡ record book.old { history = book.old.history ++ done.entries; editions = book.old.editions + has_any done.entries } }
-    ensures pass { let done = batch_of S.answer N.template book.old.history pass.old.number (length pass.old.calls) moment (take (length replies.new.items) operations.old.items)
-        in pass.new ≡ record { number = pass.old.number; front = book.old.history ++ done.entries; calls = pass.old.calls ++ done.entries } }
-    ensures told { (result.0.front ≡ pass.new.front) × (result.0.press ≡ N.press) }
-    ensures replies { replies.new.items ≡ (batch_of S.answer N.template book.old.history pass.old.number (length pass.old.calls) moment (take (length replies.new.items) operations.old.items)).replies }
+    ensures handle { let done = batch_of S.answer N.template book.old.history handle.old.number (length handle.old.calls) moment (take (length replies.new.items) operations.old.items)
+        in handle.new ≡ record { number = handle.old.number; front = book.old.history ++ done.entries; calls = handle.old.calls ++ done.entries } }
+    ensures told { (result.0.front ≡ handle.new.front) × (result.0.press ≡ N.press) }
+    ensures replies { replies.new.items ≡ (batch_of S.answer N.template book.old.history handle.old.number (length handle.old.calls) moment (take (length replies.new.items) operations.old.items)).replies }
     ensures rest { operations.new.items ≡ drop (length replies.new.items) operations.old.items }
     ensures all { IfNone result.1 (operations.new.items ≡ []) }
-    ensures full { IfSome result.1 (λ e. e ≡ UpdateFault.HistoryFull → length pass.new.front ≡ N.template.entries) }
+    ensures full { IfSome result.1 (λ e. e ≡ UpdateFault.HistoryFull → length handle.new.front ≡ N.template.entries) }
     ensures faults { IfSome result.1 (λ e. (e ≡ UpdateFault.Gone → ⊥) × (e ≡ UpdateFault.Split → ⊥)) }
 {
     let leaf = &mut book.leaf;
-    let fault = write_all(leaf, starter, pass.number(), moment, operations, replies);
+    let fault = write_all(leaf, starter, handle.number(), moment, operations, replies);
     leaf.publish();
     let ticket = leaf.tell();
-    pass.adopt(&ticket);
+    handle.adopt(&ticket);
     (ticket, fault)
 }
 
@@ -199,40 +204,40 @@ pub struct Rest {
 
 /// Enters the operations of a queue as updates of the handle, each of which then leaves it, up to the first fault, and
 /// publishes them in one step. The replies need no memory: their room was made before.
-pub fn enter_all<N: Name, S: Starter, R: Wait + Drop, A: Allocator>(
+pub fn enter_all<N: Name, D, S: Starter, R: Wait + Drop, A: Allocator>(
     book: &mut Book<N, R>,
     starter: &S,
-    pass: &mut Pass<N>,
+    handle: &mut HandleOf<'_, N, D>,
     moment: u64,
     operations: &mut VecDeque<Operation>,
     replies: &mut Vec<Reply, A>,
 ) -> Result<Ticket, Rest>
     requires none { vec_len replies.old ≡ 0 }
     requires room { deque_len operations.old ≤ vec_capacity replies.old }
-    ensures ok { IfOk result (λ t. IsApplied S.answer N.template pass.old operations.old.items moment pass.new replies.new.items t.front × (t.press ≡ N.press)) }
-    ensures part { IfErr result (λ r. IfSome r.ticket (λ t. IsApplied S.answer N.template pass.old (take (length replies.new.items) operations.old.items) moment pass.new replies.new.items t.front × (t.press ≡ N.press) × (0 < length replies.new.items))) }
-    ensures nothing { IfErr result (λ r. IfNone r.ticket ((replies.new.items ≡ []) × (pass.new.calls ≡ pass.old.calls) × (pass.new.number ≡ pass.old.number) × (book.new ≡ book.old))) }
+    ensures ok { IfOk result (λ t. IsApplied S.answer N.template handle.old operations.old.items moment handle.new replies.new.items t.front × (t.press ≡ N.press)) }
+    ensures part { IfErr result (λ r. IfSome r.ticket (λ t. IsApplied S.answer N.template handle.old (take (length replies.new.items) operations.old.items) moment handle.new replies.new.items t.front × (t.press ≡ N.press) × (0 < length replies.new.items))) }
+    ensures nothing { IfErr result (λ r. IfNone r.ticket ((replies.new.items ≡ []) × (handle.new.calls ≡ handle.old.calls) × (handle.new.number ≡ handle.old.number) × (book.new ≡ book.old))) }
     ensures rest { operations.new.items ≡ drop (length replies.new.items) operations.old.items }
     ensures all { OnOk result (operations.new.items ≡ []) }
-    ensures front { IsPrefix pass.old.front pass.new.front }
+    ensures front { IsPrefix handle.old.front handle.new.front }
 
     // What the book is then.
-    ensures entered { (book.new.history ≡ book.old.history ++ (batch_of S.answer N.template book.old.history pass.old.number (length pass.old.calls) moment (take (length replies.new.items) operations.old.items)).entries) × (book.new.made ≡ book.old.made) × (book.new.handles ≡ book.old.handles) }
-    ensures edition { book.new.editions ≡ book.old.editions + has_any (batch_of S.answer N.template book.old.history pass.old.number (length pass.old.calls) moment (take (length replies.new.items) operations.old.items)).entries }
+    ensures entered { (book.new.history ≡ book.old.history ++ (batch_of S.answer N.template book.old.history handle.old.number (length handle.old.calls) moment (take (length replies.new.items) operations.old.items)).entries) × (book.new.made ≡ book.old.made) × (book.new.handles ≡ book.old.handles) }
+    ensures edition { book.new.editions ≡ book.old.editions + has_any (batch_of S.answer N.template book.old.history handle.old.number (length handle.old.calls) moment (take (length replies.new.items) operations.old.items)).entries }
 
     // When each refusal comes.
-    ensures learnt { IsPrefix book.old.history pass.new.front }
+    ensures learnt { IsPrefix book.old.history handle.new.front }
     ensures gone { IfErr result (λ r. r.fault ≡ UpdateFault.Gone → ⊥) }
-    ensures split { IfErr result (λ r. r.fault ≡ UpdateFault.Split → (replies.new.items ≡ []) × IsSplit book.old pass.new) }
-    ensures full { IfErr result (λ r. r.fault ≡ UpdateFault.HistoryFull → length pass.new.front ≡ N.template.entries) }
+    ensures split { IfErr result (λ r. r.fault ≡ UpdateFault.Split → (replies.new.items ≡ []) × IsSplit book.old handle.new) }
+    ensures full { IfErr result (λ r. r.fault ≡ UpdateFault.HistoryFull → length handle.new.front ≡ N.template.entries) }
 {
-    if meet(book, pass).is_none() {
+    if meet(book, handle).is_none() {
         return Err(Rest {
             ticket: None,
             fault: UpdateFault::Split,
         });
     }
-    let (ticket, fault) = enter_met(book, starter, pass, moment, operations, replies);
+    let (ticket, fault) = enter_met(book, starter, handle, moment, operations, replies);
     let Some(fault) = fault else {
         return Ok(ticket);
     };
@@ -249,23 +254,23 @@ pub fn enter_all<N: Name, S: Starter, R: Wait + Drop, A: Allocator>(
 }
 
 /// Gives the handle a ticket for all of the history, in which its calls are all that stand under its number.
-pub fn give_ticket<N: Name, R: Wait + Drop>(
+pub fn give_ticket<N: Name, D, R: Wait + Drop>(
     book: &Book<N, R>,
-    pass: &mut Pass<N>,
+    handle: &mut HandleOf<'_, N, D>,
 ) -> Result<Ticket, TicketFault>
-    ensures ok { IfOk result (λ t. (pass.new.front ≡ book.now.history) × (entries_of pass.new.front pass.new.number ≡ pass.new.calls) × (t.front ≡ pass.new.front) × (t.press ≡ N.press)) }
-    ensures front { IsPrefix pass.old.front pass.new.front }
-    ensures calls { (pass.new.calls ≡ pass.old.calls) × (pass.new.number ≡ pass.old.number) }
-    ensures learnt { IsPrefix book.now.history pass.new.front }
+    ensures ok { IfOk result (λ t. (handle.new.front ≡ book.now.history) × (entries_of handle.new.front handle.new.number ≡ handle.new.calls) × (t.front ≡ handle.new.front) × (t.press ≡ N.press)) }
+    ensures front { IsPrefix handle.old.front handle.new.front }
+    ensures calls { (handle.new.calls ≡ handle.old.calls) × (handle.new.number ≡ handle.old.number) }
+    ensures learnt { IsPrefix book.now.history handle.new.front }
     ensures gone { IfErr result (λ e. e ≡ TicketFault.Gone → ⊥) }
-    ensures split { OnErr result (IsSplit book.now pass.new) }
+    ensures split { OnErr result (IsSplit book.now handle.new) }
 {
-    meet(book, pass).ok_or(TicketFault::Split)
+    meet(book, handle).ok_or(TicketFault::Split)
 }
 
-/// Makes a handle's pass. It has seen all of the history, and no entry is its own.
-pub fn add_handle<N: Name, R: Wait + Drop>(book: &mut Book<N, R>) -> Result<Pass<N>, HandleFault>
-    ensures ok { IfOk result (λ p. (p ≡ record { number = book.old.made + 1; front = book.old.history; calls = [] }) × (entries_of p.front p.number ≡ [])) }
+/// Makes the caller of a handle. It has seen all of the history, and no entry is its own.
+pub fn add_handle<N: Name, R: Wait + Drop>(book: &mut Book<N, R>) -> Result<Caller<N>, HandleFault>
+    ensures ok { IfOk result (λ c. (c ≡ record { number = book.old.made + 1; front = book.old.history; calls = [] }) × (entries_of c.front c.number ≡ [])) }
     ensures added { OnOk result (book.new ≡ record book.old { made = book.old.made + 1 }) }
     ensures err { OnErr result (book.new ≡ book.old) }
     ensures none { (result ≡ Err HandleFault.NoHandle) ↔ (book.old.made ≡ book.old.handles) }
@@ -275,16 +280,24 @@ pub fn add_handle<N: Name, R: Wait + Drop>(book: &mut Book<N, R>) -> Result<Pass
     }
     let number = book.leaf.made() + 1;
     match book.leaf.add() {
-        Ok(lens) => Ok(Pass::begin(number, lens)),
+        Ok(lens) => Ok(Caller::begin(number, Asker::begin(lens))),
         Err(_) => Err(HandleFault::NoPlace),
     }
+}
+
+/// Makes an asker. It has seen all of the history, and the book is as it was.
+pub fn add_asker<N: Name, R: Wait + Drop>(book: &mut Book<N, R>) -> Result<Asker<N>, NoPlace>
+    ensures ok { IfOk result (λ a. a.front ≡ book.old.history) }
+    ensures same { book.new ≡ book.old }
+{
+    Ok(Asker::begin(book.leaf.lens()?))
 }
 
 /// Lets the handles see all of the history, and shows that it is their calls and nothing else: they are as many as were
 /// made, in the order of making. After a refusal they may have seen more.
 pub fn audit<N: Name, S: Starter + Drop, R: Wait + Drop>(
     book: &Book<N, R>,
-    handles: &mut [Handle<'_, N, S, R>],
+    handles: &mut [HandleOf<'_, N, Desk<N, S, R>>],
 ) -> Result<Ticket, TicketFault>
     requires { AreNumbered handles.old }
     ensures all { OnOk result (length handles.new ≡ book.now.made) }

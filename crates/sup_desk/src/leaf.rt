@@ -7,8 +7,8 @@ ghost use Rattle.sup_log.specs.Tokens.{standing, has_any};
 ghost use Rattle.sup_desk.specs.Knowledge.{entries_of};
 ghost use Rattle.sup_desk.specs.Books.{IsMade, IsSplit};
 
+use crate::handle::HandleOf;
 use crate::name::Name;
-use crate::pass::Pass;
 use std::marker::{Model, PhantomData};
 use std::sync::Wait;
 use sup_core::Sup;
@@ -95,6 +95,14 @@ impl<N: Name, R: Wait + Drop> Leaf<N, R> {
         Ok(lens)
     }
 
+    /// A lens that has seen all that was published. Nothing else has changed.
+    pub fn lens(&mut self) -> Result<Lens, NoPlace>
+        ensures ok { IfOk result (λ l. l ≡ record { press = N.press; template = N.template; front = self.old.published }) }
+        ensures same { self.new ≡ self.old }
+    {
+        self.press.lens()
+    }
+
     /// A ticket for all that was published.
     pub fn tell(&self) -> Ticket
         ensures { result ≡ record { press = N.press; front = self.now.published } }
@@ -103,16 +111,16 @@ impl<N: Name, R: Wait + Drop> Leaf<N, R> {
     }
 
     /// Whether the handle has seen no more than what is published, and made all entries under its number.
-    pub fn ties(&self, pass: &Pass<N>) -> bool
+    pub fn ties<D>(&self, handle: &HandleOf<'_, N, D>) -> bool
         requires none { self.now.pending ≡ [] }
-        requires learnt { IsPrefix self.now.published pass.now.front }
-        ensures tied { result ≡ true → (pass.now.front ≡ self.now.published) × (entries_of self.now.published pass.now.number ≡ pass.now.calls) × IsMade self.now.made pass.now.number }
-        ensures split { result ≡ false → IsSplit (record { history = self.now.published; made = self.now.made; handles = self.now.handles; editions = self.now.editions }) pass.now }
+        requires learnt { IsPrefix self.now.published handle.now.front }
+        ensures tied { result ≡ true → (handle.now.front ≡ self.now.published) × (entries_of self.now.published handle.now.number ≡ handle.now.calls) × IsMade self.now.made handle.now.number }
+        ensures split { result ≡ false → IsSplit (record { history = self.now.published; made = self.now.made; handles = self.now.handles; editions = self.now.editions }) handle.now }
     {
-        if pass.front() != self.sup.stamp() {
+        if handle.front() != self.sup.stamp() {
             return false;
         }
-        self.counts_as(pass.number(), pass.calls())
+        self.counts_as(handle.number(), handle.calls())
     }
 
     /// Whether so many entries were made under this number.

@@ -29,7 +29,9 @@
 #![tactic(auto)]
 
 mod answers;
+mod asker;
 mod book;
+mod caller;
 mod desk;
 mod faults;
 mod ground;
@@ -37,13 +39,13 @@ mod handle;
 pub mod laws;
 mod leaf;
 mod name;
-mod pass;
 
+pub use asker::Asker;
 pub use book::Book;
+pub use caller::Caller;
 pub use desk::Desk;
 pub use faults::{DeskFault, HandleFault, QueryFault, TicketFault, UpdateFault};
 pub use ground::Ground;
-pub use handle::{Dones, Handle, Part};
+pub use handle::{Dones, Handle, HandleOf, Part};
 pub use laws::{Done, Rest};
 pub use name::Name;
-pub use pass::Pass;

@@ -13,8 +13,8 @@ use std::marker::Brand;
 use std::sync::Wait;
 use std::thread::{JoinHandle, Threads};
 use std::{io, thread};
-use sup_crew::{Asker, Body, Plan, Reads, Report, read_turns, run_crew};
-use sup_desk::{Desk, Ground, Handle, Name};
+use sup_crew::{Body, Job, Plan, Reads, Report, read_turns, run_crew};
+use sup_desk::{Asker, Desk, Ground, Handle, Name};
 use sup_log::Gone;
 use sup_script::ScriptStarter;
 use sup_types::{Kind, Reason, Restart, Starter, Template, Text};
@@ -82,12 +82,7 @@ impl Body for EndsAtOnce {
 
     ghost may_end = { λ body number arg reason. reason ≡ Normal };
 
-    fn run<N: Name, S: Starter + Drop, R: Wait + Drop>(
-        &self,
-        _number: u64,
-        _arg: &Text,
-        _asker: &mut Asker<'_, N, S, R>,
-    ) -> Reason {
+    fn run<N: Name>(&self, _job: Job<N>, _asker: &mut Asker<N>) -> Reason {
         Reason::Normal
     }
 }

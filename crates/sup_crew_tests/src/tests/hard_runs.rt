@@ -10,9 +10,9 @@ use std::sync::Wait;
 use std::sync::atomic::{AtomicBool, Ordering};
 use std::test::*;
 use std::thread::{Threads, join, yield_now};
-use sup_crew::{Asker, Body, CrewFault, Plan, Report, run_crew};
-use sup_desk::{Desk, Ground, Handle, Name};
-use sup_types::{Reason, Reply, Seen, Starter, Text};
+use sup_crew::{Body, CrewFault, Job, Plan, Report, run_crew};
+use sup_desk::{Asker, Desk, Ground, Handle, Name};
+use sup_types::{Reason, Reply, Seen};
 
 /// How often another thread is waited for at most.
 const TURNS: u64 = 10_000_000;
@@ -28,12 +28,7 @@ impl Body for Waits {
 
     ghost may_end = { λ body number arg reason. reason ≡ Normal };
 
-    fn run<N: Name, S: Starter + Drop, R: Wait + Drop>(
-        &self,
-        _number: u64,
-        _arg: &Text,
-        _asker: &mut Asker<'_, N, S, R>,
-    ) -> Reason {
+    fn run<N: Name>(&self, _job: Job<N>, _asker: &mut Asker<N>) -> Reason {
         for _ in 0..TURNS {
             if self.ended.load(Ordering::SeqCst) {
                 break;

@@ -10,9 +10,9 @@ use std::sync::atomic::{AtomicBool, Ordering};
 use std::test::*;
 use std::thread;
 use std::thread::Threads;
-use sup_crew::{Asker, Body, CrewFault, Plan, Report, run_crew};
-use sup_desk::{Desk, Ground, Handle, Name, UpdateFault};
-use sup_types::{AutoShutdown, Kind, Reason, Restart, Seen, Starter, Template, Text};
+use sup_crew::{Body, CrewFault, Job, Plan, Report, run_crew, run_crew_with};
+use sup_desk::{Asker, Desk, Ground, Handle, HandleOf, Name, UpdateFault};
+use sup_types::{AutoShutdown, Kind, Reason, Restart, Seen, Template};
 
 /// Each body ends at once, but for that of child 1 where it is to wait until that of child 2 has begun.
 #[derive(Drop)]
@@ -27,12 +27,8 @@ impl Body for Ends {
 
     ghost may_end = { λ body number arg reason. reason ≡ Normal };
 
-    fn run<N: Name, S: Starter + Drop, R: Wait + Drop>(
-        &self,
-        number: u64,
-        _arg: &Text,
-        _asker: &mut Asker<'_, N, S, R>,
-    ) -> Reason {
+    fn run<N: Name>(&self, job: Job<N>, _asker: &mut Asker<N>) -> Reason {
+        let number = job.number;
         if number == 2 {
             self.second.store(true, Ordering::SeqCst);
         }
@@ -388,4 +384,66 @@ pub fn run_with<R: Threads + Wait + Abort + Sync>(
 #[test]
 fn a_desk_with_too_few_handles_begins_no_run(rt: HostRuntime) {
     assert!(rt; run_with(&rt, rt.alloc(), 2) == Some(Err(CrewFault::NoHandle)));
+}
+
+/// One child, whose end is entered.
+const ONE: Row = Row {
+    children: 1,
+    workers: 1,
+    ..USUAL
+};
+
+/// Whether so many runs of one child, one after another, each entered its exit.
+fn run_again<N: Name + Send + Sync, R: Threads + Wait + Abort + Sync>(
+    rt: &R,
+    alloc: Global,
+    driver: &mut Handle<'_, N, Always, &R>,
+    runs: u64,
+) -> bool {
+    for _ in 0..runs {
+        let Some(plan) = plan(rt, alloc, &ONE) else {
+            return false;
+        };
+        match run_crew_with(rt, alloc, driver, &Ends::new(false), plan) {
+            Ok(report) => assert!(rt; report.exits == 1),
+            Err(_) => return false,
+        }
+    }
+    true
+}
+
+fn audit_runs<N: Name + Send + Sync, R: Threads + Wait + Abort + Sync>(
+    rt: &R,
+    alloc: Global,
+    desk: &Desk<N, Always, &R>,
+) -> Result<(), Fail> {
+    let mut handles = [desk.handle(rt)?];
+    assert!(rt; run_again(rt, alloc, &mut handles[0], 10_000));
+    if !HandleOf::are_in_order(&handles) {
+        return Err(Fail::from("the only handle"));
+    }
+    match desk.audit(rt, &mut handles) {
+        Ok(ticket) => assert!(rt; ticket.stamp() == 20_000),
+        Err(_) => panic!(rt; "an audit"),
+    }
+    Ok(())
+}
+
+fn run_on_and_on<N: Name + Send + Sync, R: Threads + Wait + Abort + Sync>(
+    rt: &R,
+    alloc: Global,
+    ground: Ground<&R>,
+) -> Result<(), Fail>
+    requires { (ground.press ≡ N.press) × (ground.template ≡ N.template) }
+{
+    let desk: Desk<N, Always, &R> = Desk::new(ground, Always);
+    let ran = audit_runs(rt, alloc, &desk);
+    ran
+}
+
+/// The driver's handle stays, and the askers of the workers give their places back.
+#[test]
+fn ten_thousand_runs_leave_an_audit_of_all(rt: HostRuntime) -> Result<(), Fail> {
+    let ground = Ground::new(rt.alloc(), &rt, template(&rt, &ONE), 2)?;
+    run_on_and_on::<Brand, HostRuntime>(&rt, rt.alloc(), ground)
 }

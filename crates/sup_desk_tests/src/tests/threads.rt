@@ -1,13 +1,13 @@
 //! Handles in threads of their own.
 ghost use Rattle.std.specs.Prelude.{◌≡◌};
 
-use super::{Always, ground, is_idle, made, template, text};
+use super::{Always, ground, is_idle, made, start, template, text};
 use std::marker::{Brand, PhantomData};
 use std::process::Abort;
 use std::sync::{Mutex, Wait};
 use std::test::*;
 use std::thread::{Threads, for_each_mut};
-use sup_desk::{Desk, Ground, Handle, Name, TicketFault};
+use sup_desk::{Asker, Desk, Ground, Handle, HandleOf, Name, TicketFault};
 use sup_log::Ticket;
 use sup_types::{Reply, Restart, Row, Seen, Text};
 
@@ -17,7 +17,7 @@ fn audited<'r, N: Name, R: Wait>(
     desk: &Desk<N, Always, &'r R>,
     handles: &mut [Handle<'_, N, Always, &'r R>],
 ) -> Option<Result<u64, TicketFault>> {
-    if !Handle::are_in_order(handles) {
+    if !HandleOf::are_in_order(handles) {
         return None;
     }
     match desk.audit(rt, handles) {
@@ -190,4 +190,46 @@ fn exchange_on<N: Name + Send + Sync, R: Threads + Wait + Abort + Sync>(rt: &R, 
 fn four_handles_exchange_tickets(rt: HostRuntime) {
     let template = template(&rt, Restart::Permanent, 4, 1 << 62);
     exchange_on::<Brand, HostRuntime>(&rt, ground(&rt, rt.alloc(), template, 4));
+}
+
+/// An asker that is made anew sees the only child, as often as one is made.
+fn ask_again<N: Name, R: Wait + Abort>(rt: &R, desk: &Desk<N, Always, &R>, times: u64) {
+    for _ in 0..times {
+        match desk.asker(rt) {
+            Ok(mut asker) => asks(rt, &mut asker),
+            Err(_) => panic!(rt; "a place for an asker"),
+        }
+    }
+}
+
+fn asks<N: Name>(rt: &impl Abort, asker: &mut Asker<N>) {
+    match asker.count_children() {
+        Ok(Seen::Up(counts)) => assert!(rt; counts.active == 1 && asker.front() == 1),
+        _ => panic!(rt; "one child"),
+    }
+}
+
+/// Askers come and go beside a handle, which is bound again and has all places but one. An audit counts no asker.
+fn come_and_go<'r, N: Name, R: Wait + Abort>(rt: &'r R, desk: &Desk<N, Always, &'r R>) {
+    let mut handle = made(rt, desk);
+    start(rt, &mut handle, 1);
+    ask_again(rt, desk, 2_000);
+    let (caller, _) = handle.unbind();
+    let mut handles = [desk.bind(caller)];
+    assert!(rt; audited(rt, desk, &mut handles) == Some(Ok(1)));
+    let last = desk.asker(rt);
+    assert!(rt; last.is_ok() && desk.asker(rt).is_err());
+}
+
+fn come_and_go_on<N: Name, R: Wait + Abort>(rt: &R, ground: Ground<&R>)
+    requires { (ground.press ≡ N.press) × (ground.template ≡ N.template) }
+{
+    let desk: Desk<N, Always, &R> = Desk::new(ground, Always);
+    come_and_go(rt, &desk);
+}
+
+#[test]
+fn askers_come_and_go(rt: HostRuntime) {
+    let template = template(&rt, Restart::Permanent, 4, 1 << 62);
+    come_and_go_on::<Brand, HostRuntime>(&rt, ground(&rt, rt.alloc(), template, 2));
 }

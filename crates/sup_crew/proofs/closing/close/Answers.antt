@@ -3,24 +3,25 @@ use Rattle.sup_inbox.specs.declared.note.Note.{Note}
 use Rattle.sup_inbox.specs.Ends.{AreOf}
 use Rattle.sup_inbox.proofs.Rows.{are_of}
 use Rattle.sup_crew.specs.declared.job.Child.{Child}
-use Rattle.sup_crew.specs.Calls.{calls_of, exits_in, starts_in, jobs_made, AreDriven}
+use Rattle.sup_core.specs.Account.{account}
+use Rattle.sup_crew.specs.Calls.{jobs_made}
 use Rattle.sup_crew.specs.Jobs.{weigh, children_of}
 use Rattle.sup_crew.specs.Joins.{taken_of}
-use Rattle.sup_crew.specs.Leads.{front_of}
-use Rattle.sup_crew.specs.Tallies.{tally_of}
+use Rattle.sup_crew.specs.Leads.{front_of, calls_since}
 use Rattle.sup_crew.specs.Work.{ended, AreEnds}
 use Rattle.sup_crew.proofs.Moves.{weigh-append}
+use Rattle.sup_crew.proofs.Right.{since-right}
 use Rattle.sup_crew.proofs.Reported.{own-others, own-left, named-entered, agree, none_unstarted}
 use Rattle.sup_crew.proofs.Sums.{hands, rows_of, posters-length, back_ends, taken-told, run_told, run_ends}
 use Rattle.sup_crew.proofs.Worked.{ended-append, are_ends-append, are_ends-split}
 use Rattle.sup_crew.proofs.closing.close.Goals as goal
 
 pub collect-hand-requires-clause-hands : goal.collect-hand-requires-clause-hands
-collect-hand-requires-clause-hands g c = hands _ _ _ _ _ c.requires.joined.worked
+collect-hand-requires-clause-hands g c = hands _ _ _ _ _ c.requires.joined.2.worked
 
 pub settle-requires-clause-posters : goal.settle-requires-clause-posters
 settle-requires-clause-posters g c =
-    let j = c.requires.joined in
+    let j = c.requires.joined.2 in
     let e = c.collect-hand.ensures.posters in
     let n = ap (λ l. length l) e ∙ posters-length c.args.joined.finished.items in
     let a = c.collect-hand.result.1.ok.0 in
@@ -30,8 +31,7 @@ settle-requires-clause-posters g c =
     (subst (AreOf c.args.inbox.id) (sym e) (are_of _ 1 _ (rows_of _ _ _ 1 _ j.worked)), omega (arith, n, a, b, t, k))
 
 pub returns : goal.returns
-returns g c =
-    let j = c.requires.joined in
+returns g c run after j =
     let l = j.led in
     let e = c.collect-hand.ensures in
     let took = c.end-taker.ensures in
@@ -42,8 +42,10 @@ returns g c =
     let unposted = c.collect-hand.result.2.items in
     let left = children_of c.read_all-left.result.items in
     let may_end = g.B.Body.may_end c.args.body.now in
-    let template = g.N.Name.template in
-    let front = front_of c.args.joined.ticket in
+    let ticket = c.args.joined.ticket in
+    let items = account run.template (front_of ticket) in
+    let cs = calls_since run.template run.before ticket in
+    let right = since-right run.template run.before ticket in
     let n = c.collect-hand.result.1.ok.0 ∙ ap (λ l. length l) e.posters ∙ posters-length rs in
     let tk = ap (λ t. t.taken) took.taker in
     let is_held : c.list_held.result.items ≡ held = c.list_held.ensures ∙ took.held in
@@ -51,12 +53,8 @@ returns g c =
     let parts = are_ends-split may_end (entered ++ held) inbox ends in
     let first = are_ends-split may_end entered held parts.0 in
     let back = subst (AreEnds may_end) (sym e.unposted) (back_ends _ _ _ 1 _ j.worked) in
-    let calls : calls_of template front j.knows.number ≡ calls_of template front c.args.joined.driver = ap (calls_of template front) j.number in
-    let driven = subst AreDriven calls l.driven in
-    let told = ap exits_in (sym calls) ∙ l.exits_are in
     let others : List Note = c.list_held.result.items ++ inbox ++ unposted in
-    let jobs : (h : Child → ℕ) → weigh h (jobs_made (calls_of template front c.args.joined.driver) entered) ≡ weigh h (ended entered) + (weigh h (ended others) + weigh h left) = λ h.
-    let m = ap (λ x. weigh h (jobs_made x entered)) calls in
+    let jobs : (h : Child → ℕ) → weigh h (jobs_made cs entered) ≡ weigh h (ended entered) + (weigh h (ended others) + weigh h left) = λ h.
     let a = l.jobs h in
     let r = c.read_all-left.ensures h in
     let p = ap (weigh h) e.hand.2 in
@@ -68,19 +66,23 @@ returns g c =
     let f = ap (λ l. weigh h (ended l)) is_held in
     let x = ap (weigh h) (ended-append (c.list_held.result.items ++ inbox) unposted) ∙ weigh-append h (ended (c.list_held.result.items ++ inbox)) (ended unposted) in
     let y = ap (weigh h) (ended-append c.list_held.result.items inbox) ∙ weigh-append h (ended c.list_held.result.items) (ended inbox) in
-    omega (arith, m, a, r, p, t, w, u, s, d, f, x, y)
+    omega (arith, a, r, p, t, w, u, s, d, f, x, y)
     in
     record {
       of_press = l.of_press;
-      driven = driven;
-      starts = (λ i. (ap starts_in (sym calls) ∙ l.starts) i ++ c.without_first.ensures i) ∙ take-append-drop c.args.joined.started c.args.children.items;
+      driver = j.driver ∙ l.called.number;
+      called = l.called;
+      whole = l.whole;
+      driven = l.driven;
+      starts = (λ i. l.starts i ++ c.without_first.ensures i) ∙ take-append-drop c.args.joined.started c.args.children.items;
       all = none_unstarted c.args.joined.fault c.args.joined.started c.args.children.items c.without_first.result.items c.without_first.ensures j.all;
-      named = named-entered template front c.args.joined.driver entered others left driven told jobs may_end first.0;
-      agree = agree template front c.args.joined.driver entered others left driven told jobs;
+      cause = j.cause;
+      named = named-entered items cs right entered others left l.driven l.exits_are jobs may_end first.0;
+      agree = agree items cs right entered others left l.driven l.exits_are jobs;
       own = (
-        own-others template front c.args.joined.driver entered others left driven told jobs,
-        own-left template front c.args.joined.driver entered others left driven told jobs,
+        own-others items cs right entered others left l.driven l.exits_are jobs,
+        own-left items cs right entered others left l.driven l.exits_are jobs,
       );
       ends = are_ends-append may_end (c.list_held.result.items ++ inbox) unposted (are_ends-append may_end c.list_held.result.items inbox (subst (AreEnds may_end) (sym is_held) first.1) parts.1) back;
-      counts = l.counts ∙ ap tally_of calls;
+      counts = l.counts;
     }

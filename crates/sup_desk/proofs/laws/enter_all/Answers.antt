@@ -12,7 +12,7 @@ use Rattle.sup_desk.proofs.laws.enter_all.Goals as goal
 pub returns-then-is_none-clause-entered : goal.returns-then-is_none-clause-entered
 returns-then-is_none-clause-entered g c =
     let book : Kept = c.args.book.now in
-    let pass : Knowledge = c.args.pass.now in
+    let pass : Knowledge = c.args.handle.now in
     let operations : List Operation = c.args.operations.now.items in
     let replies : List Reply = c.args.replies.now.items in
     let none : length replies ≡ 0 = omega (arith, c.args.replies.now.ok.0, c.requires.none) in
@@ -24,7 +24,7 @@ returns-then-is_none-clause-entered g c =
 pub returns-then-is_none-clause-edition : goal.returns-then-is_none-clause-edition
 returns-then-is_none-clause-edition g c =
     let book : Kept = c.args.book.now in
-    let pass : Knowledge = c.args.pass.now in
+    let pass : Knowledge = c.args.handle.now in
     let operations : List Operation = c.args.operations.now.items in
     let replies : List Reply = c.args.replies.now.items in
     let none : length replies ≡ 0 = omega (arith, c.args.replies.now.ok.0, c.requires.none) in
@@ -36,7 +36,7 @@ returns-then-is_none-clause-edition g c =
 pub returns-then-is_empty-clause-nothing : goal.returns-then-is_empty-clause-nothing
 returns-then-is_empty-clause-nothing g c =
     let book : Kept = c.args.book.now in
-    let pass : Knowledge = c.meet.new.pass in
+    let pass : Knowledge = c.meet.new.handle in
     let operations : List Operation = c.args.operations.now.items in
     let replies : List Reply = c.enter_met-ticket.new.replies.items in
     let none : length replies ≡ 0 = grind (arith, c.is_empty.ensures, c.if-is_empty.true, c.enter_met-ticket.new.replies.ok.0) in
@@ -49,7 +49,7 @@ returns-then-is_empty-clause-nothing g c =
     let editions : book.editions + has_any (batch_of g.S.Starter.answer g.N.Name.template book.history pass.number (length pass.calls) c.args.moment (take (length replies) operations)).entries ≡ book.editions =
     ap (λ (b : Batch). book.editions + has_any b.entries) empty ∙ add-zero book.editions in (
       nil_from_length replies none,
-      ap (λ (k : Knowledge). k.calls) met.pass ∙ ap (λ (b : Batch). pass.calls ++ b.entries) empty ∙ append-nil pass.calls ∙ c.meet.ensures.calls.0,
-      ap (λ (k : Knowledge). k.number) met.pass ∙ c.meet.ensures.calls.1,
+      ap (λ (k : Knowledge). k.calls) met.handle ∙ ap (λ (b : Batch). pass.calls ++ b.entries) empty ∙ append-nil pass.calls ∙ c.meet.ensures.calls.0,
+      ap (λ (k : Knowledge). k.number) met.handle ∙ c.meet.ensures.calls.1,
       met.book ∙ (λ i. record { history = history i; made = book.made; handles = book.handles; editions = editions i }),
     )

@@ -13,7 +13,7 @@ pub adopt-requires-clause-mine : goal.adopt-requires-clause-mine
 adopt-requires-clause-mine g c =
     let leaf : Written = c.book.inside.leaf in
     let book : Kept = c.args.book.now in
-    let pass : Knowledge = c.args.pass.now in
+    let pass : Knowledge = c.args.handle.now in
     let done : List Operation = take (length c.write_all-fault.new.replies.items) c.args.operations.now.items in
     let answer = g.S.Starter.answer in
     let template = g.N.Name.template in
@@ -31,7 +31,7 @@ pub adopt-requires-clause-front : goal.adopt-requires-clause-front
 adopt-requires-clause-front g c =
     let leaf : Written = c.book.inside.leaf in
     let book : Kept = c.args.book.now in
-    let pass : Knowledge = c.args.pass.now in
+    let pass : Knowledge = c.args.handle.now in
     let done : List Operation = take (length c.write_all-fault.new.replies.items) c.args.operations.now.items in
     let answer = g.S.Starter.answer in
     let template = g.N.Name.template in
@@ -43,11 +43,11 @@ adopt-requires-clause-front g c =
     ∙ ap (λ (w : Written). w.published ++ w.pending) c.write_all-fault.ensures.written ∙ all in
     (entered, ap (λ (l : List Entry). l ++ entered) c.requires.front ∙ sym front)
 
-pub returns-clause-pass : goal.returns-clause-pass
-returns-clause-pass g c =
+pub returns-clause-handle : goal.returns-clause-handle
+returns-clause-handle g c =
     let leaf : Written = c.book.inside.leaf in
     let book : Kept = c.args.book.now in
-    let pass : Knowledge = c.args.pass.now in
+    let pass : Knowledge = c.args.handle.now in
     let done : List Operation = take (length c.write_all-fault.new.replies.items) c.args.operations.now.items in
     let answer = g.S.Starter.answer in
     let template = g.N.Name.template in
@@ -65,7 +65,7 @@ pub returns-clause-book : goal.returns-clause-book
 returns-clause-book g c =
     let leaf : Written = c.book.inside.leaf in
     let book : Kept = c.args.book.now in
-    let pass : Knowledge = c.args.pass.now in
+    let pass : Knowledge = c.args.handle.now in
     let done : List Operation = take (length c.write_all-fault.new.replies.items) c.args.operations.now.items in
     let answer = g.S.Starter.answer in
     let template = g.N.Name.template in
@@ -92,7 +92,7 @@ pub returns-clause-replies : goal.returns-clause-replies
 returns-clause-replies g c =
     let leaf : Written = c.book.inside.leaf in
     let book : Kept = c.args.book.now in
-    let pass : Knowledge = c.args.pass.now in
+    let pass : Knowledge = c.args.handle.now in
     let done : List Operation = take (length c.write_all-fault.new.replies.items) c.args.operations.now.items in
     c.write_all-fault.ensures.replies
     ∙ ap (λ (b : Batch). b.replies) (entered_is g.S.Starter.answer g.N.Name.template leaf.published leaf.pending book.history pass.calls pass.number c.number.result c.args.moment done

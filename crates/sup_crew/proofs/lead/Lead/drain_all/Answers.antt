@@ -3,7 +3,7 @@ use Rattle.sup_crew.specs.Jobs.{share}
 use Rattle.sup_crew.proofs.lead.Lead.drain_all.Goals as goal
 
 pub returns-then-is_some-clause-led : goal.returns-then-is_some-clause-led
-returns-then-is_some-clause-led g c begun led = c.drain_once-count.ensures.led begun (c.loop.invariant.led begun led)
+returns-then-is_some-clause-led g c before begun led = c.drain_once-count.ensures.led before begun (c.loop.invariant.led before begun led)
 
 pub loop-preserved-then-count-eq0 : goal.loop-preserved-then-count-eq0
 loop-preserved-then-count-eq0 g c =
@@ -15,7 +15,7 @@ loop-preserved-then-count-eq0 g c =
       parts = i.parts;
       ready = e.ready;
       drain = (e.drain.0 ∙ i.drain.0, e.drain.1 ∙ i.drain.1, e.drain.0 ∙ i.drain.2);
-      led = λ begun led. e.led begun (i.led begun led);
+      led = λ before begun led. e.led before begun (i.led before begun led);
     }
 
 pub loop-preserved : goal.loop-preserved
@@ -28,5 +28,5 @@ loop-preserved g c =
       parts = i.parts;
       ready = e.ready;
       drain = (e.drain.0 ∙ i.drain.0, e.drain.1 ∙ i.drain.1, e.drain.0 ∙ i.drain.2);
-      led = λ begun led. e.led begun (i.led begun led);
+      led = λ before begun led. e.led before begun (i.led before begun led);
     }

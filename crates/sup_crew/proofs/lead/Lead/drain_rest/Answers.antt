@@ -3,7 +3,7 @@ use Rattle.sup_crew.specs.Jobs.{share}
 use Rattle.sup_crew.proofs.lead.Lead.drain_rest.Goals as goal
 
 pub returns-then-count-eq0-clause-led : goal.returns-then-count-eq0-clause-led
-returns-then-count-eq0-clause-led g c begun led = c.drain_once-count.ensures.led begun (c.loop.invariant.led begun led)
+returns-then-count-eq0-clause-led g c before begun led = c.drain_once-count.ensures.led before begun (c.loop.invariant.led before begun led)
 
 pub loop-preserved : goal.loop-preserved
 loop-preserved g c =
@@ -15,5 +15,5 @@ loop-preserved g c =
       parts = i.parts;
       ready = e.ready;
       drain = (e.drain.0 ∙ i.drain.0, e.drain.1 ∙ i.drain.1, e.drain.0 ∙ i.drain.2);
-      led = λ begun led. e.led begun (i.led begun led);
+      led = λ before begun led. e.led before begun (i.led before begun led);
     }

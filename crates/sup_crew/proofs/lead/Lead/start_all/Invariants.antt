@@ -2,9 +2,10 @@ use Rattle.std.proofs.Common.{◌≡◌, List, ◌<◌, ◌++◌, take}
 use Rattle.std.specs.Prelude.{vec_items, vec_len}
 use Rattle.std.specs.Vec.{vec_capacity}
 use Rattle.sup_types.specs.declared.text.Text.{Text}
+use Rattle.sup_desk.specs.Knowledge.{Knowledge}
 use Rattle.sup_inbox.specs.declared.note.Note.{Note}
 use Rattle.sup_crew.specs.Jobs.{share, children_of}
-use Rattle.sup_crew.specs.Leads.{IsLed, IsReady}
+use Rattle.sup_crew.specs.Leads.{run_of, IsLed, IsReady}
 use Rattle.sup_crew.proofs.lead.Lead.start_all.Given as goal
 
 abbrev pub invariant-loop-place : goal.invariant-loop-place
@@ -12,7 +13,7 @@ invariant-loop-place g l = record {
   hand : l.self.hand ≡ record { queue = l.jobs; share = share l.fn.self.hand.share.parts l.self.hand.share.put l.fn.self.hand.share.taken };
   parts : 0 < l.fn.self.hand.share.parts;
   ready : IsReady l.self.hand l.self.queued (vec_len l.self.left) (vec_capacity l.self.left);
-  led : (entered : List Note) (begun : List Text)
-      → IsLed g.N.Name.template g.N.Name.press l.fn.self.handle l.fn.self.ticket l.fn.self.tally l.fn.self.hand.share.put (children_of (vec_items l.fn.self.left)) entered begun
-      → IsLed g.N.Name.template g.N.Name.press l.self.handle l.self.ticket l.self.tally l.self.hand.share.put (children_of (vec_items l.self.left)) entered (begun ++ take l.place l.children);
+  led : (before : Knowledge) (entered : List Note) (begun : List Text)
+      → IsLed (run_of g.N.Name.template g.N.Name.press l.moment before) l.fn.self.handle l.fn.self.ticket l.fn.self.tally l.fn.self.hand.share.put (children_of (vec_items l.fn.self.left)) entered begun
+      → IsLed (run_of g.N.Name.template g.N.Name.press l.moment before) l.self.handle l.self.ticket l.self.tally l.self.hand.share.put (children_of (vec_items l.self.left)) entered (begun ++ take l.place l.children);
 }

@@ -12,14 +12,14 @@ returns-then-front-stamp-clause-split g c _ =
     let steps = steps_is g.N.Name.template (l.press.published ++ l.press.pending) l.sup c.self.invariant.2 in
     let all : length (l.press.published ++ l.press.pending) ≡ length w.published =
     ap (λ (w : Written). length (w.published ++ w.pending)) c.self.view_is ∙ ap (λ k. length (w.published ++ k)) c.requires.none ∙ ap length (append-nil w.published) in
-    let le = prefix_length w.published c.args.pass.now.front c.requires.learnt in
+    let le = prefix_length w.published c.args.handle.now.front c.requires.learnt in
     inl (omega (arith, steps, all, le, c.stamp.ensures.value, c.front.ensures, c.if-front-stamp.true))
 
 pub returns-clause-tied : goal.returns-clause-tied
 returns-clause-tied g c tied =
     let l = c.self.inside in
     let w : Written = c.args.self.now in
-    let p = c.args.pass.now in
+    let p = c.args.handle.now in
     let steps = steps_is g.N.Name.template (l.press.published ++ l.press.pending) l.sup c.self.invariant.2 in
     let all : length (l.press.published ++ l.press.pending) ≡ length w.published =
     ap (λ (w : Written). length (w.published ++ w.pending)) c.self.view_is ∙ ap (λ k. length (w.published ++ k)) c.requires.none ∙ ap length (append-nil w.published) in
@@ -30,6 +30,6 @@ returns-clause-tied g c tied =
 pub returns-clause-split : goal.returns-clause-split
 returns-clause-split g c apart =
     let w : Written = c.args.self.now in
-    let p = c.args.pass.now in
+    let p = c.args.handle.now in
     inr (split_is w.published w.pending p.calls p.number w.made c.number.result c.calls.result c.requires.none c.number.ensures c.calls.ensures.count
     (c.counts_as.ensures.no apart))

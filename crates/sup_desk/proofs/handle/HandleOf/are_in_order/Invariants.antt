@@ -1,6 +1,6 @@
 use Rattle.std.proofs.Common.{◌≡◌, ℕ, ◌+◌, ◌<◌, slice_index_or}
 use Rattle.sup_desk.specs.Knowledge.{Knowledge}
-use Rattle.sup_desk.proofs.handle.Handle.are_in_order.Given as goal
+use Rattle.sup_desk.proofs.handle.HandleOf.are_in_order.Given as goal
 
 -- so far they are in order
 abbrev pub invariant-loop-place : goal.invariant-loop-place

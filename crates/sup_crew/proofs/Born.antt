@@ -1,0 +1,83 @@
+-- The children that updates made stand in each front that begins with theirs.
+use Rattle.std.proofs.Common.{◌≡◌, ℕ, ◌+◌, ◌≤◌, Bool, true, false, cond, List, [], ◌∷◌, ◌++◌, Option, Some, None, refl, ap, sym, ◌∙◌, subst, arith, append_assoc, append-nil}
+use Rattle.std.specs.Prelude.{IfSome}
+use mathlib.Core.List.{IsPrefix}
+use Rattle.logbook.specs.Pages.{Book}
+use Rattle.sup_types.specs.declared.text.Text.{Text}
+use Rattle.sup_types.specs.declared.template.Template.{Template}
+use Rattle.sup_types.specs.declared.history.Answer.{Answer}
+use Rattle.sup_types.specs.declared.history.Operation.{Operation}
+use Rattle.sup_types.specs.declared.history.Operation.TheVariants.{Exit}
+use Rattle.sup_types.specs.declared.history.Entry.{Entry}
+use Rattle.sup_types.specs.declared.history.Reply.{Reply}
+use Rattle.sup_types.specs.declared.history.Reply.TheVariants.{Started, Restarted}
+use Rattle.sup_core.specs.Account.{Item, account, made_count, item_of, reply_after}
+use Rattle.sup_core.specs.Changes.{makes_child}
+use Rattle.sup_core.proofs.HistoryLemmas.{account-push, made_count-push}
+use Rattle.sup_log.specs.Tokens.{Told}
+use Rattle.sup_desk.specs.Knowledge.{Knowledge, next_entry, IsUpdated}
+use Rattle.sup_desk.specs.Batches.{IsApplied}
+use Rattle.sup_inbox.specs.declared.note.Note.{Note}
+use Rattle.sup_crew.specs.Births.{IsBorn, IsBornBy, AreBornBy}
+use Rattle.sup_crew.specs.Calls.{Call, calls_of, answered, exits}
+use Rattle.sup_crew.specs.Drains.{notes_of, replies_of, IsEntered}
+use Rattle.sup_crew.proofs.Right.{IsRight, AreRightCalls, calls-right}
+use Rattle.sup_crew.proofs.Called.{updated-since, applied-since}
+
+up : (b : Bool) (n : ℕ) → n ≤ cond b (n + 1) n
+up true n = omega arith
+up false n = omega arith
+
+made_grows : (template : Template) (front more : List Entry) → made_count (account template front) ≤ made_count (account template (front ++ more))
+made_grows template front [] = subst (λ (l : List Entry). made_count (account template front) ≤ made_count (account template l)) (sym (append-nil front)) (omega arith)
+made_grows template front (e ∷ more) =
+    let items = account template front in
+    let item : Item = item_of template items e in
+    let push = ap made_count (account-push template front e) ∙ made_count-push items item in
+    let one = up (makes_child item.reply) (made_count items) in
+    let rest = made_grows template (front ++ e ∷ []) more in
+    let all = ap (λ (l : List Entry). made_count (account template l)) (append_assoc front (e ∷ []) more) in
+    omega (arith, push, one, rest, all)
+
+-- a child that was made in a front was made in each that begins with it
+pub born_stays : (template : Template) (front later : List Entry) (number : ℕ) → IsPrefix front later → IsBorn template front number → IsBorn template later number
+born_stays template front later number p born =
+    let more = made_grows template front p.0 in
+    let is = ap (λ (l : List Entry). made_count (account template l)) p.1 in
+    let first = born.0 in
+    let last = born.1 in
+    (first, omega (arith, more, is, last))
+
+right_born : (template : Template) (front : List Entry) (operation : Operation) (reply : Reply) → IsRight (account template front) operation reply → IsBornBy template front reply
+right_born template front operation (Started number) h = (h.1, h.2)
+right_born template front operation (Restarted old number) h = let low = h.1 in (omega (arith, low), h.2)
+right_born template front operation _ h = tt
+
+last_of : (items : List Item) (cs ds : List Call) → AreRightCalls items (cs ++ ds) → AreRightCalls items ds
+last_of items [] ds h = h
+last_of items (c ∷ cs) ds h = last_of items cs ds h.2
+
+pairs_born : (template : Template) (front : List Entry) (pairs : List (Note × Reply)) → AreRightCalls (account template front) (answered (exits (notes_of pairs)) (replies_of pairs)) → AreBornBy template front pairs
+pairs_born template front [] h = tt
+pairs_born template front (p ∷ ps) h = (right_born template front (Exit p.0.number p.0.reason) p.1 h.0, pairs_born template front ps h.2)
+
+module _ (answer : Text → ℕ → Answer) (template : Template) (before after : Knowledge) where
+  -- the child that an update made
+  pub updated-born : (operation : Operation) (moment : ℕ) (reply : Reply) (told : List Entry) → IsUpdated answer template before operation moment after reply told → IsBornBy template told reply
+  updated-born operation moment reply told h =
+      let cs = calls_of template h.0 before.number in
+      let all = ap (λ l. calls_of template l before.number) h.7 ∙ updated-since answer template before after operation moment reply told h in
+      let right = subst (AreRightCalls (account template told)) all (calls-right template told before.number) in
+      right_born template told operation reply (last_of (account template told) cs (record { operation = operation; reply = reply } ∷ []) right).0
+
+  applied-born : (pairs : List (Note × Reply)) (moment : ℕ) (told : List Entry) → IsApplied answer template before (exits (notes_of pairs)) moment after (replies_of pairs) told → AreBornBy template told pairs
+  applied-born pairs moment told h =
+      let cs = calls_of template h.0 before.number in
+      let all = ap (λ l. calls_of template l before.number) h.7 ∙ applied-since answer template before after (exits (notes_of pairs)) moment (replies_of pairs) told h in
+      let right = subst (AreRightCalls (account template told)) all (calls-right template told before.number) in
+      pairs_born template told pairs (last_of (account template told) cs (answered (exits (notes_of pairs)) (replies_of pairs)) right)
+
+  -- the children that the exits of a drain made
+  pub entered-born : (press : Book) (pairs : List (Note × Reply)) (moment : ℕ) (ticket : Option Told) → IsEntered answer template press before after moment pairs ticket → IfSome ticket (λ t. AreBornBy template t.front pairs)
+  entered-born press pairs moment None h = tt
+  entered-born press pairs moment (Some told) h = applied-born pairs moment told.front h.0

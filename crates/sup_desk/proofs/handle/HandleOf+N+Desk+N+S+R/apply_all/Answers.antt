@@ -1,0 +1,14 @@
+use Rattle.std.proofs.Common.{IfNone}
+use Rattle.std.specs.declared.option.Option.{Option}
+use Rattle.std.specs.declared.option.Option.TheVariants.{None, Some}
+use Rattle.sup_desk.proofs.handle.HandleOf+N+Desk+N+S+R.apply_all.Goals as goal
+
+pub returns-clause-nothing : goal.returns-clause-nothing
+returns-clause-nothing g c = none_then c.in-Err.field-0.ticket (λ p. (p.0, p.1, p.2)) c.in-Err.ensures.nothing
+  where
+    none_then : {T P Q : Type 0} (ticket : Option T) → (P → Q) → IfNone ticket P → IfNone ticket Q
+    none_then None f p = f p
+    none_then (Some t) f p = p
+
+pub returns-clause-split : goal.returns-clause-split
+returns-clause-split g c = λ is. (c.in-Err.ensures.split is).0

@@ -1,0 +1,103 @@
+//! Askers: the queries of a desk, which take no lock and never wait.
+ghost use Rattle.std.specs.Prelude.{◌≡◌, length, ◌⊎◌, IfOk, IsOk};
+ghost use mathlib.Core.List.{IsPrefix};
+ghost use Rattle.sup_core.specs.State.{MatchSeen};
+ghost use Rattle.sup_core.specs.Queries.{which, count, child};
+ghost use Rattle.sup_log.specs.Tokens.{sight};
+ghost use Rattle.sup_desk.specs.Asking.{IsAnswered};
+
+use crate::answers::{child_seen, counts_seen, inspect_by, rows_seen};
+use crate::faults::QueryFault;
+use crate::name::Name;
+use std::marker::{Model, PhantomData};
+use sup_log::{Gone, Lens, Ticket, View};
+use sup_types::{Counts, Row, Seen};
+
+/// A read-only handle of the desk that N names: it asks, and makes no update. It carries the front that it has seen, each
+/// query is answered at one front that begins with it, and that is then what it has seen. It borrows nothing, and may go to
+/// any thread. Its queries take no lock and never wait: each is proved to return, `inspect` where its function does.
+#[derive(Drop)]
+pub struct Asker<N: Name> {
+    lens: Lens,
+    of: PhantomData<N>,
+}
+
+impl<N: Name> Model for Asker<N> {
+    ghost use Rattle.std.specs.Prelude.{◌≡◌};
+    ghost use Rattle.sup_desk.specs.Knowledge.{Asking};
+
+    ghost Value = { Asking };
+
+    ghost view = { λ a. record { front = a.lens.front } };
+
+    ghost invariant = { λ a. (a.lens.press ≡ N.press) × (a.lens.template ≡ N.template) };
+}
+
+impl<N: Name> Asker<N> {
+    /// An asker that has seen what the lens has.
+    pub(crate) fn begin(lens: Lens) -> Asker<N>
+        requires { (lens.press ≡ N.press) × (lens.template ≡ N.template) }
+        ensures { result ≡ record { front = lens.front } }
+    {
+        Asker {
+            lens,
+            of: PhantomData,
+        }
+    }
+
+    /// The length of its front, in entries. It enters nothing.
+    pub fn front(&self) -> u64
+        ensures { result ≡ length self.now.front }
+    {
+        self.lens.front().stamp()
+    }
+
+    /// How many children there are at one front, which begins with all that it had seen or learnt.
+    #[tactic(auto, using(crate::proofs::Answered::count_is))]
+    pub fn count_children(&mut self) -> Result<Seen<Counts>, Gone>
+        ensures front { IsPrefix self.old.front self.new.front }
+        ensures answer { IfOk result (λ answer. answer ≡ count N.template self.new.front) }
+    {
+        self.lens.look(|view| counts_seen(view))
+    }
+
+    /// The listed child with this number at such a front.
+    #[tactic(auto, using(crate::proofs::Answered::child_is))]
+    pub fn child(&mut self, number: u64) -> Result<Seen<Option<Row>>, Gone>
+        ensures front { IsPrefix self.old.front self.new.front }
+        ensures answer { IfOk result (λ answer. answer ≡ child N.template self.new.front number) }
+    {
+        self.lens.look(|view| child_seen(view, number))
+    }
+
+    /// The listed children at such a front, by ascending numbers.
+    #[tactic(auto, using(crate::proofs::Answered::which_is))]
+    pub fn which_children(&mut self) -> Result<Seen<Vec<Row>>, QueryFault>
+        ensures front { IsPrefix self.old.front self.new.front }
+        ensures answer { IfOk result (λ seen. MatchSeen seen (λ rows. which N.template self.new.front ≡ Seen.Up rows.items) (which N.template self.new.front ≡ Seen.Down)) }
+    {
+        Ok(self.lens.look(|view| rows_seen(view))??)
+    }
+
+    /// Calls `f` once on a view at such a front, and not at all where the supervisor is down. `f` may make no update,
+    /// which would wait for this look.
+    pub fn inspect<T, F: FnOnce(&View) -> T>(&mut self, f: F) -> Result<Seen<T>, Gone>
+        requires { F.IsAlwaysCallable f }
+        ensures front { IsPrefix self.old.front self.new.front }
+        ensures answer { let view = sight (record { press = N.press; template = N.template; front = self.new.front })
+            in IfOk result (λ seen. IsAnswered F.FnOnce f view view.standing.down seen) }
+    {
+        inspect_by(&mut self.lens, f)
+    }
+
+    /// From now on its front begins with the ticket's, which is of the same desk. It enters nothing and always succeeds.
+    pub fn learn(&mut self, ticket: &Ticket) -> Result<(), Gone>
+        requires { ticket.now.press ≡ N.press }
+        ensures answered { IsOk result }
+        ensures front { IsPrefix self.old.front self.new.front }
+        ensures learnt { IsPrefix ticket.now.front self.new.front }
+        ensures either { (self.new.front ≡ self.old.front) ⊎ (self.new.front ≡ ticket.now.front) }
+    {
+        self.lens.learn(ticket)
+    }
+}

@@ -1,0 +1,46 @@
+//! Callers: what a handle carries apart from its desk.
+ghost use Rattle.std.specs.Prelude.{◌≡◌, []};
+
+use crate::asker::Asker;
+use crate::name::Name;
+use std::marker::Model;
+
+/// A handle without its desk: what it knows, and no borrow. It may leave the scope in which a desk is borrowed. `Desk::bind`
+/// makes the handle of it again.
+#[derive(Drop)]
+pub struct Caller<N: Name> {
+    pub(crate) number: u64,
+    pub(crate) asker: Asker<N>,
+    pub(crate) calls: u64,
+}
+
+impl<N: Name> Model for Caller<N> {
+    ghost use Rattle.std.specs.Prelude.{◌≡◌, ◌≤◌, length, take};
+    ghost use Rattle.sup_desk.specs.Knowledge.{Knowledge, entries_of};
+
+    ghost Value = { Knowledge };
+
+    ghost view = { λ c. record { number = c.number; front = c.asker.front; calls = take c.calls (entries_of c.asker.front c.number) } };
+
+    ghost invariant = { λ c. c.calls ≤ length (entries_of c.asker.front c.number) };
+}
+
+impl<N: Name> Caller<N> {
+    /// A caller with this number, which has made no call.
+    pub(crate) fn begin(number: u64, asker: Asker<N>) -> Caller<N>
+        ensures { result ≡ record { number = number; front = asker.front; calls = [] } }
+    {
+        Caller {
+            number,
+            asker,
+            calls: 0,
+        }
+    }
+
+    /// Its number: 1, 2, 3, .. in the order of making.
+    pub fn number(&self) -> u64
+        ensures { result ≡ self.now.number }
+    {
+        self.number
+    }
+}
