@@ -10,6 +10,7 @@ import collections
 import re
 import sys
 
+sys.dont_write_bytecode = True
 import recount
 
 FULL = "fault 2"
@@ -87,6 +88,8 @@ class Record:
                 raise ValueError(first)
             self.template = recount.Template([it.encode() for it in words[1:-2]])
             self.entries, self.calls, self.end, self.head = int(words[-1]), [Call(it) for it in lines], int(length), first
+            if {it.thread for it in self.calls} != {1, 2, 3, 4}:
+                raise ValueError("the calls of four threads are not there")
         except (ValueError, IndexError, recount.Bad, recount.Fault) as why:
             raise Broken(f"this is no record: {why}") from None
 
@@ -303,5 +306,4 @@ def main():
 
 
 if __name__ == "__main__":
-    sys.dont_write_bytecode = True
     sys.exit(main())

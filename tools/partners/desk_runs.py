@@ -62,7 +62,7 @@ def build():
             lines = [line for line in it if re.split("[ :]", line)[0] in CRATES]
         with open(f"{room}/crates.txt", "w", encoding="utf-8") as it:
             it.writelines([*lines, "desk_stress: sup_types sup_log sup_desk sup_script\n"])
-        ran = subprocess.run(["rt", "run", "--", "0"], cwd=f"{room}/crates/desk_stress", stdin=subprocess.DEVNULL,
+        ran = subprocess.run(["rt", "run", "--jobs", "1", "--", "0"], cwd=f"{room}/crates/desk_stress", stdin=subprocess.DEVNULL,
                              stdout=subprocess.DEVNULL, stderr=subprocess.PIPE, check=False)
         if ran.returncode != 0:
             raise runs.Missing(f"the program could not be built: {ran.stderr.decode(errors='replace')[-2000:]}")
