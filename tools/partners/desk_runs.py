@@ -1,0 +1,82 @@
+"""How a round over one desk is run: by the program of desk/, which is kept under other endings, since what it writes differs
+from run to run, so that it is no crate of the gate. It is proved and built on a copy of the crates that it needs."""
+import os
+import re
+import shutil
+import subprocess
+import tempfile
+
+import runs
+
+SECONDS = 60
+CRATES = ("sup_types", "sup_window", "sup_core", "sup_script", "sup_log", "sup_desk")
+FILES = {"main.rt.txt": "src/main.rt", "main.antt.txt": "proofs/main/Invariants.antt"}
+SOURCES = f"{runs.HERE}/desk"
+BUILT = f"{SOURCES}/out/desk_stress"
+
+
+class Ended(Exception):
+    """The program ended otherwise than it should."""
+
+
+def program():
+    """The path of the program: DESK_STRESS of the environment, or the one that is built at first use."""
+    given = os.environ.get("DESK_STRESS")
+    if given:
+        if not os.access(given, os.X_OK):
+            raise runs.Missing(f"DESK_STRESS names no program: {given}")
+        return os.path.abspath(given)
+    if not is_current():
+        build()
+    return BUILT
+
+
+def is_current():
+    """Whether the program was built after the last change of what it is made of."""
+    if not os.access(BUILT, os.X_OK):
+        return False
+    built = os.path.getmtime(BUILT)
+    folders = [SOURCES, *(f"{runs.TOP}/crates/{it}" for it in CRATES)]
+    return all(os.path.getmtime(it) <= built for folder in folders for it in sources_of(folder))
+
+
+def sources_of(folder):
+    for place, folders, files in os.walk(folder):
+        folders[:] = [it for it in folders if it != "out"]
+        yield from (f"{place}/{it}" for it in files if it.endswith((".rt", ".antt", ".txt")))
+
+
+def build():
+    """Proves and builds the program, over what the crates have built before."""
+    if not shutil.which("rt"):
+        raise runs.Missing("the toolchain's command rt is not on the PATH; DESK_STRESS=PATH names a built program")
+    runs.say("stress: proving and building the program; at first use this takes some minutes, and longer where no crate is built")
+    with tempfile.TemporaryDirectory(prefix="partners-") as room:
+        for crate in CRATES:
+            shutil.copytree(f"{runs.TOP}/crates/{crate}", f"{room}/crates/{crate}")
+        for file, place in FILES.items():
+            os.makedirs(os.path.dirname(f"{room}/crates/desk_stress/{place}"), exist_ok=True)
+            shutil.copy(f"{SOURCES}/{file}", f"{room}/crates/desk_stress/{place}")
+        shutil.copy(f"{runs.TOP}/HANDLES", room)
+        with open(f"{runs.TOP}/crates.txt", encoding="utf-8") as it:
+            lines = [line for line in it if re.split("[ :]", line)[0] in CRATES]
+        with open(f"{room}/crates.txt", "w", encoding="utf-8") as it:
+            it.writelines([*lines, "desk_stress: sup_types sup_log sup_desk sup_script\n"])
+        ran = subprocess.run(["rt", "run", "--jobs", "1", "--", "0"], cwd=f"{room}/crates/desk_stress", stdin=subprocess.DEVNULL,
+                             stdout=subprocess.DEVNULL, stderr=subprocess.PIPE, check=False)
+        if ran.returncode != 0:
+            raise runs.Missing(f"the program could not be built: {ran.stderr.decode(errors='replace')[-2000:]}")
+        os.makedirs(os.path.dirname(BUILT), exist_ok=True)
+        shutil.copy(f"{room}/crates/desk_stress/out/desk_stress", f"{BUILT}.new")
+        os.replace(f"{BUILT}.new", BUILT)
+
+
+def record(path, seed):
+    """What the threads of a round with this seed recorded."""
+    try:
+        ran = subprocess.run([path, str(seed)], capture_output=True, timeout=SECONDS, cwd="/", check=False)
+    except subprocess.TimeoutExpired:
+        raise Ended(f"the round of seed {seed} did not end within {SECONDS} seconds") from None
+    if ran.returncode != 0 or ran.stderr:
+        raise Ended(f"the round of seed {seed} ended with status {ran.returncode}: {ran.stderr.decode(errors='replace')}")
+    return ran.stdout.decode()
