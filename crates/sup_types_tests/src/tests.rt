@@ -1,9 +1,10 @@
 //! The edges of each range, and each type once.
+use std::fmt::{Debug, Display};
 use std::process::Abort;
 use std::test::Fail;
 use sup_types::{
-    AutoShutdown, BadTemplate, Kind, OutOfMemory, Reason, Restart, Row, Status, Template, Text,
-    Word,
+    AlwaysRunning, Answer, AutoShutdown, BadTemplate, Kind, OutOfMemory, Reason, Restart, Row,
+    Starter, Status, Template, Text, Word,
 };
 
 const MOST_ENTRIES: u64 = 1 << 62;
@@ -79,6 +80,39 @@ fn words_spell_no_other_reason(rt: HostRuntime) {
         b"shutdown:bye".as_slice(),
     ] {
         assert!(rt; Word::new(refused).is_none());
+    }
+}
+
+/// Whether a value is displayed and debugged so.
+fn is_shown<T: Copy + Display + Debug>(
+    rt: &HostRuntime,
+    value: T,
+    displayed: &str,
+    debugged: &str,
+) -> Result<bool, Fail> {
+    let as_displayed = format!(in rt.alloc(); "{value}")?;
+    let as_debugged = format!(in rt.alloc(); "{value:?}")?;
+    Ok(as_displayed.as_str() == displayed && as_debugged.as_str() == debugged)
+}
+
+#[test]
+fn texts_and_words_show_their_characters(rt: HostRuntime) -> Result<(), Fail> {
+    let session = text(&rt, b"say:\"hi\"");
+    let crash = Word::new(b"crash").expect(&rt, "a word");
+    assert!(rt; session.as_str() == "say:\"hi\"");
+    assert!(rt; crash.as_str() == "crash");
+    assert!(rt; is_shown(&rt, session, "say:\"hi\"", "\"say:\\\"hi\\\"\"")?);
+    assert!(rt; is_shown(&rt, crash, "crash", "\"crash\"")?);
+    Ok(())
+}
+
+#[test]
+fn a_child_of_always_running_runs(rt: HostRuntime) {
+    for (arg, moment) in [(b"ignore".as_slice(), 0), (b"fail".as_slice(), u64::MAX)] {
+        assert_eq!(rt;
+            AlwaysRunning.start(&text(&rt, arg), moment),
+            Answer::Running
+        );
     }
 }
 
