@@ -13,10 +13,10 @@ use Rattle.sup_types.specs.declared.reason.Reason.{Reason}
 use Rattle.sup_types.specs.declared.reason.Reason.TheVariants as reason
 use Rattle.sup_types.specs.declared.history.Operation.{Operation}
 use Rattle.sup_types.specs.declared.history.Operation.TheVariants as operation
-use Rattle.sup_script.specs.declared.command.Command.TheVariants as command
-use Rattle.sup_script.specs.declared.tokens.Verb.{Verb}
-use Rattle.sup_script.specs.declared.tokens.Verb.TheVariants as verb
-use Rattle.sup_script.specs.declared.header.Parts.{Parts}
+use Rattle.sup_script.specs.declared.read.command.Command.TheVariants as command
+use Rattle.sup_script.specs.declared.read.tokens.Verb.{Verb}
+use Rattle.sup_script.specs.declared.read.tokens.Verb.TheVariants as verb
+use Rattle.sup_script.specs.declared.read.header.Parts.{Parts}
 use Rattle.sup_script.specs.Words.{words_of, words_left}
 use Rattle.sup_script.specs.Tokens.{verb_word, operation_verb, argument_words, reason_word, IsReason, IsOperation, HasNoArguments}
 use Rattle.sup_script.specs.Lines.{IsIdentifierWord, is_identifier_word, MeansNothing}

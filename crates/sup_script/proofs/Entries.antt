@@ -8,7 +8,7 @@ use Rattle.std.proofs.lemmas.List.{length-append}
 use Rattle.sup_types.specs.declared.history.Answer.{Answer}
 use Rattle.sup_types.specs.declared.history.Answer.TheVariants as answer
 use Rattle.sup_types.specs.declared.history.Operation.{Operation}
-use Rattle.sup_script.specs.declared.header.Parts.{Parts}
+use Rattle.sup_script.specs.declared.read.header.Parts.{Parts}
 use Rattle.sup_script.specs.Words.{words_of, Lacks, IsSplit}
 use Rattle.sup_script.specs.Tokens.{operation_verb, argument_words}
 use Rattle.sup_script.specs.Headers.{HasParts}

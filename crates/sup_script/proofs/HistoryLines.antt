@@ -25,8 +25,8 @@ use Rattle.sup_types.specs.declared.history.Answer.TheVariants as answer
 use Rattle.sup_types.specs.declared.history.Operation.{Operation}
 use Rattle.sup_types.specs.declared.history.Operation.TheVariants as operation
 use Rattle.sup_types.specs.declared.history.Entry.{Entry}
-use Rattle.sup_script.specs.declared.tokens.Verb.{Verb}
-use Rattle.sup_script.specs.declared.tokens.Verb.TheVariants as verb
+use Rattle.sup_script.specs.declared.read.tokens.Verb.{Verb}
+use Rattle.sup_script.specs.declared.read.tokens.Verb.TheVariants as verb
 use Rattle.sup_script.specs.Words.{words_of, Lacks}
 use Rattle.sup_script.specs.Tokens.{restart_word, kind_word, mark_word, auto_word, reason_word, verb_word, operation_verb, argument_words, IsReason, IsOperation}
 use Rattle.sup_script.specs.Replies.{line_of, spaced}

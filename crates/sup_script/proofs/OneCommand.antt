@@ -5,8 +5,8 @@ use Rattle.sup_types.specs.declared.reason.Reason.{Reason}
 use Rattle.sup_types.specs.declared.reason.Reason.TheVariants as reason
 use Rattle.sup_types.specs.declared.history.Operation.{Operation}
 use Rattle.sup_types.specs.declared.history.Operation.TheVariants as operation
-use Rattle.sup_script.specs.declared.command.Command.{Command}
-use Rattle.sup_script.specs.declared.command.Command.TheVariants as command
+use Rattle.sup_script.specs.declared.read.command.Command.{Command}
+use Rattle.sup_script.specs.declared.read.command.Command.TheVariants as command
 use Rattle.sup_script.specs.Tokens.{IsReason, IsOperation, reason_word, operation_verb, argument_words}
 use Rattle.sup_script.specs.Lines.{LineMeans, IsCommand, AreWordsOf}
 use Rattle.sup_script.proofs.Commands.{texts_differ, first_same, rest_same, verb_same, no_verb, identifier_no_verb, term_is, term_is_no_word}

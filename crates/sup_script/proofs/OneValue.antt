@@ -14,7 +14,7 @@ use Rattle.sup_types.specs.declared.history.Answer.{Answer}
 use Rattle.sup_types.specs.declared.history.Answer.TheVariants as answer
 use Rattle.sup_types.specs.declared.history.Operation.{Operation}
 use Rattle.sup_types.specs.declared.history.Entry.{Entry}
-use Rattle.sup_script.specs.declared.header.Parts.{Parts}
+use Rattle.sup_script.specs.declared.read.header.Parts.{Parts}
 use Rattle.sup_script.specs.Tokens.{restart_word, kind_word, mark_word, auto_word, argument_words}
 use Rattle.sup_script.specs.Headers.{AreHeaderWords, limit_words, shutdown_words, FitsParts, HasShape, IsFirst, IsTemplateOf}
 use Rattle.sup_script.specs.History.{AreFirstWords, answer_words, IsAnswer, EntryMeans, AreEntries, Spells, IsSameTemplate}

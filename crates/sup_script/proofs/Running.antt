@@ -7,7 +7,7 @@ use Rattle.sup_types.specs.declared.template.Template.{Template}
 use Rattle.sup_types.specs.declared.history.Entry.{Entry}
 use Rattle.sup_core.specs.State.{State}
 use Rattle.sup_core.specs.Account.{IsAfter}
-use Rattle.sup_script.specs.declared.command.Command.{Command}
+use Rattle.sup_script.specs.declared.read.command.Command.{Command}
 use Rattle.sup_script.specs.declared.fault.Fault.{Fault}
 use Rattle.sup_script.specs.declared.fault.Fault.TheVariants as fault
 use Rattle.sup_script.specs.declared.fault.ScriptFault.{ScriptFault}

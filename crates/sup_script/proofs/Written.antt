@@ -5,7 +5,7 @@ use Rattle.std.specs.List.{join_with_byte}
 use Rattle.std.specs.Fmt.{decimal}
 use Rattle.std.proofs.lemmas.Fmt.{decimal_step, decimal_digit}
 use Rattle.std.proofs.lemmas.List.{take_more, map_push, length-map, length-take-le}
-use Rattle.sup_script.specs.declared.reply.Field.{Field}
+use Rattle.sup_script.specs.declared.write.reply.Field.{Field}
 use Rattle.sup_script.specs.Replies.{Grows, field_word}
 
 -- one word more behind at least one

@@ -7,7 +7,7 @@ use Rattle.sup_types.specs.declared.template.AutoShutdown.{AutoShutdown}
 use Rattle.sup_types.specs.declared.template.AutoShutdown.TheVariants.{Never}
 use Rattle.sup_script.specs.declared.fault.Fault.{Fault}
 use Rattle.sup_script.specs.declared.fault.Fault.TheVariants as fault
-use Rattle.sup_script.specs.declared.header.Parts.{Parts}
+use Rattle.sup_script.specs.declared.read.header.Parts.{Parts}
 use Rattle.sup_script.specs.Words.{words_of}
 use Rattle.sup_script.specs.Tokens.{restart_word, kind_word, mark_word, auto_word}
 

@@ -6,7 +6,7 @@ use Rattle.sup_types.specs.declared.history.Answer.{Answer}
 use Rattle.sup_types.specs.declared.history.Answer.TheVariants as answer
 use Rattle.sup_types.specs.declared.history.Entry.{Entry}
 use Rattle.sup_types.specs.declared.history.Operation.{Operation}
-use Rattle.sup_script.specs.declared.header.Parts.{Parts}
+use Rattle.sup_script.specs.declared.read.header.Parts.{Parts}
 use Rattle.sup_script.specs.Words.{words_of}
 use Rattle.sup_script.specs.Tokens.{verb_word, operation_verb, argument_words, IsOperation}
 use Rattle.sup_script.specs.Headers.{limit_words, shutdown_words, IsPlain, IsFirst, IsTemplateOf}

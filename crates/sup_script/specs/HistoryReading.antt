@@ -8,7 +8,7 @@ use Rattle.sup_types.specs.declared.history.Entry.{Entry}
 use Rattle.sup_types.specs.declared.history.Operation.{Operation}
 use Rattle.sup_script.specs.declared.fault.Fault.{Fault}
 use Rattle.sup_script.specs.declared.fault.Fault.TheVariants as fault
-use Rattle.sup_script.specs.declared.header.Parts.{Parts}
+use Rattle.sup_script.specs.declared.read.header.Parts.{Parts}
 use Rattle.sup_script.specs.Words.{IsSplit}
 use Rattle.sup_script.specs.Tokens.{IsOperation}
 use Rattle.sup_script.specs.Headers.{limit_words, shutdown_words, FitsParts, IsPlain, IsFirst, IsNoFirst, IsOutOfRange}

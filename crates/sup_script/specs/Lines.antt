@@ -3,8 +3,8 @@ use Rattle.std.specs.Prelude.{◌≡◌, ◌⊎◌, ℕ, ◌<◌, ◌^◌, List,
 use Rattle.std.specs.Fmt.{decimal}
 use Rattle.std.specs.Str.{bytes_eq}
 use Rattle.sup_types.specs.Text.{IsText}
-use Rattle.sup_script.specs.declared.command.Command.{Command}
-use Rattle.sup_script.specs.declared.command.Command.TheVariants as command
+use Rattle.sup_script.specs.declared.read.command.Command.{Command}
+use Rattle.sup_script.specs.declared.read.command.Command.TheVariants as command
 use Rattle.sup_script.specs.Words.{words_of}
 use Rattle.sup_script.specs.Tokens.{verb_word, operation_verb, argument_words, IsOperation}
 

@@ -12,8 +12,8 @@ use Rattle.sup_types.specs.declared.view.Seen.{Seen}
 use Rattle.sup_types.specs.declared.view.Seen.TheVariants as seen
 use Rattle.sup_types.specs.declared.view.Refusal.{Refusal}
 use Rattle.sup_types.specs.declared.view.Refusal.TheVariants.{SimpleOneForOne}
-use Rattle.sup_script.specs.declared.reply.Field.{Field}
-use Rattle.sup_script.specs.declared.reply.Field.TheVariants as field
+use Rattle.sup_script.specs.declared.write.reply.Field.{Field}
+use Rattle.sup_script.specs.declared.write.reply.Field.TheVariants as field
 
 -- words with a space between each two, and a line feed
 abbrev pub line_of : List (List ℕ) → List ℕ

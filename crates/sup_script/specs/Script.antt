@@ -9,8 +9,8 @@ use Rattle.sup_types.specs.declared.history.Operation.{Operation}
 use Rattle.sup_types.specs.declared.history.Entry.{Entry}
 use Rattle.sup_core.specs.Account.{entry_of, reply_after}
 use Rattle.sup_core.specs.Queries.{which, count}
-use Rattle.sup_script.specs.declared.command.Command.{Command}
-use Rattle.sup_script.specs.declared.command.Command.TheVariants as command
+use Rattle.sup_script.specs.declared.read.command.Command.{Command}
+use Rattle.sup_script.specs.declared.read.command.Command.TheVariants as command
 use Rattle.sup_script.specs.declared.fault.Fault.{Fault}
 use Rattle.sup_script.specs.declared.fault.Fault.TheVariants as fault
 use Rattle.sup_script.specs.Words.{words_of}

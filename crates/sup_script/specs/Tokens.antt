@@ -12,8 +12,8 @@ use Rattle.sup_types.specs.declared.template.AutoShutdown.{AutoShutdown}
 use Rattle.sup_types.specs.declared.template.AutoShutdown.TheVariants as auto
 use Rattle.sup_types.specs.declared.history.Operation.{Operation}
 use Rattle.sup_types.specs.declared.history.Operation.TheVariants as operation
-use Rattle.sup_script.specs.declared.tokens.Verb.{Verb}
-use Rattle.sup_script.specs.declared.tokens.Verb.TheVariants as verb
+use Rattle.sup_script.specs.declared.read.tokens.Verb.{Verb}
+use Rattle.sup_script.specs.declared.read.tokens.Verb.TheVariants as verb
 
 abbrev pub restart_word : Restart → List ℕ
 restart_word restart.Permanent = codes "permanent"

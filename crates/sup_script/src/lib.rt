@@ -26,31 +26,19 @@
 //! ```
 #![tactic(auto)]
 
-mod command;
-mod entered;
 mod fault;
-mod header;
-mod history;
-mod history_text;
-mod input;
 pub mod laws;
-mod lines;
-mod outbox;
-mod replays;
-mod reply;
-mod script;
-mod session;
+mod read;
+mod runs;
 mod starter;
-mod tokens;
-mod watch;
-mod words;
+mod write;
 
-pub use command::{Command, read_line};
 pub use fault::{Fault, ScriptFault};
-pub use history::{History, HistoryFault, read_history};
-pub use history_text::write_history;
-pub use replays::replay;
-pub use reply::write_reply;
-pub use script::run;
+pub use read::command::{Command, read_line};
+pub use read::history::{History, HistoryFault, read_history};
+pub use runs::replays::replay;
+pub use runs::script::run;
+pub use runs::watch::{WatchedReader, WatchedWriter};
 pub use starter::ScriptStarter;
-pub use watch::{WatchedReader, WatchedWriter};
+pub use write::history_text::write_history;
+pub use write::reply::write_reply;

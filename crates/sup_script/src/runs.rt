@@ -1,0 +1,6 @@
+//! Whole runs: the session of a script, a script from its reader to its writer, and the replay of a history text.
+pub mod entered;
+pub mod replays;
+pub mod script;
+pub mod session;
+pub mod watch;

@@ -1,0 +1,69 @@
+//! Carrying out the commands of a script.
+
+ghost use Rattle.std.specs.Prelude.{◌≡◌, ◌+◌, ◌<◌, ◌≤◌, ◌++◌, [], ◌∷◌, List, ℕ, length, OnOk, OnErr};
+ghost use Rattle.sup_types.specs.declared.history.Entry.{Entry as AnEntry};
+ghost use Rattle.sup_core.specs.Account.{IsAfter, reply_after, entry_of};
+ghost use Rattle.sup_script.specs.Replies.{Grows};
+ghost use Rattle.sup_script.specs.Script.{text_of, history_after};
+
+use crate::read::command::Command;
+use crate::write::reply::{append_counts, append_refusal, append_reply, append_rows};
+use std::alloc::Allocator;
+use sup_core::Sup;
+use sup_types::{Answer, Entry, Operation, OutOfMemory, Refusal, Reply, Starter};
+
+/// Carries a command out, and appends the text of its reply.
+pub fn append_answer<S: Starter, A: Allocator + Copy>(
+    command: Command,
+    sup: &mut Sup<A>,
+    starter: &S,
+    out: &mut Vec<u8, A>,
+) -> Result<(), OutOfMemory>
+    requires { sup.old.steps < sup.old.template.entries }
+    ensures text { (history : List AnEntry) → IsAfter sup.old history →
+        OnOk result (out.new.items ≡ out.old.items ++ text_of S.answer sup.old.template history command) }
+    ensures after { (history : List AnEntry) → IsAfter sup.old history →
+        OnOk result (IsAfter sup.new (history_after S.answer sup.old.template history command)) }
+    ensures template { sup.new.template ≡ sup.old.template }
+    ensures steps { sup.new.steps ≤ sup.old.steps + 1 }
+    ensures err { OnErr result (Grows out.old.items out.new.items) }
+{
+    match command {
+        Command::Update(moment, operation) => {
+            let reply = enter(moment, operation, sup, starter);
+            append_reply(&reply, out)?;
+        }
+        Command::Which => append_rows(&sup.rows()?, out)?,
+        Command::Count => append_counts(&sup.counts(), out)?,
+        Command::ById(_) => append_refusal(Refusal::SimpleOneForOne, out)?,
+    }
+    Ok(())
+}
+
+/// Enters an operation, with what the start function answers where it is asked.
+fn enter<S: Starter, A: Allocator + Copy>(
+    moment: u64,
+    operation: Operation,
+    sup: &mut Sup<A>,
+    starter: &S,
+) -> Reply
+    requires { sup.old.steps < sup.old.template.entries }
+    ensures history { (history : List AnEntry) → IsAfter sup.old history →
+        (result ≡ reply_after sup.old.template history (entry_of S.answer sup.old.template history 0 (length history) operation moment))
+        × IsAfter sup.new (history ++ entry_of S.answer sup.old.template history 0 (length history) operation moment ∷ []) }
+    ensures template { sup.new.template ≡ sup.old.template }
+    ensures steps { sup.new.steps ≡ sup.old.steps + 1 }
+{
+    let answer = match sup.wants_answer(&operation, moment) {
+        Some(arg) => starter.start(&arg, moment),
+        None => Answer::Ignore,
+    };
+    let entry = Entry {
+        handle: 0,
+        serial: sup.stamp(),
+        moment,
+        operation,
+        answer,
+    };
+    sup.step(&entry)
+}

@@ -1,0 +1,130 @@
+//! Whole history texts, and the replies to their entries.
+
+ghost use Rattle.std.specs.Prelude.{◌≡◌, ◌≤◌, ◌<◌, ◌+◌, ◌++◌, [], ◌∷◌, ℕ, List, length, false, IfErr, IfOk, OnOk, OnErr};
+ghost use Rattle.sup_types.specs.declared.history.Entry.{Entry as AnEntry};
+ghost use Rattle.sup_core.specs.Account.{IsAfter, reply_after};
+ghost use Rattle.sup_script.specs.Causes.{HasCause, HasLineCause};
+ghost use Rattle.sup_script.specs.Headers.{IsFirst};
+ghost use Rattle.sup_script.specs.History.{AreFirstWords, AreEntries};
+ghost use Rattle.sup_script.specs.Replays.{IsReplay, RepliesGive};
+ghost use Rattle.sup_script.specs.Replies.{reply_text};
+
+use crate::fault::{Fault, ScriptFault};
+use crate::read::history::{HistoryFault, read_history};
+use crate::read::input::{line_after, read_whole};
+use crate::runs::watch::{WatchedReader, WatchedWriter};
+use crate::write::outbox::Outbox;
+use crate::write::reply::write_reply;
+use std::alloc::Allocator;
+use std::io::{Read, Write};
+use sup_core::Sup;
+use sup_types::{Entry, OutOfMemory, Template};
+
+/// Reads a history text to its end, and then writes the reply of each entry, one a line, from an empty supervisor.
+///
+/// After a fault of reading or of the text nothing is written; a fault of reading stands in the line after the last one
+/// that is ended. On WriteFault the line is that of the entry whose reply was being written. OutOfMemory while the replies
+/// are made has the line of its entry, and the replies before it are written; in line 1 there was no room for the
+/// supervisor.
+pub fn replay<A: Allocator + Copy, R: Read, W: Write>(
+    alloc: A,
+    reader: &mut WatchedReader<R>,
+    writer: &mut WatchedWriter<W>,
+) -> Result<(), ScriptFault>
+    requires calls { reader.old.calls ≡ 0 }
+    requires none { reader.old.given ≡ 0 }
+    requires unfailed { reader.old.has_failed ≡ false }
+    requires unrefused { writer.old.has_refused ≡ false }
+    ensures replay { IsReplay (R.remaining reader.old.reader) (R.remaining reader.new.reader)
+        (W.contents writer.old.writer) (W.contents writer.new.writer) result }
+    ensures reads { reader.new.calls ≤ 16777217 }
+    ensures cause { IfErr result (λ e. HasCause reader.new.has_failed reader.new.given writer.new.has_refused e.fault) }
+{
+    let mut text = Vec::new(alloc);
+    if let Err(fault) = read_whole(reader, &mut text) {
+        let line = line_after(text.as_slice());
+        return Err(ScriptFault { fault, line });
+    }
+    let history = match read_history(alloc, text.as_slice()) {
+        Ok(history) => history,
+        Err(HistoryFault { fault, line }) => return Err(ScriptFault { fault, line }),
+    };
+    let entries = history.entries.as_slice();
+    answer_entries(alloc, history.template, entries, writer)
+}
+
+/// Writes the replies to the entries of a history that begins with a template.
+fn answer_entries<A: Allocator + Copy, W: Write>(
+    alloc: A,
+    template: Template,
+    entries: &[Entry],
+    writer: &mut WatchedWriter<W>,
+) -> Result<(), ScriptFault>
+    requires { length entries.now ≤ template.entries }
+    ensures given { (first : List ℕ) (body : List (List ℕ)) → IsFirst AreFirstWords first template → AreEntries body entries.now →
+        RepliesGive (first ∷ body) template entries.now (W.contents writer.old.writer) (W.contents writer.new.writer) result }
+    ensures cause { IfErr result (λ e. HasLineCause writer.new.has_refused e.fault) }
+{
+    match Sup::new(alloc, template) {
+        Ok(mut sup) => {
+            let mut outbox = Outbox::new(alloc);
+            answer_from(&mut sup, &mut outbox, entries, writer)
+        }
+        Err(OutOfMemory) => {
+            let fault = Fault::OutOfMemory;
+            Err(ScriptFault { fault, line: 1 })
+        }
+    }
+}
+
+/// Writes the replies to the entries, from a supervisor that none was entered in. Nothing waits before.
+fn answer_from<A: Allocator + Copy, W: Write>(
+    sup: &mut Sup<A>,
+    outbox: &mut Outbox<A>,
+    entries: &[Entry],
+    writer: &mut WatchedWriter<W>,
+) -> Result<(), ScriptFault>
+    requires empty { IsAfter sup.old [] }
+    requires room { length entries.now ≤ sup.old.template.entries }
+    requires bytes { outbox.old.bytes.items ≡ [] }
+    requires ends { outbox.old.ends.items ≡ [] }
+    ensures given { (first : List ℕ) (body : List (List ℕ)) → IsFirst AreFirstWords first sup.old.template → AreEntries body entries.now →
+        RepliesGive (first ∷ body) sup.old.template entries.now (W.contents writer.old.writer) (W.contents writer.new.writer) result }
+    ensures cause { IfErr result (λ e. HasLineCause writer.new.has_refused e.fault) }
+{
+    let mut next = 2;
+    for entry in entries {
+        if let Err(OutOfMemory) = answer_entry(entry, sup, outbox) {
+            outbox.flush(writer, next)?;
+            let fault = Fault::OutOfMemory;
+            return Err(ScriptFault { fault, line: next });
+        }
+        next += 1;
+        outbox.flush_if_full(writer, next)?;
+    }
+    outbox.flush(writer, next)
+}
+
+/// Enters an entry, and puts its reply behind those that wait. After a refusal they wait as before.
+fn answer_entry<A: Allocator + Copy>(
+    entry: &Entry,
+    sup: &mut Sup<A>,
+    outbox: &mut Outbox<A>,
+) -> Result<(), OutOfMemory>
+    requires { sup.old.steps < sup.old.template.entries }
+    ensures reply { (history : List AnEntry) → IsAfter sup.old history →
+        OnOk result (outbox.new.bytes.items ≡ outbox.old.bytes.items ++ reply_text (reply_after sup.old.template history entry.now)) }
+    ensures after { (history : List AnEntry) → IsAfter sup.old history → IsAfter sup.new (history ++ entry.now ∷ []) }
+    ensures ends { OnOk result (outbox.new.ends.items ≡ outbox.old.ends.items ++ length outbox.new.bytes.items ∷ []) }
+    ensures template { sup.new.template ≡ sup.old.template }
+    ensures steps { sup.new.steps ≡ sup.old.steps + 1 }
+    ensures same_bytes { OnErr result (outbox.new.bytes.items ≡ outbox.old.bytes.items) }
+    ensures same_ends { OnErr result (outbox.new.ends.items ≡ outbox.old.ends.items) }
+{
+    let reply = sup.step(entry);
+    // Room for the mark comes first, so that nothing is to be undone where it is refused.
+    outbox.ends.reserve(1)?;
+    write_reply(&reply, &mut outbox.bytes)?;
+    outbox.ends.push(outbox.bytes.len()).unwrap();
+    Ok(())
+}

@@ -1,0 +1,94 @@
+//! Whole scripts.
+
+ghost use Rattle.std.specs.Prelude.{◌≡◌, ◌≤◌, [], false, None, IfErr};
+ghost use Rattle.sup_script.specs.Causes.{HasCause};
+ghost use Rattle.sup_script.specs.Runs.{IsRun};
+
+use crate::fault::{Fault, ScriptFault};
+use crate::runs::session::Session;
+use crate::runs::watch::{WatchedReader, WatchedWriter};
+use std::alloc::Allocator;
+use std::io::{Read, Write};
+use sup_types::Starter;
+
+/// The most bytes that a text has: 2^24.
+pub const MOST_BYTES: u64 = 16_777_216;
+
+/// The bytes that are asked for at a time.
+pub const PIECE: usize = 65_536;
+
+/// Reads a script to its end and writes the replies of its commands, those of each piece that is read before the next
+/// one is asked for.
+///
+/// On a fault in a line the replies of the lines before it are written, and nothing more is read. On a fault of reading
+/// the lines that are ended are answered, and the fault stands in the line after them. On WriteFault the line is the one
+/// whose reply was being written.
+pub fn run<A: Allocator + Copy, R: Read, W: Write, S: Starter>(
+    alloc: A,
+    reader: &mut WatchedReader<R>,
+    writer: &mut WatchedWriter<W>,
+    starter: &S,
+) -> Result<(), ScriptFault>
+    requires calls { reader.old.calls ≡ 0 }
+    requires none { reader.old.given ≡ 0 }
+    requires unfailed { reader.old.has_failed ≡ false }
+    requires unrefused { writer.old.has_refused ≡ false }
+    ensures run { IsRun S.answer (R.remaining reader.old.reader) (R.remaining reader.new.reader)
+        (W.contents writer.old.writer) (W.contents writer.new.writer) result }
+    ensures reads { reader.new.calls ≤ 16777217 }
+    ensures cause { IfErr result (λ e. HasCause reader.new.has_failed reader.new.given writer.new.has_refused e.fault) }
+{
+    let mut session = Session::new(alloc);
+    let mut part = Vec::new(alloc);
+    answer_pieces(&mut session, &mut part, reader, writer, starter)
+}
+
+/// Reads piece after piece and answers the lines that each ends, from a session in which nothing was read.
+///
+/// `part` takes the part of a line that came before a piece.
+fn answer_pieces<A: Allocator + Copy, R: Read, W: Write, S: Starter>(
+    session: &mut Session<A>,
+    part: &mut Vec<u8, A>,
+    reader: &mut WatchedReader<R>,
+    writer: &mut WatchedWriter<W>,
+    starter: &S,
+) -> Result<(), ScriptFault>
+    requires supervisor { session.old.supervisor ≡ None }
+    requires bytes { session.old.outbox.bytes.items ≡ [] }
+    requires ends { session.old.outbox.ends.items ≡ [] }
+    requires next { session.old.next ≡ 1 }
+    requires empty { part.old.items ≡ [] }
+    requires calls { reader.old.calls ≡ 0 }
+    requires none { reader.old.given ≡ 0 }
+    requires unfailed { reader.old.has_failed ≡ false }
+    requires unrefused { writer.old.has_refused ≡ false }
+    ensures run { IsRun S.answer (R.remaining reader.old.reader) (R.remaining reader.new.reader)
+        (W.contents writer.old.writer) (W.contents writer.new.writer) result }
+    ensures reads { reader.new.calls ≤ 16777217 }
+    ensures cause { IfErr result (λ e. HasCause reader.new.has_failed reader.new.given writer.new.has_refused e.fault) }
+{
+    let mut piece = [0u8; PIECE];
+    loop {
+        let room = (MOST_BYTES - reader.given()) as usize;
+        // Space comes first, so that no byte is lost where it is refused.
+        if part.reserve(PIECE).is_err() {
+            return Err(session.fault(Fault::OutOfMemory));
+        }
+        let count = match reader.read(&mut piece) {
+            Some(count) => count,
+            None => return Err(session.fault(Fault::ReadFault)),
+        };
+        if count == 0 {
+            session.answer_lines(part.as_slice(), starter, writer)?;
+            if session.next == 1 {
+                return Err(session.fault(Fault::BadLine));
+            }
+            return Ok(());
+        }
+        if count > room {
+            session.answer_piece(&piece[..room], part, starter, writer)?;
+            return Err(session.fault(Fault::TooLong));
+        }
+        session.answer_piece(&piece[..count], part, starter, writer)?;
+    }
+}

@@ -1,0 +1,224 @@
+//! Answering the lines of a script, one after the other.
+
+ghost use Rattle.std.specs.Prelude.{◌≡◌, ◌<◌, ◌≤◌, ◌+◌, ◌^◌, [], ◌⊎◌, ℕ, List, length, None, IfErr, OnOk, OnErr, vec_capacity, MatchResult};
+ghost use Rattle.sup_core.specs.Account.{IsAfter};
+ghost use Rattle.sup_script.specs.declared.fault.Fault.TheVariants.{OutOfMemory};
+ghost use Rattle.sup_script.specs.Answering.{IsAnsweredTo, IsWaiting, LineGives, NextGives, LinesGive, steps_left};
+ghost use Rattle.sup_script.specs.Causes.{IsLineFault, HasLineCause};
+ghost use Rattle.sup_script.specs.Headers.{AreHeaderWords, IsFirst, HasFirst};
+ghost use Rattle.sup_script.specs.Pieces.{IsPieceAnswered};
+ghost use Rattle.sup_script.specs.Replies.{Grows};
+ghost use Rattle.sup_script.specs.Script.{lines_of};
+ghost use Rattle.sup_script.specs.Words.{Lacks};
+
+use crate::fault::{Fault, ScriptFault};
+use crate::read::command::read_line;
+use crate::read::header::read_header;
+use crate::read::lines::{ended_part, first_line};
+use crate::runs::entered::append_answer;
+use crate::runs::watch::WatchedWriter;
+use crate::write::outbox::Outbox;
+use std::alloc::Allocator;
+use std::io::Write;
+use sup_core::Sup;
+use sup_types::Starter;
+
+/// What a run over a script goes on with.
+#[derive(Drop)]
+pub struct Session<A: Allocator> {
+    alloc: A,
+    /// The supervisor, once the header was read.
+    pub supervisor: Option<Sup<A>>,
+    /// The replies that wait.
+    pub outbox: Outbox<A>,
+    /// The number of the next line.
+    pub next: u64,
+}
+
+impl<A: Allocator + Copy> Session<A> {
+    /// No line was read.
+    pub fn new(alloc: A) -> Self
+        ensures supervisor { result.supervisor ≡ None }
+        ensures bytes { result.outbox.bytes.items ≡ [] }
+        ensures ends { result.outbox.ends.items ≡ [] }
+        ensures next { result.next ≡ 1 }
+    {
+        Session {
+            alloc,
+            supervisor: None,
+            outbox: Outbox::new(alloc),
+            next: 1,
+        }
+    }
+
+    /// This fault in the next line.
+    pub fn fault(&self, fault: Fault) -> ScriptFault
+        ensures fault { result.fault ≡ fault }
+        ensures line { result.line ≡ self.now.next }
+    {
+        ScriptFault {
+            fault,
+            line: self.next,
+        }
+    }
+
+    /// Answers the lines that a piece of the input ends, and writes their replies.
+    ///
+    /// `part` is the part of a line that came before the piece, and is then the part behind them.
+    pub fn answer_piece<W: Write, S: Starter>(
+        &mut self,
+        piece: &[u8],
+        part: &mut Vec<u8, A>,
+        starter: &S,
+        writer: &mut WatchedWriter<W>,
+    ) -> Result<(), ScriptFault>
+        requires lacks { Lacks 10 part.old.items }
+        requires room { length part.old.items + length piece.now ≤ vec_capacity part.old }
+        requires first { 1 ≤ self.old.next }
+        requires lines { self.old.next + length part.old.items + length piece.now ≤ 16777217 }
+        requires steps { length part.old.items + length piece.now ≤ steps_left self.old.supervisor }
+        requires bytes { self.old.outbox.bytes.items ≡ [] }
+        requires ends { self.old.outbox.ends.items ≡ [] }
+        ensures given { (front : List (List ℕ)) (text : List ℕ) → IsAnsweredTo S.answer front text self.old.supervisor self.old.next →
+            IsPieceAnswered S.answer front text part.old.items piece.now part.new.items self.new.supervisor self.new.next (W.contents writer.old.writer) (W.contents writer.new.writer) result }
+        ensures first { OnOk result (1 ≤ self.new.next) }
+        ensures lines { OnOk result (self.new.next + length part.new.items ≤ self.old.next + length part.old.items + length piece.now) }
+        ensures steps { OnOk result (steps_left self.old.supervisor + length part.new.items ≤ steps_left self.new.supervisor + length part.old.items + length piece.now) }
+        ensures bytes { OnOk result (self.new.outbox.bytes.items ≡ []) }
+        ensures ends { OnOk result (self.new.outbox.ends.items ≡ []) }
+        ensures cause { IfErr result (λ e. HasLineCause writer.new.has_refused e.fault) }
+    {
+        let ended = ended_part(piece);
+        if ended.is_empty() {
+            part.extend_from_slice(piece).unwrap();
+            return Ok(());
+        }
+        part.extend_from_slice(ended).unwrap();
+        self.answer_lines(part.as_slice(), starter, writer)?;
+        part.clear();
+        part.extend_from_slice(&piece[ended.len()..]).unwrap();
+        Ok(())
+    }
+
+    /// Answers the lines of a text in order, and writes their replies.
+    ///
+    /// On a fault in a line the replies of the lines before it are written.
+    pub fn answer_lines<W: Write, S: Starter>(
+        &mut self,
+        input: &[u8],
+        starter: &S,
+        writer: &mut WatchedWriter<W>,
+    ) -> Result<(), ScriptFault>
+        requires first { 1 ≤ self.old.next }
+        requires lines { self.old.next + length input.now ≤ 16777217 }
+        requires steps { length input.now ≤ steps_left self.old.supervisor }
+        requires bytes { self.old.outbox.bytes.items ≡ [] }
+        requires ends { self.old.outbox.ends.items ≡ [] }
+        ensures given { (front : List (List ℕ)) (text : List ℕ) → IsAnsweredTo S.answer front text self.old.supervisor self.old.next →
+            LinesGive S.answer front text (lines_of input.now) self.new.supervisor self.new.next (W.contents writer.old.writer) (W.contents writer.new.writer) result }
+        ensures first { OnOk result (1 ≤ self.new.next) }
+        ensures lines { OnOk result (self.new.next ≤ self.old.next + length input.now) }
+        ensures steps { steps_left self.old.supervisor ≤ steps_left self.new.supervisor + length input.now }
+        ensures bytes { OnOk result (self.new.outbox.bytes.items ≡ []) }
+        ensures ends { OnOk result (self.new.outbox.ends.items ≡ []) }
+        ensures cause { IfErr result (λ e. HasLineCause writer.new.has_refused e.fault) }
+    {
+        let mut rest = input;
+        while !rest.is_empty() {
+            let (line, after) = first_line(rest);
+            if let Err(fault) = self.answer_next(line, starter) {
+                self.outbox.flush(writer, self.next)?;
+                return Err(self.fault(fault));
+            }
+            self.next += 1;
+            rest = after;
+            self.outbox.flush_if_full(writer, self.next)?;
+        }
+        self.outbox.flush(writer, self.next)
+    }
+
+    /// Answers the next line, and puts its reply behind those that wait. After a fault they wait as before.
+    fn answer_next<S: Starter>(&mut self, line: &[u8], starter: &S) -> Result<(), Fault>
+        requires { 1 ≤ steps_left self.old.supervisor }
+        ensures given { (front : List (List ℕ)) (written : List ℕ) → IsWaiting S.answer front written self.old.outbox.bytes.items self.old.outbox.ends.items self.old.supervisor self.old.next →
+            NextGives S.answer front written line.now self.new.supervisor self.old.next self.new.outbox.bytes.items self.new.outbox.ends.items result }
+        ensures next { self.new.next ≡ self.old.next }
+        ensures steps { steps_left self.old.supervisor ≤ steps_left self.new.supervisor + 1 }
+        ensures bytes { OnErr result (self.new.outbox.bytes.items ≡ self.old.outbox.bytes.items) }
+        ensures ends { OnErr result (self.new.outbox.ends.items ≡ self.old.outbox.ends.items) }
+        ensures fault { IfErr result (λ f. IsLineFault f) }
+        ensures more { OnOk result (length self.new.outbox.ends.items ≡ length self.old.outbox.ends.items + 1) }
+    {
+        // Room for the mark comes first, so that nothing is to be undone where it is refused.
+        self.outbox.ends.reserve(1)?;
+        let start = self.outbox.bytes.len();
+        let answered = answer_line(
+            self.alloc,
+            line,
+            &mut self.supervisor,
+            starter,
+            &mut self.outbox.bytes,
+        );
+        if let Err(fault) = answered {
+            self.outbox.bytes.truncate(start);
+            return Err(fault);
+        }
+        self.outbox.ends.push(self.outbox.bytes.len()).unwrap();
+        Ok(())
+    }
+}
+
+/// Answers a line: the first one makes the supervisor, and of each other one the text of its reply is appended.
+fn answer_line<S: Starter, A: Allocator + Copy>(
+    alloc: A,
+    line: &[u8],
+    supervisor: &mut Option<Sup<A>>,
+    starter: &S,
+    out: &mut Vec<u8, A>,
+) -> Result<(), Fault>
+    requires { 1 ≤ steps_left supervisor.old }
+    ensures given { (front : List (List ℕ)) (text : List ℕ) (next : ℕ) → IsAnsweredTo S.answer front text supervisor.old next →
+        LineGives S.answer front text line.now supervisor.new next out.old.items out.new.items result }
+    ensures steps { steps_left supervisor.old ≤ steps_left supervisor.new + 1 }
+    ensures err { OnErr result (Grows out.old.items out.new.items) }
+    ensures fault { IfErr result (λ f. IsLineFault f) }
+{
+    match supervisor {
+        None => {
+            *supervisor = Some(first_supervisor(alloc, line)?);
+            Ok(())
+        }
+        Some(sup) => answer_command(line, sup, starter, out),
+    }
+}
+
+/// The supervisor that a header makes.
+fn first_supervisor<A: Allocator + Copy>(alloc: A, line: &[u8]) -> Result<Sup<A>, Fault>
+    ensures { MatchResult result (λ s. IsFirst AreHeaderWords line.now s.template × IsAfter s [])
+        (λ f. (f ≡ OutOfMemory) ⊎ HasFirst AreHeaderWords line.now (Err f)) }
+{
+    let template = read_header(line)?;
+    Ok(Sup::new(alloc, template)?)
+}
+
+/// Answers a line after the header, and appends the text of the reply.
+fn answer_command<S: Starter, A: Allocator + Copy>(
+    line: &[u8],
+    sup: &mut Sup<A>,
+    starter: &S,
+    out: &mut Vec<u8, A>,
+) -> Result<(), Fault>
+    requires { sup.old.steps < sup.old.template.entries }
+    ensures given { (front : List (List ℕ)) (text : List ℕ) (next : ℕ) → IsAnsweredTo S.answer front text (Some sup.old) next →
+        LineGives S.answer front text line.now (Some sup.new) next out.old.items out.new.items result }
+    ensures steps { steps_left (Some sup.old) ≤ steps_left (Some sup.new) + 1 }
+    ensures err { OnErr result (Grows out.old.items out.new.items) }
+    ensures fault { IfErr result (λ f. IsLineFault f) }
+{
+    let command = match read_line(line) {
+        Some(command) => command,
+        None => return Err(Fault::BadLine),
+    };
+    append_answer(command, sup, starter, out)?;
+    Ok(())
+}

@@ -1,0 +1,89 @@
+//! Replies that wait to be written.
+
+ghost use Rattle.std.specs.Prelude.{◌≡◌, ◌<◌, ◌+◌, [], length, true, IfErr, OnOk};
+ghost use Rattle.sup_script.specs.Causes.{HasLineCause};
+ghost use Rattle.sup_script.specs.Waiting.{IsCutAt, IsFlushed, IsFlushedOrKept};
+
+use crate::fault::{Fault, ScriptFault};
+use crate::runs::watch::WatchedWriter;
+use std::alloc::Allocator;
+use std::io::Write;
+
+/// The bytes at which an outbox is full.
+const FULL: usize = 65_536;
+
+/// The text of replies, and where the reply of each line ends in it.
+#[derive(Debug, Drop)]
+pub struct Outbox<A: Allocator> {
+    pub bytes: Vec<u8, A>,
+    pub ends: Vec<usize, A>,
+}
+
+impl<A: Allocator + Copy> Outbox<A> {
+    /// Nothing waits.
+    pub fn new(alloc: A) -> Self
+        ensures bytes { result.bytes.items ≡ [] }
+        ensures ends { result.ends.items ≡ [] }
+    {
+        Outbox {
+            bytes: Vec::new(alloc),
+            ends: Vec::new(alloc),
+        }
+    }
+
+    /// Writes all that waits. The line `next` is the one after the lines that were answered.
+    ///
+    /// The fault is WriteFault, in the line whose reply was being written.
+    pub fn flush<W: Write>(
+        &mut self,
+        writer: &mut WatchedWriter<W>,
+        next: u64,
+    ) -> Result<(), ScriptFault>
+        requires { length self.old.ends.items < next }
+        ensures flushed { IsFlushed self.old.bytes.items self.old.ends.items self.new.bytes.items self.new.ends.items
+            (W.contents writer.old.writer) (W.contents writer.new.writer) next result }
+        ensures cause { IfErr result (λ e. HasLineCause writer.new.has_refused e.fault) }
+    {
+        match writer.send(self.bytes.as_slice()) {
+            Ok(()) => {
+                self.bytes.clear();
+                self.ends.clear();
+                Ok(())
+            }
+            Err(taken) => {
+                let whole = whole_replies(self.ends.as_slice(), taken);
+                let fault = Fault::WriteFault;
+                let line = next - (self.ends.len() - whole) as u64;
+                Err(ScriptFault { fault, line })
+            }
+        }
+    }
+
+    /// Writes all that waits where it is much, as `flush` does. Then less than 65,536 bytes wait.
+    pub fn flush_if_full<W: Write>(
+        &mut self,
+        writer: &mut WatchedWriter<W>,
+        next: u64,
+    ) -> Result<(), ScriptFault>
+        requires { length self.old.ends.items < next }
+        ensures flushed { IsFlushedOrKept self.old.bytes.items self.old.ends.items self.new.bytes.items self.new.ends.items
+            (W.contents writer.old.writer) (W.contents writer.new.writer) next result }
+        ensures few { OnOk result (length self.new.bytes.items < 65536) }
+        ensures cause { IfErr result (λ e. HasLineCause writer.new.has_refused e.fault) }
+    {
+        if self.bytes.len() < FULL {
+            return Ok(());
+        }
+        self.flush(writer, next)
+    }
+}
+
+/// How many of the replies are wholly among the first bytes.
+fn whole_replies(ends: &[usize], taken: usize) -> usize
+    ensures { IsCutAt ends.now taken result }
+{
+    match ends.iter().position(|end| *end > taken) {
+        Some(at) => at,
+        None => ends.len(),
+    }
+}
