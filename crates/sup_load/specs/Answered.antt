@@ -1,12 +1,17 @@
--- How a script or a history text on standard input is answered.
-use Rattle.std.specs.Prelude.{◌≡◌, ℕ, Bool, List, Option, Result, IfErr}
+-- How the program answers: a script or a history text on standard input, a load, or words that are no order.
+use Rattle.std.specs.Prelude.{◌≡◌, ◌⊎◌, ℕ, Bool, true, List, Option, Result, Ok, Err, IfErr}
+use Rattle.std.specs.Io.KnownBytes.{Appends}
 use Rattle.sup_script.specs.Causes.{HasCause}
 use Rattle.sup_script.specs.Replays.{IsReplay}
 use Rattle.sup_script.specs.Runs.{IsRun}
 use Rattle.sup_script.specs.Starter.{script_answer}
 use Rattle.sup_script.specs.declared.fault.ScriptFault.{ScriptFault}
-use Rattle.sup_load.specs.Statuses.{status_of}
+use Rattle.sup_load.specs.Reports.{IsLoaded}
+use Rattle.sup_load.specs.Statuses.{status_of, status_of_load}
+use Rattle.sup_load.specs.declared.fault.LoadFault.{LoadFault}
+use Rattle.sup_load.specs.declared.fault.LoadFault.TheVariants as load
 use Rattle.sup_load.specs.declared.program.Status.{Status}
+use Rattle.sup_load.specs.declared.program.Status.TheVariants as status
 
 -- a script was run, the status is that of the run's outcome, and a fault has its cause
 pub record IsScriptAnswered (remaining left contents held : Option (List ℕ)) (has_failed : Bool) (given : ℕ) (has_refused : Bool) (status : Status) : Type 0 where
@@ -21,3 +26,29 @@ pub record IsReplayAnswered (remaining left contents held : Option (List ℕ)) (
   pub replay : IsReplay remaining left contents held outcome
   pub cause : IfErr outcome (λ e. HasCause has_failed given has_refused e.fault)
   pub status_is : status ≡ status_of outcome
+
+-- a load was run and told, and the status is that of its outcome
+pub record IsLoadAnswered (contents held : Option (List ℕ)) (has_refused : Bool) (status : Status) : Type 0 where
+  pub outcome : Result (Unit {0}) LoadFault
+  pub loaded : IsLoaded contents held has_refused outcome
+  pub status_is : status ≡ status_of_load outcome
+
+-- how a help text was written
+abbrev pub IsWritten : Option (List ℕ) → Option (List ℕ) → Bool → Result (Unit {0}) LoadFault → Type 0
+IsWritten contents held has_refused (Ok u) = (text : List ℕ) × Appends contents held text
+IsWritten contents held has_refused (Err (load.Stopped fault)) = held ≡ contents
+IsWritten contents held has_refused (Err load.WriteFault) = has_refused ≡ true
+
+-- words that are no order: a help text is written, or nothing where they are refused or memory is wanting
+abbrev pub IsShown : Option (List ℕ) → Option (List ℕ) → Bool → Status → Type 0
+IsShown contents held has_refused status.Done = (text : List ℕ) × Appends contents held text
+IsShown contents held has_refused status.BadInput = held ≡ contents
+IsShown contents held has_refused status.Failed = has_refused ≡ true
+IsShown contents held has_refused status.OtherFault = held ≡ contents
+
+-- the input is answered as a script or as a history text, or it is left alone and a load is told or a text shown
+abbrev pub IsAnswered : Option (List ℕ) → Option (List ℕ) → Option (List ℕ) → Option (List ℕ) → Bool → ℕ → Bool → Status → Type 0
+IsAnswered remaining left contents held has_failed given has_refused status =
+    IsScriptAnswered remaining left contents held has_failed given has_refused status
+    ⊎ (IsReplayAnswered remaining left contents held has_failed given has_refused status
+    ⊎ ((left ≡ remaining) × (IsLoadAnswered contents held has_refused status ⊎ IsShown contents held has_refused status)))

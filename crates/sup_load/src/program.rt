@@ -1,17 +1,14 @@
 //! The whole program, over any reader and writers.
 
-ghost use Rattle.std.specs.Prelude.{◌≡◌, ◌⊎◌, ℕ, List, [], ◌∷◌, codes, false, map, true, Err, Result};
-ghost use Rattle.sup_load.specs.Answered.{IsScriptAnswered, IsReplayAnswered};
-ghost use Rattle.sup_load.specs.Reports.{IsLoaded};
-ghost use Rattle.sup_load.specs.declared.fault.LoadFault.{LoadFault as ALoadFault};
+ghost use Rattle.std.specs.Prelude.{◌≡◌, ◌⊎◌, ℕ, List, [], ◌∷◌, codes, false, map, true};
+ghost use Rattle.sup_load.specs.Answered.{IsScriptAnswered, IsReplayAnswered, IsLoadAnswered, IsShown, IsWritten, IsAnswered};
 ghost use Rattle.sup_load.specs.Statuses.{status_of, status_of_load, status_number};
 ghost use Rattle.sup_load.specs.declared.program.Status.{Status as AStatus};
 ghost use Rattle.sup_load.specs.declared.program.Status.TheVariants.{Failed};
-ghost use Rattle.sup_load.specs.declared.fault.LoadFault.TheVariants.{WriteFault};
 
 use crate::fault::{LoadFault, StopFault};
 use crate::load::{Load, run_load, write_text};
-use crate::words::{Order, read_words};
+use crate::words::{Detail, Order, read_words};
 use clap::error::{Error, ErrorKind};
 use std::alloc::{AllocError, Global};
 use std::convert::AsStr;
@@ -19,7 +16,10 @@ use std::io;
 use std::io::{Read, Write};
 use std::sync::Wait;
 use std::thread::Threads;
-use sup_script::{Fault, ScriptFault, ScriptStarter, WatchedReader, WatchedWriter, replay, run};
+use sup_script::{
+    Explanation, Fault, FaultyLine, Format, ScriptFault, ScriptStarter, WatchedReader,
+    WatchedWriter, replay_with_line, run_with_line,
+};
 
 /// How the program ended.
 #[derive(Clone, Copy, Debug, PartialEq, Eq)]
@@ -95,15 +95,44 @@ pub fn run_words<T: Threads + Wait + Sync, S: AsStr, R: Read, W: Write, E: Write
     ensures replay { (name : List ℕ) → map S.text words.now ≡ name ∷ codes "replay" ∷ [] → (status : AStatus) × (result ≡ status_number status)
         × IsReplayAnswered (R.remaining reader.old.reader) (R.remaining reader.new.reader) (W.contents out.old.writer) (W.contents out.new.writer)
         reader.new.has_failed reader.new.given out.new.has_refused status }
+    // Whatever the words, it does one of four things.
+    ensures one { (status : AStatus) × (result ≡ status_number status)
+        × IsAnswered (R.remaining reader.old.reader) (R.remaining reader.new.reader) (W.contents out.old.writer) (W.contents out.new.writer)
+        reader.new.has_failed reader.new.given out.new.has_refused status }
     ensures cause { result ≡ 3 → (reader.new.has_failed ≡ true) ⊎ (out.new.has_refused ≡ true) }
 {
-    let status = match read_words(alloc, words) {
-        Ok(Order::Script) => answer_script(alloc, reader, out, err),
-        Ok(Order::Replay) => answer_history(alloc, reader, out, err),
+    answer_words(rt, alloc, words, reader, out, err).number()
+}
+
+/// Does what the words ask for, as [`run_words`].
+fn answer_words<T: Threads + Wait + Sync, S: AsStr, R: Read, W: Write, E: Write>(
+    rt: &T,
+    alloc: Global,
+    words: &[S],
+    reader: &mut WatchedReader<R>,
+    out: &mut WatchedWriter<W>,
+    err: &mut E,
+) -> Status
+    requires calls { reader.old.calls ≡ 0 }
+    requires none { reader.old.given ≡ 0 }
+    requires unfailed { reader.old.has_failed ≡ false }
+    requires unrefused { out.old.has_refused ≡ false }
+    ensures script { (name : List ℕ) → map S.text words.now ≡ name ∷ codes "script" ∷ []
+        → IsScriptAnswered (R.remaining reader.old.reader) (R.remaining reader.new.reader) (W.contents out.old.writer) (W.contents out.new.writer)
+        reader.new.has_failed reader.new.given out.new.has_refused result }
+    ensures replay { (name : List ℕ) → map S.text words.now ≡ name ∷ codes "replay" ∷ []
+        → IsReplayAnswered (R.remaining reader.old.reader) (R.remaining reader.new.reader) (W.contents out.old.writer) (W.contents out.new.writer)
+        reader.new.has_failed reader.new.given out.new.has_refused result }
+    ensures one { IsAnswered (R.remaining reader.old.reader) (R.remaining reader.new.reader) (W.contents out.old.writer) (W.contents out.new.writer)
+        reader.new.has_failed reader.new.given out.new.has_refused result }
+    ensures cause { result ≡ Failed → (reader.new.has_failed ≡ true) ⊎ (out.new.has_refused ≡ true) }
+{
+    match read_words(alloc, words) {
+        Ok(Order::Script(detail)) => answer_script(alloc, detail, reader, out, err),
+        Ok(Order::Replay(detail)) => answer_history(alloc, detail, reader, out, err),
         Ok(Order::Load(load)) => answer_load(rt, alloc, load, out, err),
         Err(error) => show(alloc, &error, out, err),
-    };
-    status.number()
+    }
 }
 
 /// Tells why the words of the command line could not be had, and answers the exit status: one is not UTF-8, or there was
@@ -119,6 +148,7 @@ pub fn refuse_words<E: Write>(error: &io::Error, err: &mut E) -> u8 {
 /// Answers a script. The status is that of the outcome of its run.
 fn answer_script<R: Read, W: Write, E: Write>(
     alloc: Global,
+    detail: Detail,
     reader: &mut WatchedReader<R>,
     out: &mut WatchedWriter<W>,
     err: &mut E,
@@ -130,12 +160,17 @@ fn answer_script<R: Read, W: Write, E: Write>(
     ensures { IsScriptAnswered (R.remaining reader.old.reader) (R.remaining reader.new.reader) (W.contents out.old.writer) (W.contents out.new.writer)
         reader.new.has_failed reader.new.given out.new.has_refused result }
 {
-    told(run(alloc, reader, out, &ScriptStarter), err)
+    let mut line = FaultyLine::new();
+    let outcome = run_with_line(alloc, reader, out, &ScriptStarter, &mut line);
+    let status = told(outcome, err);
+    explain(alloc, detail, Format::Script, outcome, &line, err);
+    status
 }
 
 /// Replays a history text. The status is that of the outcome of its replay.
 fn answer_history<R: Read, W: Write, E: Write>(
     alloc: Global,
+    detail: Detail,
     reader: &mut WatchedReader<R>,
     out: &mut WatchedWriter<W>,
     err: &mut E,
@@ -147,7 +182,11 @@ fn answer_history<R: Read, W: Write, E: Write>(
     ensures { IsReplayAnswered (R.remaining reader.old.reader) (R.remaining reader.new.reader) (W.contents out.old.writer) (W.contents out.new.writer)
         reader.new.has_failed reader.new.given out.new.has_refused result }
 {
-    told(replay(alloc, reader, out), err)
+    let mut line = FaultyLine::new();
+    let outcome = replay_with_line(alloc, reader, out, &mut line);
+    let status = told(outcome, err);
+    explain(alloc, detail, Format::History, outcome, &line, err);
+    status
 }
 
 /// Tells the fault of a run, if there is one, by a line on standard error.
@@ -163,6 +202,27 @@ fn told<E: Write>(outcome: Result<(), ScriptFault>, err: &mut E) -> Status
     }
 }
 
+/// Explains the fault of a run, if there is one and that is asked for, by further lines on standard error.
+fn explain<E: Write>(
+    alloc: Global,
+    detail: Detail,
+    format: Format,
+    outcome: Result<(), ScriptFault>,
+    line: &FaultyLine,
+    err: &mut E,
+) {
+    let (Detail::Explained, Err(stop)) = (detail, outcome) else {
+        return;
+    };
+    let text = match Explanation::new(alloc, format, stop, line) {
+        Some(explanation) => format!(in alloc; "{explanation}"),
+        None => format!(in alloc; "  {}\n", stop.fault),
+    };
+    if let Ok(text) = text {
+        let _ = err.write_all(text.as_bytes());
+    }
+}
+
 /// Runs a load. The fault that stopped it, if there is one, is a line on standard error.
 fn answer_load<T: Threads + Wait + Sync, W: Write, E: Write>(
     rt: &T,
@@ -171,8 +231,7 @@ fn answer_load<T: Threads + Wait + Sync, W: Write, E: Write>(
     out: &mut WatchedWriter<W>,
     err: &mut E,
 ) -> Status
-    ensures loaded { (outcome : Result (Unit {0}) ALoadFault) × (result ≡ status_of_load outcome)
-        × IsLoaded (W.contents out.old.writer) (W.contents out.new.writer) out.new.has_refused outcome }
+    ensures loaded { IsLoadAnswered (W.contents out.old.writer) (W.contents out.new.writer) out.new.has_refused result }
     ensures cause { result ≡ Failed → out.new.has_refused ≡ true }
 {
     told_load(run_load(rt, alloc, load, out), err)
@@ -198,7 +257,8 @@ fn show<W: Write, E: Write>(
     out: &mut WatchedWriter<W>,
     err: &mut E,
 ) -> Status
-    ensures { result ≡ Failed → out.new.has_refused ≡ true }
+    ensures shown { IsShown (W.contents out.old.writer) (W.contents out.new.writer) out.new.has_refused result }
+    ensures cause { result ≡ Failed → out.new.has_refused ≡ true }
 {
     if !error.use_stderr() {
         return told_load(write_help(alloc, error, out), err);
@@ -217,7 +277,7 @@ fn write_help<W: Write>(
     text: &Error,
     out: &mut WatchedWriter<W>,
 ) -> Result<(), LoadFault>
-    ensures { result ≡ Err WriteFault → out.new.has_refused ≡ true }
+    ensures { IsWritten (W.contents out.old.writer) (W.contents out.new.writer) out.new.has_refused result }
 {
     let text = format!(in alloc; "{text}")?;
     write_text(out, text.as_str())

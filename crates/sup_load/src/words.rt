@@ -2,6 +2,7 @@
 
 ghost use Rattle.std.specs.Prelude.{◌≡◌, ℕ, List, [], ◌∷◌, Ok, MatchBool, codes, map};
 ghost use Rattle.sup_load.specs.declared.words.Order.TheVariants as order;
+ghost use Rattle.sup_load.specs.declared.words.Detail.TheVariants as detail;
 
 use crate::load::Load;
 use clap::builder::ValueParser;
@@ -10,13 +11,22 @@ use clap::{Arg, ArgAction, ArgMatches, Command};
 use std::alloc::{AllocError, Global};
 use std::convert::AsStr;
 
+/// How much is said of a fault in a text.
+#[derive(Clone, Copy, Debug, PartialEq, Eq)]
+pub enum Detail {
+    /// Its number and its line.
+    Number,
+    /// These, and an explanation.
+    Explained,
+}
+
 /// What the program is asked to do.
 #[derive(Clone, Copy, Debug, PartialEq, Eq)]
 pub enum Order {
     /// To answer a script.
-    Script,
+    Script(Detail),
     /// To replay a history text.
-    Replay,
+    Replay(Detail),
     /// To run a crew beside readers.
     Load(Load),
 }
@@ -45,10 +55,26 @@ Each further line is a command:
   terminate_id TEXT, delete_child TEXT, restart_child TEXT
 
 A moment is a whole number of seconds. An argument `ignore` is answered by no child, `fail` by a failure, and
-`gap:A:B` by a failure from moment A on until moment B.
+`gap:A:B` by a failure from moment A on until moment B, B excluded.
+
+One space stands between two words of a line, and none at its beginning or end. A text has 1 to 40 visible
+characters of ASCII, so it has no space. A number has digits alone, no sign and no leading zero, and is at most
+18446744073709551615. A line ends with a line feed, which the last line may lack.
 
 Example:
-  printf 'sup permanent worker 1 5 10\\nstart 0 a\\nexit 1 1 normal\\nwhich\\n' | supload script";
+  supload script <<END
+  sup permanent worker 1 5 10
+  start 0 session-17
+  exit 1 1 crash
+  which
+  exit 2 2 crash
+  END
+writes
+  ok 1
+  restarted 1 2
+  child 2 running session-17
+  end 1
+  gave_up";
 
 const REPLAY: &str =
     "Reads a history text on standard input and writes the reply of each entry on standard output";
@@ -62,10 +88,25 @@ and an automatic shutdown (never, any, all); or `history 1` with all but the las
 
 Each further line is an entry: HANDLE SERIAL MOMENT OPERATION ANSWER. The operation is `start TEXT`,
 `exit NUMBER REASON`, `retry NUMBER`, `terminate NUMBER` or `stop`; the answer is what the start function answered:
-`running`, `ignore` or `failed CODE`. Every line ends with a line feed. Nothing is written before all was read.
+`running`, `ignore` or `failed CODE`. Nothing is written before all was read.
+
+One space stands between two words of a line, and none at its beginning or end. A text has 1 to 40 visible
+characters of ASCII, so it has no space. A number has digits alone, no sign and no leading zero, and is at most
+18446744073709551615; a code is at most 4294967295. Every line ends with a line feed, the last one too.
 
 Example:
-  printf 'history 1 permanent worker 1 5 10\\n1 0 0 start a running\\n' | supload replay";
+  supload replay <<END
+  history 2 permanent worker 1 5 10 plain never
+  1 0 0 start session-17 running
+  1 1 1 exit 1 crash failed 3
+  1 2 2 retry 1 running
+  1 3 3 stop ignore
+  END
+writes
+  ok 1
+  restarting 1 3
+  gave_up
+  error down";
 
 const LOAD: &str = "Runs a crew beside readers, and writes what it came to";
 
@@ -86,17 +127,48 @@ const STATUSES: &str = "Exit status:
   4  any other fault, as want of memory
 A fault in the input is one line on standard error: `fault N line L`; another fault is `fault N`.";
 
+const FAULTS: &str =
+    "A fault is one line on standard error: `fault N line L`, with its number and the line's:
+   1  out of memory
+   7  a number of the first line is out of its range, or `significant` can't stand there
+   9  a line that is none of the format
+  10  standard input could not be read
+  11  standard output could not be written
+  12  more than 16777216 bytes came
+With --explain further lines show the line, what is wrong with it and what was expected.
+
+Exit status:
+  0  all was answered
+  2  fault 7, 9 or 12, or the words are wrong
+  3  fault 10 or 11
+  4  fault 1";
+
+const LOAD_FAULTS: &str = "A fault is one line on standard error: `fault N`, with its number:
+   1  out of memory, or a thread was refused
+   2  the history is full
+   3  what a handle saw can't be tied to the history
+   4  a reader was refused
+   5  all handles were made
+   6  there is no place for a reader
+  11  standard output could not be written
+
+Exit status:
+  0  the load was run
+  2  the words are wrong
+  3  fault 11
+  4  any other fault";
+
 /// Reads the words of the command line, of which the first is the program's name. A help text, the version and words that
 /// are refused are an error of `clap`, which says where it is to be written.
 pub fn read_words<S: AsStr>(alloc: Global, words: &[S]) -> Result<Order, Error>
-    ensures script { (name : List ℕ) → map S.text words.now ≡ name ∷ codes "script" ∷ [] → result ≡ Ok order.Script }
-    ensures replay { (name : List ℕ) → map S.text words.now ≡ name ∷ codes "replay" ∷ [] → result ≡ Ok order.Replay }
+    ensures script { (name : List ℕ) → map S.text words.now ≡ name ∷ codes "script" ∷ [] → result ≡ Ok (order.Script detail.Number) }
+    ensures replay { (name : List ℕ) → map S.text words.now ≡ name ∷ codes "replay" ∷ [] → result ≡ Ok (order.Replay detail.Number) }
 {
     if is_command(words, "script") {
-        return Ok(Order::Script);
+        return Ok(Order::Script(Detail::Number));
     }
     if is_command(words, "replay") {
-        return Ok(Order::Replay);
+        return Ok(Order::Replay(Detail::Number));
     }
     read_options(alloc, words)
 }
@@ -114,8 +186,8 @@ fn read_options<S: AsStr>(alloc: Global, words: &[S]) -> Result<Order, Error> {
     let mut command = command(alloc)?;
     let matches = command.try_get_matches_from_mut(words)?;
     match matches.subcommand() {
-        Some(("script", _)) => Ok(Order::Script),
-        Some(("replay", _)) => Ok(Order::Replay),
+        Some(("script", words)) => Ok(Order::Script(read_detail(words))),
+        Some(("replay", words)) => Ok(Order::Replay(read_detail(words))),
         Some(("load", words)) => match read_load(words) {
             Some(load) => Ok(Order::Load(load)),
             None => refused(alloc, ErrorKind::ValueValidation, "a number is missing"),
@@ -131,6 +203,15 @@ fn read_options<S: AsStr>(alloc: Global, words: &[S]) -> Result<Order, Error> {
 fn refused(alloc: Global, kind: ErrorKind, text: &str) -> Result<Order, Error> {
     let mut command = Command::new(alloc, "supload");
     Err(command.error(kind, text)?)
+}
+
+/// How much is to be said of a fault.
+fn read_detail(words: &ArgMatches) -> Detail {
+    if words.get_flag("explain") {
+        Detail::Explained
+    } else {
+        Detail::Number
+    }
 }
 
 /// The numbers of a load. `clap` has read them within their ranges.
@@ -185,29 +266,39 @@ fn load_command<'a>(alloc: Global) -> Result<Command<'a>, AllocError> {
     Command::new(alloc, "load")
         .about(LOAD)
         .long_about(LOAD_HELP)
-        .after_help(STATUSES)
+        .after_help(LOAD_FAULTS)
         .arg(workers)?
         .arg(children)?
         .arg(readers)?
         .arg(turns)
 }
 
+/// A command that reads a text on standard input.
+fn text_command<'a>(
+    alloc: Global,
+    name: &'a str,
+    about: &'a str,
+    help: &'a str,
+) -> Result<Command<'a>, AllocError> {
+    let explain = Arg::new(alloc, "explain")
+        .long("explain")
+        .help("Explains a fault in a line")
+        .action(ArgAction::SetTrue);
+    Command::new(alloc, name)
+        .about(about)
+        .long_about(help)
+        .after_help(FAULTS)
+        .arg(explain)
+}
+
 fn command<'a>(alloc: Global) -> Result<Command<'a>, AllocError> {
-    let script = Command::new(alloc, "script")
-        .about(SCRIPT)
-        .long_about(SCRIPT_HELP)
-        .after_help(STATUSES);
-    let replay = Command::new(alloc, "replay")
-        .about(REPLAY)
-        .long_about(REPLAY_HELP)
-        .after_help(STATUSES);
     Command::new(alloc, "supload")
         .bin_name("supload")?
         .about(ABOUT)
         .version(VERSION)
         .after_help(STATUSES)
         .subcommand_required(true)
-        .subcommand(script)?
-        .subcommand(replay)?
+        .subcommand(text_command(alloc, "script", SCRIPT, SCRIPT_HELP)?)?
+        .subcommand(text_command(alloc, "replay", REPLAY, REPLAY_HELP)?)?
         .subcommand(load_command(alloc)?)
 }

@@ -26,6 +26,7 @@
 //! ```
 #![tactic(auto)]
 
+mod explain;
 mod fault;
 pub mod laws;
 mod read;
@@ -33,11 +34,12 @@ mod runs;
 mod starter;
 mod write;
 
+pub use explain::{Explanation, FaultyLine, Format};
 pub use fault::{Fault, ScriptFault};
 pub use read::command::{Command, read_line};
 pub use read::history::{History, HistoryFault, read_history};
-pub use runs::replays::replay;
-pub use runs::script::run;
+pub use runs::replays::{replay, replay_with_line};
+pub use runs::script::{run, run_with_line};
 pub use runs::watch::{WatchedReader, WatchedWriter};
 pub use starter::ScriptStarter;
 pub use write::history_text::write_history;

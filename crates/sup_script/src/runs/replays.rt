@@ -9,6 +9,7 @@ ghost use Rattle.sup_script.specs.History.{AreFirstWords, AreEntries};
 ghost use Rattle.sup_script.specs.Replays.{IsReplay, RepliesGive};
 ghost use Rattle.sup_script.specs.Replies.{reply_text};
 
+use crate::explain::FaultyLine;
 use crate::fault::{Fault, ScriptFault};
 use crate::read::history::{HistoryFault, read_history};
 use crate::read::input::{line_after, read_whole};
@@ -40,6 +41,25 @@ pub fn replay<A: Allocator + Copy, R: Read, W: Write>(
     ensures reads { reader.new.calls ≤ 16777217 }
     ensures cause { IfErr result (λ e. HasCause reader.new.has_failed reader.new.given writer.new.has_refused e.fault) }
 {
+    replay_with_line(alloc, reader, writer, &mut FaultyLine::new())
+}
+
+/// As [`replay`], and keeps the line that has the fault, where the fault is one of the text.
+pub fn replay_with_line<A: Allocator + Copy, R: Read, W: Write>(
+    alloc: A,
+    reader: &mut WatchedReader<R>,
+    writer: &mut WatchedWriter<W>,
+    faulty: &mut FaultyLine,
+) -> Result<(), ScriptFault>
+    requires calls { reader.old.calls ≡ 0 }
+    requires none { reader.old.given ≡ 0 }
+    requires unfailed { reader.old.has_failed ≡ false }
+    requires unrefused { writer.old.has_refused ≡ false }
+    ensures replay { IsReplay (R.remaining reader.old.reader) (R.remaining reader.new.reader)
+        (W.contents writer.old.writer) (W.contents writer.new.writer) result }
+    ensures reads { reader.new.calls ≤ 16777217 }
+    ensures cause { IfErr result (λ e. HasCause reader.new.has_failed reader.new.given writer.new.has_refused e.fault) }
+{
     let mut text = Vec::new(alloc);
     if let Err(fault) = read_whole(reader, &mut text) {
         let line = line_after(text.as_slice());
@@ -47,10 +67,23 @@ pub fn replay<A: Allocator + Copy, R: Read, W: Write>(
     }
     let history = match read_history(alloc, text.as_slice()) {
         Ok(history) => history,
-        Err(HistoryFault { fault, line }) => return Err(ScriptFault { fault, line }),
+        Err(HistoryFault { fault, line }) => {
+            keep_line(&text, line, faulty);
+            return Err(ScriptFault { fault, line });
+        }
     };
     let entries = history.entries.as_slice();
     answer_entries(alloc, history.template, entries, writer)
+}
+
+/// Keeps the line of this number, from 1 on.
+fn keep_line<A: Allocator>(text: &Vec<u8, A>, number: u64, faulty: &mut FaultyLine) {
+    for (place, line) in text.as_slice().split(|byte| *byte == b'\n').enumerate() {
+        if place as u64 + 1 == number {
+            faulty.keep(line);
+            return;
+        }
+    }
 }
 
 /// Writes the replies to the entries of a history that begins with a template.

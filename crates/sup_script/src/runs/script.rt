@@ -4,6 +4,7 @@ ghost use Rattle.std.specs.Prelude.{◌≡◌, ◌≤◌, [], false, None, IfErr
 ghost use Rattle.sup_script.specs.Causes.{HasCause};
 ghost use Rattle.sup_script.specs.Runs.{IsRun};
 
+use crate::explain::FaultyLine;
 use crate::fault::{Fault, ScriptFault};
 use crate::runs::session::Session;
 use crate::runs::watch::{WatchedReader, WatchedWriter};
@@ -38,9 +39,32 @@ pub fn run<A: Allocator + Copy, R: Read, W: Write, S: Starter>(
     ensures reads { reader.new.calls ≤ 16777217 }
     ensures cause { IfErr result (λ e. HasCause reader.new.has_failed reader.new.given writer.new.has_refused e.fault) }
 {
+    run_with_line(alloc, reader, writer, starter, &mut FaultyLine::new())
+}
+
+/// As [`run`], and keeps the line that has the fault, where the fault is one that a line has of itself. It is the empty
+/// line where the input is empty.
+pub fn run_with_line<A: Allocator + Copy, R: Read, W: Write, S: Starter>(
+    alloc: A,
+    reader: &mut WatchedReader<R>,
+    writer: &mut WatchedWriter<W>,
+    starter: &S,
+    line: &mut FaultyLine,
+) -> Result<(), ScriptFault>
+    requires calls { reader.old.calls ≡ 0 }
+    requires none { reader.old.given ≡ 0 }
+    requires unfailed { reader.old.has_failed ≡ false }
+    requires unrefused { writer.old.has_refused ≡ false }
+    ensures run { IsRun S.answer (R.remaining reader.old.reader) (R.remaining reader.new.reader)
+        (W.contents writer.old.writer) (W.contents writer.new.writer) result }
+    ensures reads { reader.new.calls ≤ 16777217 }
+    ensures cause { IfErr result (λ e. HasCause reader.new.has_failed reader.new.given writer.new.has_refused e.fault) }
+{
     let mut session = Session::new(alloc);
     let mut part = Vec::new(alloc);
-    answer_pieces(&mut session, &mut part, reader, writer, starter)
+    let outcome = answer_pieces(&mut session, &mut part, reader, writer, starter);
+    *line = session.faulty;
+    outcome
 }
 
 /// Reads piece after piece and answers the lines that each ends, from a session in which nothing was read.

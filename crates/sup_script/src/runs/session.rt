@@ -11,6 +11,7 @@ ghost use Rattle.sup_script.specs.Replies.{Grows};
 ghost use Rattle.sup_script.specs.Script.{lines_of};
 ghost use Rattle.sup_script.specs.Words.{Lacks};
 
+use crate::explain::FaultyLine;
 use crate::fault::{Fault, ScriptFault};
 use crate::read::command::read_line;
 use crate::read::header::read_header;
@@ -33,6 +34,8 @@ pub struct Session<A: Allocator> {
     pub outbox: Outbox<A>,
     /// The number of the next line.
     pub next: u64,
+    /// The line that has a fault, once there is one.
+    pub faulty: FaultyLine,
 }
 
 impl<A: Allocator + Copy> Session<A> {
@@ -48,6 +51,7 @@ impl<A: Allocator + Copy> Session<A> {
             supervisor: None,
             outbox: Outbox::new(alloc),
             next: 1,
+            faulty: FaultyLine::new(),
         }
     }
 
@@ -127,6 +131,7 @@ impl<A: Allocator + Copy> Session<A> {
         while !rest.is_empty() {
             let (line, after) = first_line(rest);
             if let Err(fault) = self.answer_next(line, starter) {
+                self.faulty.keep(line);
                 self.outbox.flush(writer, self.next)?;
                 return Err(self.fault(fault));
             }

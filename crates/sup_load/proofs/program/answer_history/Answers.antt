@@ -2,4 +2,4 @@
 use Rattle.sup_load.proofs.program.answer_history.Goals as goal
 
 pub returns : goal.returns
-returns g c = record { outcome = c.replay.result; replay = c.replay.ensures.replay; cause = c.replay.ensures.cause; status_is = c.told.ensures }
+returns g c = record { outcome = c.replay_with_line-outcome.result; replay = c.replay_with_line-outcome.ensures.replay; cause = c.replay_with_line-outcome.ensures.cause; status_is = c.told-status.ensures }

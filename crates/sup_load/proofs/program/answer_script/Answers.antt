@@ -2,4 +2,4 @@
 use Rattle.sup_load.proofs.program.answer_script.Goals as goal
 
 pub returns : goal.returns
-returns g c = record { outcome = c.run.result; run = c.run.ensures.run; cause = c.run.ensures.cause; status_is = c.told.ensures }
+returns g c = record { outcome = c.run_with_line-outcome.result; run = c.run_with_line-outcome.ensures.run; cause = c.run_with_line-outcome.ensures.cause; status_is = c.told-status.ensures }

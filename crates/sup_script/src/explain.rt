@@ -1,0 +1,246 @@
+//! Why a line has a fault, in words that a person can act on.
+//!
+//! A fault names its line by a number. An [`Explanation`] shows the line, marks the place in it, and says what may stand
+//! there. It reads the line word by word with the functions that read commands and entries.
+pub mod faulty;
+mod shape;
+mod walk;
+mod wanted;
+
+use crate::explain::walk::{Misfit, first_misfit, first_out_of_range, mark_of};
+use crate::explain::wanted::Wanted;
+use crate::fault::{Fault, ScriptFault};
+use crate::read::words::read_number;
+pub use faulty::FaultyLine;
+pub use shape::Format;
+use std::alloc::Allocator;
+use std::{fmt, str};
+use strsim::osa_distance;
+
+/// What is wrong at a place of a line.
+#[derive(Clone, Copy)]
+enum Wrong {
+    LineEnds,
+    EmptyWord,
+    OddByte(u8),
+    TextOf(usize),
+    TextIsLonger,
+    NoNumber,
+    TooMuch,
+    Unknown,
+    Near(&'static str),
+    OutOfRange,
+    PermanentIsSignificant,
+    SignificantStaysUp,
+    Unended,
+}
+
+/// What is wrong with a line of a script or of a history text, where, and what may stand there. It is shown by three
+/// lines: the line itself, a mark under the place with what is wrong, and what was expected.
+#[derive(Clone, Copy)]
+pub struct Explanation<'a> {
+    line: &'a FaultyLine,
+    from: usize,
+    marked: usize,
+    wrong: Wrong,
+    wanted: Wanted,
+}
+
+impl<'a> Explanation<'a> {
+    /// Explains the fault of a line, where it is one that a line can have of itself: BadLine or BadTemplate. A word
+    /// that is likely meant is named, where there is memory to look for it.
+    pub fn new<A: Allocator + Copy>(
+        alloc: A,
+        format: Format,
+        stop: ScriptFault,
+        line: &'a FaultyLine,
+    ) -> Option<Explanation<'a>> {
+        match stop.fault {
+            Fault::BadLine => Some(explain_line(alloc, format, stop.line == 1, line)),
+            Fault::BadTemplate => explain_template(format, line),
+            _ => None,
+        }
+    }
+}
+
+fn explain_line<A: Allocator + Copy>(
+    alloc: A,
+    format: Format,
+    is_first: bool,
+    line: &FaultyLine,
+) -> Explanation<'_> {
+    match first_misfit(format, is_first, line.bytes()) {
+        Some(misfit) => {
+            let wrong = wrong_at(alloc, &misfit, line.is_cut());
+            explain_at(line, &misfit, wrong)
+        }
+        // All words are those of the format, so what is missing is the line's end.
+        None => Explanation {
+            line,
+            from: line.bytes().len(),
+            marked: 1,
+            wrong: Wrong::Unended,
+            wanted: Wanted::End,
+        },
+    }
+}
+
+/// Explains why no template has the parts that a first line names.
+fn explain_template(format: Format, line: &FaultyLine) -> Option<Explanation<'_>> {
+    if let Some(misfit) = first_out_of_range(format, line.bytes()) {
+        return Some(explain_at(line, &misfit, Wrong::OutOfRange));
+    }
+    let misfit = mark_of(format, line.bytes())?;
+    let is_permanent = line
+        .bytes()
+        .split(|byte| *byte == b' ')
+        .any(|word| word == b"permanent".as_slice());
+    if is_permanent {
+        return Some(explain_at(line, &misfit, Wrong::PermanentIsSignificant));
+    }
+    Some(explain_at(line, &misfit, Wrong::SignificantStaysUp))
+}
+
+fn explain_at<'a>(line: &'a FaultyLine, misfit: &Misfit, wrong: Wrong) -> Explanation<'a> {
+    let marked = match misfit.word {
+        Some(word) => word.len().max(1),
+        None => 1,
+    };
+    Explanation {
+        line,
+        from: line.bytes().len().saturating_sub(misfit.left),
+        marked,
+        wrong,
+        wanted: misfit.wanted,
+    }
+}
+
+/// What is wrong with the word at a place of a line, which may be cut behind it.
+fn wrong_at<A: Allocator + Copy>(alloc: A, misfit: &Misfit, is_cut: bool) -> Wrong {
+    let Some(word) = misfit.word else {
+        return Wrong::LineEnds;
+    };
+    if misfit.wanted == Wanted::End {
+        return Wrong::TooMuch;
+    }
+    if word.is_empty() {
+        return Wrong::EmptyWord;
+    }
+    if let Some(byte) = word.iter().copied().find(|byte| !byte.is_ascii_graphic()) {
+        return Wrong::OddByte(byte);
+    }
+    match misfit.wanted {
+        Wanted::Text => wrong_text(word, is_cut),
+        Wanted::Reason => wrong_text(term_of(word), is_cut),
+        wanted if wanted.is_number() => wrong_number(word),
+        wanted => match nearest(alloc, word, wanted.choices()) {
+            Some(choice) => Wrong::Near(choice),
+            None => Wrong::Unknown,
+        },
+    }
+}
+
+/// The text that a reason consists of, or ends with.
+fn term_of(word: &[u8]) -> &[u8] {
+    word.strip_prefix(b"shutdown:".as_slice()).unwrap_or(word)
+}
+
+fn wrong_text(text: &[u8], is_cut: bool) -> Wrong {
+    if text.len() <= 40 {
+        return Wrong::Unknown;
+    }
+    if is_cut {
+        return Wrong::TextIsLonger;
+    }
+    Wrong::TextOf(text.len())
+}
+
+fn wrong_number(word: &[u8]) -> Wrong {
+    if read_number(word).is_some() {
+        return Wrong::OutOfRange;
+    }
+    Wrong::NoNumber
+}
+
+/// The most changes of a character by which a word is taken for another one.
+const MOST_CHANGES: usize = 2;
+
+/// The choice that is likely meant: one that is few changes away.
+fn nearest<A: Allocator + Copy>(
+    alloc: A,
+    word: &[u8],
+    choices: &'static [&'static str],
+) -> Option<&'static str> {
+    let word = str::from_utf8(word).ok()?;
+    let mut found = None;
+    let mut least = MOST_CHANGES + 1;
+    for choice in choices {
+        let changes = osa_distance(alloc, word, choice).ok()?;
+        if changes < least {
+            least = changes;
+            found = Some(*choice);
+        }
+    }
+    found
+}
+
+impl fmt::Display for Wrong {
+    fn fmt<W: fmt::Write>(&self, f: &mut fmt::Formatter<W>) -> fmt::Result {
+        match self {
+            Wrong::LineEnds => f.write_str("the line ends here"),
+            Wrong::EmptyWord => f.write_str(
+                "no word stands here: there is one space between two words, and none at a line's beginning or end",
+            ),
+            Wrong::OddByte(byte) => {
+                write!(
+                    f,
+                    "the byte 0x{byte:02X} stands in no word, and a line ends with 0x0A alone"
+                )
+            }
+            Wrong::TextOf(length) => write!(f, "this text has {length} bytes, and 40 are allowed"),
+            Wrong::TextIsLonger => f.write_str("this text has more than 40 bytes"),
+            Wrong::NoNumber => f.write_str(
+                "this is no number: digits alone, no sign, no leading zero, at most 18446744073709551615",
+            ),
+            Wrong::TooMuch => f.write_str("the line has more words than it may have"),
+            Wrong::Unknown => f.write_str("this can't stand here"),
+            Wrong::Near(choice) => write!(f, "did you mean `{choice}`?"),
+            Wrong::OutOfRange => f.write_str("this number is out of its range"),
+            Wrong::PermanentIsSignificant => f.write_str("a permanent child can't be significant"),
+            Wrong::SignificantStaysUp => {
+                f.write_str("a significant child needs the automatic shutdown `any` or `all`")
+            }
+            Wrong::Unended => f.write_str("the line lacks its line feed"),
+        }
+    }
+}
+
+impl fmt::Display for Explanation<'_> {
+    fn fmt<W: fmt::Write>(&self, f: &mut fmt::Formatter<W>) -> fmt::Result {
+        f.write_str("  ")?;
+        for byte in self.line.bytes() {
+            f.write_char(shown(*byte))?;
+        }
+        if self.line.is_cut() {
+            f.write_str(" ..")?;
+        }
+        f.write_str("\n  ")?;
+        for _ in 0..self.from {
+            f.write_char(' ')?;
+        }
+        for _ in 0..self.marked {
+            f.write_char('^')?;
+        }
+        let (wrong, wanted) = (self.wrong, self.wanted.in_words());
+        write!(f, " {wrong}\n  expected {wanted}\n")
+    }
+}
+
+/// The character by which a byte of a line is shown.
+fn shown(byte: u8) -> char {
+    if byte == b' ' || byte.is_ascii_graphic() {
+        char::from(byte)
+    } else {
+        '?'
+    }
+}
