@@ -5,7 +5,7 @@
 //! back as they come. Where all places are used, or clearly more than half of them are empty, the listed children move to the
 //! front in their order, and the places behind them are given back. That needs no memory, and leaves where they are those in
 //! front of the first empty place.
-ghost use Rattle.std.specs.Prelude.{true, false, ◌≡◌, ◌≤◌, ◌<◌, ◌+◌, ◌-◌, ◌*◌, ◌^◌, ℕ, List, [], ◌∷◌, ◌++◌, IfOk, None, Some, map, length, nat_eq, is_some, slice_index_or, take, MatchBool, MatchOption, IsSome, if◌then◌else◌};
+ghost use Rattle.std.specs.Prelude.{true, false, ◌≡◌, ◌≤◌, ◌<◌, ◌+◌, ◌-◌, ◌*◌, ◌^◌, ℕ, List, [], ◌∷◌, ◌++◌, IfOk, None, Some, map, length, nat_eq, is_some, slice_index_or, take, MatchBool, MatchOption, IsOk, IsSome, if◌then◌else◌};
 ghost use Rattle.std.specs.List.{list_any, cons_option};
 ghost use Rattle.std.specs.Option.{option_copied, option_map, option_map_or};
 ghost use Rattle.std.specs.Map.{set_value};
@@ -71,13 +71,6 @@ impl<A: Allocator + Copy> Table<A> {
         })
     }
 
-    /// How many children were made.
-    pub(crate) fn made(&self) -> u64
-        ensures { result ≡ self.now.made }
-    {
-        self.made
-    }
-
     /// How many rows there are.
     pub(crate) fn len(&self) -> u64
         ensures value { result ≡ length self.now.rows }
@@ -115,7 +108,8 @@ impl<A: Allocator + Copy> Table<A> {
 
     /// The rows, by ascending numbers.
     pub(crate) fn copied(&self, alloc: A) -> Result<Vec<Row, A>, AllocError>
-        ensures { IfOk result (λ copy. copy.items ≡ self.now.rows) }
+        ensures rows { IfOk result (λ copy. copy.items ≡ self.now.rows) }
+        ensures free { self.now.rows ≡ [] → IsOk result }
     {
         let mut copy = Vec::with_capacity(alloc, self.live as usize)?;
         copy_listed(&self.places, &mut copy);

@@ -3,7 +3,7 @@ use Rattle.std.proofs.Common.{◌≡◌, subst}
 use Rattle.std.specs.Prelude.{IfOk}
 use Rattle.sup_types.specs.declared.view.Seen.TheVariants.{Up, Down}
 use Rattle.sup_core.specs.State.{State, MatchSeen, seen_of}
-use Rattle.sup_core.proofs.Sup.rows.Goals as goal
+use Rattle.sup_core.proofs.supervisor.Sup.rows.Goals as goal
 
 pub returns-clause-history : goal.returns-clause-history
 returns-clause-history g c = λ history after.

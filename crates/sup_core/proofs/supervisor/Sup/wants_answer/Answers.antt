@@ -1,7 +1,7 @@
 -- The recount of the whole history asks the same.
 use Rattle.std.proofs.Common.{◌∙◌}
 use Rattle.sup_core.proofs.HistoryLemmas.{after-asked_argument}
-use Rattle.sup_core.proofs.Sup.wants_answer.Goals as goal
+use Rattle.sup_core.proofs.supervisor.Sup.wants_answer.Goals as goal
 
 pub returns-clause-history : goal.returns-clause-history
 returns-clause-history g c = λ history after.

@@ -1,0 +1,457 @@
+//! The supervisor: its entries and its queries.
+//!
+//! Some public functions only call a private one: `counts` calls `count`, `child` calls `find`, `rows` calls `copied`,
+//! `wants_answer` calls `asked_argument` and `step` calls `advance`. The private one is proved of the supervisor's state,
+//! by its code. The public one is proved from that of the whole history, by lemmas on the reference semantics. So no proof
+//! walks through code and history at once.
+ghost use Rattle.std.specs.Prelude.{◌≡◌, ◌==◌, ◌<◌, ◌≤◌, ℕ, ◌+◌, List, [], ◌∷◌, ◌++◌, IsTrue, IfOk, IsOk, ◌⊎◌, MatchOption, false, true, length, if◌then◌else◌};
+ghost use Rattle.std.specs.List.{list_any};
+ghost use Rattle.sup_window.specs.Attempts.{keep_last};
+ghost use Rattle.sup_types.specs.declared.history.Entry.{Entry};
+ghost use Rattle.sup_types.specs.declared.history.Operation.{Operation};
+ghost use Rattle.sup_types.specs.declared.history.Answer.{Answer};
+ghost use Rattle.sup_core.specs.Rows.{has_number, runs_as, stands_as, row_at, counts_of};
+ghost use Rattle.sup_core.specs.State.{State, arrived, seen_of, MatchSeen};
+ghost use Rattle.sup_core.specs.Replies.{reply_to, reply_up, let_go, shuts_down, attempted, bears, is_full, asked_argument, asked_again};
+ghost use Rattle.sup_core.specs.Changes.{running, changed, next_state};
+ghost use Rattle.sup_core.specs.Account.{IsAfter, reply_after, state_after, account, is_down};
+ghost use Rattle.sup_core.specs.Queries.{which, count, child};
+
+use crate::table::Table;
+use std::alloc::{Allocator, Global};
+use std::marker::Model;
+use sup_types::{
+    Answer, AutoShutdown, Counts, Entry, Kind, Operation, OutOfMemory, Reason, Reply, Row, Seen,
+    Status, Template, Text,
+};
+use sup_window::Window;
+
+/// A supervisor, with room for the children and the attempts that its template allows.
+#[derive(Drop)]
+pub struct Sup<A: Allocator = Global> {
+    template: Template,
+    table: Table<A>,
+    window: Window<A>,
+    alloc: A,
+    latest: u64,
+    steps: u64,
+    down: bool,
+}
+
+impl<A: Allocator> Model for Sup<A> {
+    ghost use Rattle.std.specs.Prelude.{◌≡◌, ◌≤◌};
+    ghost use Rattle.sup_core.specs.State.{State};
+
+    ghost Value = { State };
+
+    ghost view = { λ s. record { template = s.template; rows = s.table.rows; made = s.table.made; latest = s.latest; attempts = s.window.moments; down = s.down; steps = s.steps } };
+
+    ghost invariant = { λ s. (s.table.max ≡ s.template.max)
+        × (s.window.intensity ≡ s.template.intensity) × (s.window.period ≡ s.template.period) × (s.window.latest ≤ s.latest)
+        × (s.table.made ≤ s.steps) × (s.steps ≤ s.template.entries) };
+}
+
+impl<A: Allocator + Copy> Sup<A> {
+    /// A supervisor without children. It makes room for all that its template allows.
+    pub fn new(alloc: A, template: Template) -> Result<Self, OutOfMemory>
+        ensures { IfOk result (λ s. IsAfter s [] × (s.template ≡ template)) }
+    {
+        let window = Window::new(alloc, template.intensity, template.period)?;
+        let table = Table::new(alloc, template.max)?;
+        Ok(Sup {
+            template,
+            table,
+            window,
+            alloc,
+            latest: 0,
+            steps: 0,
+            down: false,
+        })
+    }
+
+    /// Whether the supervisor gave up, was stopped or went down with a significant child.
+    pub fn is_down(&self) -> bool
+        ensures value { result ≡ self.now.down }
+        ensures history { (history : List Entry) → IsAfter self.now history → result ≡ is_down (account self.now.template history) }
+    {
+        self.down
+    }
+
+    /// How many entries there were.
+    pub fn stamp(&self) -> u64
+        ensures value { result ≡ self.now.steps }
+        ensures history { (history : List Entry) → IsAfter self.now history → result ≡ length history }
+    {
+        self.steps
+    }
+
+    /// Whether there were as many entries as the template allows.
+    pub fn is_spent(&self) -> bool
+        ensures value { result ≡ (self.now.steps == self.now.template.entries) }
+        ensures room { result ≡ false → self.now.steps < self.now.template.entries }
+        ensures history { (history : List Entry) → IsAfter self.now history → result ≡ (length history == self.now.template.entries) }
+    {
+        self.steps == self.template.entries
+    }
+
+    /// How many children there are.
+    pub fn counts(&self) -> Seen<Counts>
+        ensures value { result ≡ seen_of self.now (counts_of self.now.template.kind self.now.rows) }
+        ensures history { (history : List Entry) → IsAfter self.now history
+            → result ≡ count self.now.template history }
+    {
+        self.count()
+    }
+
+    fn count(&self) -> Seen<Counts>
+        ensures { result ≡ seen_of self.now (counts_of self.now.template.kind self.now.rows) }
+    {
+        if self.down {
+            return Seen::Down;
+        }
+        let active = self.table.running_count();
+        let all = self.table.len();
+        let (supervisors, workers) = match self.template.kind {
+            Kind::Worker => (0, all),
+            Kind::Supervisor => (all, 0),
+        };
+        Seen::Up(Counts {
+            specs: 1,
+            active,
+            supervisors,
+            workers,
+        })
+    }
+
+    /// The listed child with this number.
+    pub fn child(&self, number: u64) -> Seen<Option<Row>>
+        ensures value { result ≡ seen_of self.now (row_at number self.now.rows) }
+        ensures history { (history : List Entry) → IsAfter self.now history
+            → result ≡ child self.now.template history number }
+    {
+        self.find(number)
+    }
+
+    fn find(&self, number: u64) -> Seen<Option<Row>>
+        ensures { result ≡ seen_of self.now (row_at number self.now.rows) }
+    {
+        if self.down {
+            return Seen::Down;
+        }
+        Seen::Up(self.table.row_at(number))
+    }
+
+    /// The listed children, by ascending numbers. Of no children, and where the supervisor is down, it takes no memory and is
+    /// never refused.
+    pub fn rows(&self) -> Result<Seen<Vec<Row, A>>, OutOfMemory>
+        ensures value { IfOk result (λ seen. MatchSeen seen
+            (λ rows. (self.now.down ≡ false) × (rows.items ≡ self.now.rows)) (self.now.down ≡ true)) }
+        ensures history { (history : List Entry) → IsAfter self.now history → IfOk result (λ seen. MatchSeen seen
+            (λ rows. which self.now.template history ≡ Seen.Up rows.items) (which self.now.template history ≡ Seen.Down)) }
+        ensures free { (self.now.down ≡ true) ⊎ (self.now.rows ≡ []) → IsOk result }
+    {
+        self.copied()
+    }
+
+    fn copied(&self) -> Result<Seen<Vec<Row, A>>, OutOfMemory>
+        ensures value { IfOk result (λ seen. MatchSeen seen
+            (λ rows. (self.now.down ≡ false) × (rows.items ≡ self.now.rows)) (self.now.down ≡ true)) }
+        ensures seen { IfOk result (λ seen. MatchSeen seen
+            (λ rows. seen_of self.now self.now.rows ≡ Seen.Up rows.items) (seen_of self.now self.now.rows ≡ Seen.Down)) }
+        ensures free { (self.now.down ≡ true) ⊎ (self.now.rows ≡ []) → IsOk result }
+    {
+        if self.down {
+            return Ok(Seen::Down);
+        }
+        Ok(Seen::Up(self.table.copied(self.alloc)?))
+    }
+
+    /// The argument whose start decides the reply to an entry with this operation and moment, if there is one.
+    pub fn wants_answer(&self, operation: &Operation, moment: u64) -> Option<Text>
+        ensures value { result ≡ asked_argument self.now operation.now moment }
+        ensures history { (history : List Entry) → IsAfter self.now history
+            → result ≡ asked_argument (state_after self.now.template history) operation.now moment }
+    {
+        self.asked_argument(operation, moment)
+    }
+
+    fn asked_argument(&self, operation: &Operation, moment: u64) -> Option<Text>
+        ensures { result ≡ asked_argument self.now operation.now moment }
+    {
+        if self.down {
+            return None;
+        }
+        match operation {
+            Operation::Start(arg) => {
+                if self.is_full() {
+                    return None;
+                }
+                Some(*arg)
+            }
+            Operation::Exit(number, reason) => {
+                if !self.template.restart.restarts_after(reason) {
+                    return None;
+                }
+                self.asked_again(Status::Running, *number, moment)
+            }
+            Operation::Retry(number) => self.asked_again(Status::Restarting, *number, moment),
+            Operation::Terminate(_) | Operation::Stop => None,
+        }
+    }
+
+    /// The argument of the listed child with this number and status, if one more attempt is allowed.
+    fn asked_again(&self, status: Status, number: u64, moment: u64) -> Option<Text>
+        ensures { result ≡ if list_any (stands_as status number) self.now.rows then asked_again (arrived self.now moment) number else None }
+    {
+        if !self.window.would_allow(self.latest.max(moment)) {
+            return None;
+        }
+        self.table.argument_as(status, number)
+    }
+
+    /// Enters the next entry of the history, and answers the reply to it.
+    pub fn step(&mut self, entry: &Entry) -> Reply
+        requires { self.old.steps < self.old.template.entries }
+        ensures reply { result ≡ reply_to self.old entry.now }
+        ensures next { self.new ≡ next_state self.old entry.now }
+
+        // By the reference semantics: from the whole history.
+        ensures history { (history : List Entry) → IsAfter self.old history
+            → (result ≡ reply_after self.old.template history entry.now) × IsAfter self.new (history ++ entry.now ∷ []) }
+    {
+        self.advance(entry)
+    }
+
+    fn advance(&mut self, entry: &Entry) -> Reply
+        requires { self.old.steps < self.old.template.entries }
+        ensures reply { result ≡ reply_to self.old entry.now }
+        ensures next { self.new ≡ next_state self.old entry.now }
+    {
+        self.arrive(entry.moment);
+        if self.is_down() {
+            return Reply::Down;
+        }
+        self.perform(&entry.operation, entry.answer)
+    }
+
+    fn perform(&mut self, operation: &Operation, answer: Answer) -> Reply
+        requires up { self.old.down ≡ false }
+        requires room { self.old.made < self.old.steps }
+        ensures reply { result ≡ reply_up self.old operation.now answer }
+        ensures next { self.new ≡ changed self.old operation.now result }
+    {
+        match operation {
+            Operation::Start(arg) => self.start(arg, answer),
+            Operation::Exit(number, reason) => self.exit(*number, reason, answer),
+            Operation::Retry(number) => self.retry(*number, answer),
+            Operation::Terminate(number) => self.terminate(*number),
+            Operation::Stop => self.stop(),
+        }
+    }
+
+    fn arrive(&mut self, moment: u64)
+        requires { self.old.steps < self.old.template.entries }
+        ensures next { self.new ≡ arrived self.old moment }
+        ensures room { self.new.made < self.new.steps }
+    {
+        self.latest = self.latest.max(moment);
+        self.steps += 1;
+    }
+
+    fn start(&mut self, arg: &Text, answer: Answer) -> Reply
+        requires up { self.old.down ≡ false }
+        requires room { self.old.made < self.old.steps }
+        ensures reply { result ≡ reply_up self.old (Operation.Start arg.now) answer }
+        ensures next { self.new ≡ changed self.old (Operation.Start arg.now) result }
+    {
+        if self.is_full() {
+            return Reply::Full;
+        }
+        match answer {
+            Answer::Running => Reply::Started(self.list(*arg)),
+            Answer::Ignore => Reply::Undefined,
+            Answer::Failed(code) => Reply::StartFailed(code),
+        }
+    }
+
+    fn exit(&mut self, number: u64, reason: &Reason, answer: Answer) -> Reply
+        requires up { self.old.down ≡ false }
+        requires room { self.old.made < self.old.steps }
+        ensures reply { result ≡ reply_up self.old (Operation.Exit number reason.now) answer }
+        ensures next { self.new ≡ changed self.old (Operation.Exit number reason.now) result }
+    {
+        if !self.template.restart.restarts_after(reason) {
+            return self.let_go(number);
+        }
+        match self.restart(Status::Running, number, answer) {
+            Some(reply) => reply,
+            None => Reply::Stray(number),
+        }
+    }
+
+    /// A child ended, and is not started again.
+    fn let_go(&mut self, number: u64) -> Reply
+        requires { self.old.down ≡ false }
+        ensures reply { result ≡ if list_any (runs_as number) self.old.rows then let_go self.old number else Reply.Stray number }
+        ensures next { (operation : Operation) → self.new ≡ changed self.old operation result }
+    {
+        if self.table.take_as(Status::Running, number).is_none() {
+            return Reply::Stray(number);
+        }
+        if !self.shuts_down() {
+            return Reply::Removed(number);
+        }
+        self.end_all();
+        Reply::ShutDown(number)
+    }
+
+    /// Whether the end of a child that is listed no more takes the supervisor down.
+    fn shuts_down(&self) -> bool
+        ensures { result ≡ shuts_down self.now.template self.now.rows }
+    {
+        self.template.significant
+            && match self.template.auto_shutdown {
+                AutoShutdown::Never => false,
+                AutoShutdown::Any => true,
+                AutoShutdown::All => self.table.len() == 0,
+            }
+    }
+
+    fn retry(&mut self, number: u64, answer: Answer) -> Reply
+        requires up { self.old.down ≡ false }
+        requires room { self.old.made < self.old.steps }
+        ensures reply { result ≡ reply_up self.old (Operation.Retry number) answer }
+        ensures next { self.new ≡ changed self.old (Operation.Retry number) result }
+    {
+        match self.restart(Status::Restarting, number, answer) {
+            Some(reply) => reply,
+            None => Reply::NotFound,
+        }
+    }
+
+    fn terminate(&mut self, number: u64) -> Reply
+        requires { self.old.down ≡ false }
+        ensures reply { result ≡ if list_any (has_number number) self.old.rows then Reply.Ended else Reply.NotFound }
+        ensures next { self.new ≡ changed self.old (Operation.Terminate number) result }
+    {
+        if self.table.take(number) {
+            Reply::Ended
+        } else {
+            Reply::NotFound
+        }
+    }
+
+    fn stop(&mut self) -> Reply
+        requires { self.old.down ≡ false }
+        ensures reply { result ≡ Reply.Stopped }
+        ensures next { self.new ≡ changed self.old Operation.Stop result }
+    {
+        self.end_all();
+        Reply::Stopped
+    }
+
+    /// An attempt to restart the listed child with this number and status, if there is one.
+    fn restart(&mut self, status: Status, number: u64, answer: Answer) -> Option<Reply>
+        requires up { self.old.down ≡ false }
+        requires room { self.old.made < self.old.steps }
+        ensures { MatchOption result
+            ((list_any (stands_as status number) self.old.rows ≡ false) × (self.new ≡ self.old))
+            (λ reply. (list_any (stands_as status number) self.old.rows ≡ true) × (reply ≡ attempted self.old number answer)
+            × ((operation : Operation) → self.new ≡ changed self.old operation reply)) }
+    {
+        match answer {
+            Answer::Running => self.replace(status, number),
+            Answer::Ignore => self.drop_out(status, number),
+            Answer::Failed(code) => self.keep_waiting(status, number, code),
+        }
+    }
+
+    /// The restart was answered `Running`.
+    fn replace(&mut self, status: Status, number: u64) -> Option<Reply>
+        requires up { self.old.down ≡ false }
+        requires room { self.old.made < self.old.steps }
+        ensures { MatchOption result
+            ((list_any (stands_as status number) self.old.rows ≡ false) × (self.new ≡ self.old))
+            (λ reply. (list_any (stands_as status number) self.old.rows ≡ true) × (reply ≡ attempted self.old number Answer.Running)
+            × ((operation : Operation) → self.new ≡ changed self.old operation reply)) }
+    {
+        let arg = self.table.take_as(status, number)?;
+        if !self.note_attempt() {
+            return Some(self.give_up());
+        }
+        Some(Reply::Restarted(number, self.table.list(arg)))
+    }
+
+    /// The restart was answered `Ignore`.
+    fn drop_out(&mut self, status: Status, number: u64) -> Option<Reply>
+        requires { self.old.down ≡ false }
+        ensures { MatchOption result
+            ((list_any (stands_as status number) self.old.rows ≡ false) × (self.new ≡ self.old))
+            (λ reply. (list_any (stands_as status number) self.old.rows ≡ true) × (reply ≡ attempted self.old number Answer.Ignore)
+            × ((operation : Operation) → self.new ≡ changed self.old operation reply)) }
+    {
+        self.table.take_as(status, number)?;
+        if !self.note_attempt() {
+            return Some(self.give_up());
+        }
+        Some(Reply::Ignored(number))
+    }
+
+    /// The restart failed with this code.
+    fn keep_waiting(&mut self, status: Status, number: u64, code: u32) -> Option<Reply>
+        requires { self.old.down ≡ false }
+        ensures { MatchOption result
+            ((list_any (stands_as status number) self.old.rows ≡ false) × (self.new ≡ self.old))
+            (λ reply. (list_any (stands_as status number) self.old.rows ≡ true) × (reply ≡ attempted self.old number (Answer.Failed code))
+            × ((operation : Operation) → self.new ≡ changed self.old operation reply)) }
+    {
+        if !self.table.wait_as(status, number) {
+            return None;
+        }
+        if !self.note_attempt() {
+            return Some(self.give_up());
+        }
+        Some(Reply::Restarting(number, code))
+    }
+
+    /// There were more attempts than are allowed.
+    fn give_up(&mut self) -> Reply
+        ensures reply { result ≡ Reply.GaveUp }
+        ensures next { self.new ≡ record self.old { rows = []; down = true } }
+    {
+        self.end_all();
+        Reply::GaveUp
+    }
+
+    /// Notes an attempt at the latest moment, and answers whether it is allowed.
+    fn note_attempt(&mut self) -> bool
+        ensures value { result ≡ bears self.old }
+        ensures next { self.new ≡ record self.old { attempts = keep_last (self.old.template.intensity + 1) (self.old.attempts ++ self.old.latest ∷ []) } }
+    {
+        self.window.attempt(self.latest)
+    }
+
+    /// Lists a child that runs, under the next number.
+    fn list(&mut self, arg: Text) -> u64
+        requires room { self.old.made < self.old.steps }
+        requires fits { length self.old.rows < self.old.template.max }
+        ensures number { result ≡ self.old.made + 1 }
+        ensures next { self.new ≡ record self.old { made = self.old.made + 1; rows = self.old.rows ++ running (self.old.made + 1) arg ∷ [] } }
+    {
+        self.table.list(arg)
+    }
+
+    fn end_all(&mut self)
+        ensures { self.new ≡ record self.old { rows = []; down = true } }
+    {
+        self.table.clear();
+        self.down = true;
+    }
+
+    fn is_full(&self) -> bool
+        ensures value { result ≡ is_full self.now }
+        ensures within { length self.now.rows ≤ self.now.template.max }
+    {
+        self.table.len() == self.template.max
+    }
+}
