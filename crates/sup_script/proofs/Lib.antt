@@ -20,3 +20,4 @@ pub mod WholeReplays
 pub mod OneValue
 pub mod HistoryLines
 pub mod OneCommand
+pub mod Firsts

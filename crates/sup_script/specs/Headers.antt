@@ -86,6 +86,12 @@ abbrev pub HasParts : (List (List ℕ) → Parts → Type 0) → List ℕ → Op
 HasParts Shape line None = IsNoFirst Shape line
 HasParts Shape line (Some parts) = HasShape Shape line parts
 
+-- the template of the parts that were found, or what is wrong with the line
+abbrev pub GivesTemplate : Option Parts → Result Template Fault → Type 0
+GivesTemplate None result = result ≡ Err fault.BadLine
+GivesTemplate (Some parts) (Ok template) = IsTemplateOf template parts
+GivesTemplate (Some parts) (Err f) = (f ≡ fault.BadTemplate) × (CanStand parts → ⊥)
+
 abbrev pub HasNoLimits : List (List ℕ) → Type 0
 HasNoLimits words = (parts : Parts) (more : List (List ℕ)) → FitsParts parts → words ≡ limit_words parts ++ more → ⊥
 

@@ -3,7 +3,7 @@
 ghost use Rattle.std.specs.Prelude.{◌≡◌, List, ℕ, [], ◌∷◌, ◌++◌, ◌↔◌, IsOk, IfOk, MatchOption};
 ghost use Rattle.sup_script.specs.Words.{words_left};
 ghost use Rattle.sup_script.specs.Tokens.{mark_word, auto_word};
-ghost use Rattle.sup_script.specs.Headers.{AreHeaderWords, HasFirst, HasParts, IsPlain, FitsParts, CanStand, IsTemplateOf, limit_words, HasNoLimits, HasNoShutdown};
+ghost use Rattle.sup_script.specs.Headers.{AreHeaderWords, HasFirst, HasParts, GivesTemplate, IsPlain, FitsParts, CanStand, IsTemplateOf, limit_words, HasNoLimits, HasNoShutdown};
 
 use crate::fault::Fault;
 use crate::read::tokens::{after_word, next_number, read_auto, read_kind, read_mark, read_restart};
@@ -47,9 +47,16 @@ impl Parts {
 pub fn read_header(line: &[u8]) -> Result<Template, Fault>
     ensures { HasFirst AreHeaderWords line.now result }
 {
-    let parts = match read_shape(line) {
-        Some(parts) => parts,
-        None => return Err(Fault::BadLine),
+    template_of(read_shape(line))
+}
+
+/// The template of the parts that a first line names, or what is wrong with that line: it names none, or there is no
+/// template of them.
+pub fn template_of(parts: Option<Parts>) -> Result<Template, Fault>
+    ensures { GivesTemplate parts result }
+{
+    let Some(parts) = parts else {
+        return Err(Fault::BadLine);
     };
     match parts.template() {
         Ok(template) => Ok(template),

@@ -7,7 +7,7 @@ ghost use Rattle.sup_script.specs.History.{AreFirstWords, EntryMeans, MeansNoEnt
 ghost use Rattle.sup_script.specs.HistoryReading.{HistoryStops, HasPlain, HasMarked, HasDeed, HasAnswer, HasFailure, IsNextEntry};
 
 use crate::fault::Fault;
-use crate::read::header::{Parts, next_limits, read_shutdown};
+use crate::read::header::{Parts, next_limits, read_shutdown, template_of};
 use crate::read::tokens::{after_word, next_number, next_operation, read_verb};
 use crate::read::words::{next_word, read_number, split_once};
 use std::alloc::Allocator;
@@ -87,14 +87,7 @@ pub fn read_history<A: Allocator + Copy>(alloc: A, text: &[u8]) -> Result<Histor
 fn read_first(line: &[u8]) -> Result<Template, Fault>
     ensures { HasFirst AreFirstWords line.now result }
 {
-    let parts = match read_shape(line) {
-        Some(parts) => parts,
-        None => return Err(Fault::BadLine),
-    };
-    match parts.template() {
-        Ok(template) => Ok(template),
-        Err(_) => Err(Fault::BadTemplate),
-    }
+    template_of(read_shape(line))
 }
 
 /// The parts that a line of a first line's shape names: five in version 1, and seven in version 2.

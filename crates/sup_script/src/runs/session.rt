@@ -1,6 +1,6 @@
 //! Answering the lines of a script, one after the other.
 
-ghost use Rattle.std.specs.Prelude.{◌≡◌, ◌<◌, ◌≤◌, ◌+◌, ◌^◌, [], ◌⊎◌, ℕ, List, length, None, IfErr, OnOk, OnErr, vec_capacity, MatchResult};
+ghost use Rattle.std.specs.Prelude.{◌≡◌, ◌<◌, ◌≤◌, ◌+◌, ◌^◌, ◌++◌, [], ◌⊎◌, ℕ, List, length, None, IfErr, OnOk, OnErr, vec_capacity, MatchResult};
 ghost use Rattle.sup_core.specs.Account.{IsAfter};
 ghost use Rattle.sup_script.specs.declared.fault.Fault.TheVariants.{OutOfMemory};
 ghost use Rattle.sup_script.specs.Answering.{IsAnsweredTo, IsWaiting, LineGives, NextGives, LinesGive, steps_left};
@@ -97,11 +97,42 @@ impl<A: Allocator + Copy> Session<A> {
             part.extend_from_slice(piece).unwrap();
             return Ok(());
         }
-        part.extend_from_slice(ended).unwrap();
-        self.answer_lines(part.as_slice(), starter, writer)?;
+        self.answer_joined(part, ended, starter, writer)?;
         part.clear();
         part.extend_from_slice(&piece[ended.len()..]).unwrap();
         Ok(())
+    }
+
+    /// Answers the lines that a part and what ends it make, and writes their replies. Without a part they are answered where
+    /// they stand, and no byte is copied.
+    fn answer_joined<W: Write, S: Starter>(
+        &mut self,
+        part: &mut Vec<u8, A>,
+        ended: &[u8],
+        starter: &S,
+        writer: &mut WatchedWriter<W>,
+    ) -> Result<(), ScriptFault>
+        requires room { length part.old.items + length ended.now ≤ vec_capacity part.old }
+        requires first { 1 ≤ self.old.next }
+        requires lines { self.old.next + length (part.old.items ++ ended.now) ≤ 16777217 }
+        requires steps { length (part.old.items ++ ended.now) ≤ steps_left self.old.supervisor }
+        requires bytes { self.old.outbox.bytes.items ≡ [] }
+        requires ends { self.old.outbox.ends.items ≡ [] }
+        ensures given { (front : List (List ℕ)) (text : List ℕ) → IsAnsweredTo S.answer front text self.old.supervisor self.old.next →
+            LinesGive S.answer front text (lines_of (part.old.items ++ ended.now)) self.new.supervisor self.new.next (W.contents writer.old.writer) (W.contents writer.new.writer) result }
+        ensures first { OnOk result (1 ≤ self.new.next) }
+        ensures lines { OnOk result (self.new.next ≤ self.old.next + length (part.old.items ++ ended.now)) }
+        ensures steps { steps_left self.old.supervisor ≤ steps_left self.new.supervisor + length (part.old.items ++ ended.now) }
+        ensures bytes { OnOk result (self.new.outbox.bytes.items ≡ []) }
+        ensures ends { OnOk result (self.new.outbox.ends.items ≡ []) }
+        ensures cause { IfErr result (λ e. HasLineCause writer.new.has_refused e.fault) }
+        ensures room { vec_capacity part.old ≤ vec_capacity part.new }
+    {
+        if part.is_empty() {
+            return self.answer_lines(ended, starter, writer);
+        }
+        part.extend_from_slice(ended).unwrap();
+        self.answer_lines(part.as_slice(), starter, writer)
     }
 
     /// Answers the lines of a text in order, and writes their replies.
