@@ -61,23 +61,23 @@ pairs_born : (template : Template) (front : List Entry) (pairs : List (Note × R
 pairs_born template front [] h = tt
 pairs_born template front (p ∷ ps) h = (right_born template front (Exit p.0.number p.0.reason) p.1 h.0, pairs_born template front ps h.2)
 
-module _ (answer : Text → ℕ → Answer) (template : Template) (before after : Knowledge) where
+module _ (may : Text → ℕ → Answer → Type 0) (template : Template) (press : Book) (before after : Knowledge) where
   -- the child that an update made
-  pub updated-born : (operation : Operation) (moment : ℕ) (reply : Reply) (told : List Entry) → IsUpdated answer template before operation moment after reply told → IsBornBy template told reply
+  pub updated-born : (operation : Operation) (moment : ℕ) (reply : Reply) (told : Told) → IsUpdated may template press before operation moment after reply told → IsBornBy template told.front reply
   updated-born operation moment reply told h =
-      let cs = calls_of template h.0 before.number in
-      let all = ap (λ l. calls_of template l before.number) h.7 ∙ updated-since answer template before after operation moment reply told h in
-      let right = subst (AreRightCalls (account template told)) all (calls-right template told before.number) in
-      right_born template told operation reply (last_of (account template told) cs (record { operation = operation; reply = reply } ∷ []) right).0
+      let cs = calls_of template h.front before.number in
+      let all = ap (λ (t : Told). calls_of template t.front before.number) h.told_is ∙ updated-since may template press before after operation moment reply told h in
+      let right = subst (AreRightCalls (account template told.front)) all (calls-right template told.front before.number) in
+      right_born template told.front operation reply (last_of (account template told.front) cs (record { operation = operation; reply = reply } ∷ []) right).0
 
-  applied-born : (pairs : List (Note × Reply)) (moment : ℕ) (told : List Entry) → IsApplied answer template before (exits (notes_of pairs)) moment after (replies_of pairs) told → AreBornBy template told pairs
+  applied-born : (pairs : List (Note × Reply)) (moment : ℕ) (told : Told) → IsApplied may template press before (exits (notes_of pairs)) moment after (replies_of pairs) told → AreBornBy template told.front pairs
   applied-born pairs moment told h =
-      let cs = calls_of template h.0 before.number in
-      let all = ap (λ l. calls_of template l before.number) h.7 ∙ applied-since answer template before after (exits (notes_of pairs)) moment (replies_of pairs) told h in
-      let right = subst (AreRightCalls (account template told)) all (calls-right template told before.number) in
-      pairs_born template told pairs (last_of (account template told) cs (answered (exits (notes_of pairs)) (replies_of pairs)) right)
+      let cs = calls_of template h.front before.number in
+      let all = ap (λ (t : Told). calls_of template t.front before.number) h.told_is ∙ applied-since may template press before after (exits (notes_of pairs)) moment (replies_of pairs) told h in
+      let right = subst (AreRightCalls (account template told.front)) all (calls-right template told.front before.number) in
+      pairs_born template told.front pairs (last_of (account template told.front) cs (answered (exits (notes_of pairs)) (replies_of pairs)) right)
 
   -- the children that the exits of a drain made
-  pub entered-born : (press : Book) (pairs : List (Note × Reply)) (moment : ℕ) (ticket : Option Told) → IsEntered answer template press before after moment pairs ticket → IfSome ticket (λ t. AreBornBy template t.front pairs)
-  entered-born press pairs moment None h = tt
-  entered-born press pairs moment (Some told) h = applied-born pairs moment told.front h.0
+  pub entered-born : (pairs : List (Note × Reply)) (moment : ℕ) (ticket : Option Told) → IsEntered may template press before after moment pairs ticket → IfSome ticket (λ t. AreBornBy template t.front pairs)
+  entered-born pairs moment None h = tt
+  entered-born pairs moment (Some told) h = applied-born pairs moment told h

@@ -1,22 +1,24 @@
 -- The calls of a handle, as its front grows.
 use Rattle.std.proofs.Common.{◌≡◌, ◌≢◌, ℕ, zero, suc, Bool, true, false, cond, ◌==◌, eq-eqb, ne_eqb, ◌+◌, List, [], ◌∷◌, ◌++◌, length, length-append, map, fold, refl, ap, sym, ◌∙◌, subst, arith, append_assoc, append-nil}
 use Rattle.std.specs.Prelude.{filter}
-use Rattle.std.proofs.lemmas.List.Elements.{filter-append, All-append}
+use Rattle.std.proofs.lemmas.List.Elements.{filter-append}
 use Rattle.std.specs.List.{All}
 use native.Mathlib.Decide.{ℕ_discrete}
 use mathlib.Core.Logic.{dite}
 use mathlib.Core.List.{IsPrefix}
+use Rattle.logbook.specs.Pages.{Book}
 use Rattle.sup_types.specs.declared.text.Text.{Text}
 use Rattle.sup_types.specs.declared.template.Template.{Template}
 use Rattle.sup_types.specs.declared.history.Answer.{Answer}
 use Rattle.sup_types.specs.declared.history.Operation.{Operation}
 use Rattle.sup_types.specs.declared.history.Entry.{Entry}
 use Rattle.sup_types.specs.declared.history.Reply.{Reply}
-use Rattle.sup_core.specs.Account.{Item, account, item_of, entry_of, reply_after}
+use Rattle.sup_core.specs.Account.{Item, account, item_of, reply_after}
 use Rattle.sup_core.proofs.HistoryLemmas.{account-push}
-use Rattle.sup_desk.specs.Knowledge.{Knowledge, entries_of, next_entry, IsUpdated}
-use Rattle.sup_desk.specs.Batches.{Batch, with_operation, batch_of, IsApplied}
-use Rattle.sup_desk.proofs.Batched.{batch_of-own}
+use Rattle.sup_log.specs.Tokens.{Told}
+use Rattle.sup_desk.specs.Knowledge.{Knowledge, entries_of, IsUpdated}
+use Rattle.sup_desk.specs.Batches.{AreEntered, IsApplied}
+use Rattle.sup_desk.proofs.Batched.{entered-own}
 use Rattle.sup_desk.proofs.Entries.{entries-append, entries-one, entries-other, entries_prefix}
 use Rattle.sup_log.proofs.Prefixes.{prefix_length}
 use Rattle.sup_crew.specs.Calls.{call_of, calls_of, answered}
@@ -66,42 +68,35 @@ calls-stay template number front later p same =
     let t = ap (λ (l : List Entry). length l) same in
     e ∙ stay template number front p.0 (omega (arith, s, t))
 
-answered-snoc : (os : List Operation) (rs : List Reply) (o : Operation) (r : Reply) → length os ≡ length rs → answered (os ++ o ∷ []) (rs ++ r ∷ []) ≡ answered os rs ++ record { operation = o; reply = r } ∷ []
-answered-snoc [] [] o r e = refl
-answered-snoc [] (s ∷ rs) o r e = absurd (omega (arith, e))
-answered-snoc (p ∷ os) [] o r e = absurd (omega (arith, e))
-answered-snoc (p ∷ os) (s ∷ rs) o r e = ap (λ l. record { operation = p; reply = s } ∷ l) (answered-snoc os rs o r (omega (arith, e)))
+-- the entries have this moment
+abbrev pub AreAll : ℕ → List Entry → Type 0
+AreAll moment entries = All (λ entry. entry.moment ≡ moment) entries
 
-module _ (answer : Text → ℕ → Answer) (template : Template) (front : List Entry) (number serial moment : ℕ) where
+module _ (may : Text → ℕ → Answer → Type 0) (template : Template) (number moment : ℕ) where
   -- the operations that were entered are calls with their replies
-  pub record IsCalled (done : List Operation) (batch : Batch) : Type 0 where
-    pub len : length done ≡ length batch.replies
-    pub calls : calls_of template (front ++ batch.entries) number ≡ calls_of template front number ++ answered done batch.replies
+  pub entered-called : (front : List Entry) (serial : ℕ) (os : List Operation) (es : List Entry) (rs : List Reply) → AreEntered may template number moment front serial os es rs
+      → calls_of template (front ++ es) number ≡ calls_of template front number ++ answered os rs
+  entered-called front serial [] es rs done =
+      ap (λ l. calls_of template (front ++ l) number) done.0 ∙ ap (λ l. calls_of template l number) (append-nil front) ∙ sym (append-nil (calls_of template front number))
+  entered-called front serial (o ∷ os) es rs (x, xs, ys, entries, replies, first, rest) =
+      let reply : Reply = reply_after template front x in
+      ap (λ l. calls_of template (front ++ l) number) entries
+      ∙ ap (λ l. calls_of template l number) (sym (append_assoc front (x ∷ []) xs))
+      ∙ entered-called (front ++ x ∷ []) (serial + 1) os xs ys rest
+      ∙ ap (λ l. l ++ answered os ys) (calls-own template front x number first.handle_is)
+      ∙ append_assoc (calls_of template front number) (record { operation = x.operation; reply = reply } ∷ []) (answered os ys)
+      ∙ ap (λ (p : Operation). calls_of template front number ++ record { operation = p; reply = reply } ∷ answered os ys) first.operation_is
+      ∙ ap (λ l. calls_of template front number ++ answered (o ∷ os) l) (sym replies)
 
-  called-next : (done : List Operation) (batch : Batch) (operation : Operation) → IsCalled done batch → IsCalled (done ++ operation ∷ []) (with_operation answer template front number serial moment batch operation)
-  called-next done batch operation h =
-      let now : List Entry = front ++ batch.entries in
-      let entry : Entry = entry_of answer template now number (serial + length batch.entries) operation moment in
-      let reply : Reply = reply_after template now entry in
-      record {
-        len = let a = length-append done (operation ∷ []) in let b = length-append batch.replies (reply ∷ []) in let c = h.len in omega (arith, a, b, c);
-        calls =
-            ap (λ l. calls_of template l number) (sym (append_assoc front batch.entries (entry ∷ [])))
-            ∙ calls-own template now entry number refl
-            ∙ ap (λ l. l ++ record { operation = operation; reply = reply } ∷ []) h.calls
-            ∙ append_assoc (calls_of template front number) (answered done batch.replies) (record { operation = operation; reply = reply } ∷ [])
-            ∙ ap (λ l. calls_of template front number ++ l) (sym (answered-snoc done batch.replies operation reply h.len));
-      }
-
-  called-along : (done : List Operation) (batch : Batch) (operations : List Operation) → IsCalled done batch → IsCalled (done ++ operations) (fold (with_operation answer template front number serial moment) batch operations)
-  called-along done batch [] h = subst (λ l. IsCalled l batch) (sym (append-nil done)) h
-  called-along done batch (o ∷ os) h =
-      subst (λ l. IsCalled l (fold (with_operation answer template front number serial moment) (with_operation answer template front number serial moment batch o) os)) (append_assoc done (o ∷ []) os)
-      (called-along (done ++ o ∷ []) (with_operation answer template front number serial moment batch o) os (called-next done batch o h))
-
-  pub batch_of-called : (operations : List Operation) → IsCalled operations (batch_of answer template front number serial moment operations)
-  unfolding batch_of
-  batch_of-called operations = called-along [] (record { entries = []; replies = [] }) operations (record { len = refl; calls = ap (λ l. calls_of template l number) (append-nil front) ∙ sym (append-nil (calls_of template front number)) })
+  -- they were entered at one moment
+  pub entered-at : (front : List Entry) (serial : ℕ) (os : List Operation) (es : List Entry) (rs : List Reply) → AreEntered may template number moment front serial os es rs → AreAll moment es
+  entered-at front serial [] es rs done = λ k d within. absurd (omega (arith, within, ap length done.0))
+  entered-at front serial (o ∷ os) es rs (x, xs, ys, entries, replies, first, rest) =
+      subst (AreAll moment) (sym entries) (one_more x xs first.moment_is (entered-at (front ++ x ∷ []) (serial + 1) os xs ys rest))
+    where
+      one_more : (x : Entry) (xs : List Entry) → x.moment ≡ moment → AreAll moment xs → AreAll moment (x ∷ xs)
+      one_more x xs at all zero d within = at
+      one_more x xs at all (suc k) d within = all k d (omega (arith, within))
 
 pub trans : (xs ys zs : List Entry) → IsPrefix xs ys → IsPrefix ys zs → IsPrefix xs zs
 trans xs ys zs p q = (p.0 ++ q.0, sym (append_assoc xs p.0 q.0) ∙ ap (λ l. l ++ q.0) p.1 ∙ q.1)
@@ -133,58 +128,33 @@ calls-length template front number =
     omega (arith, a, b)
 
 -- what a handle entered together are calls with their replies, after those of the front where it entered them
-module _ (answer : Text → ℕ → Answer) (template : Template) (before after : Knowledge) where
-  pub applied-since : (operations : List Operation) (moment : ℕ) (replies : List Reply) (now : List Entry) → (h : IsApplied answer template before operations moment after replies now)
-      → calls_of template after.front before.number ≡ calls_of template h.0 before.number ++ answered operations replies
+module _ (may : Text → ℕ → Answer → Type 0) (template : Template) (press : Book) (before after : Knowledge) where
+  pub applied-since : (operations : List Operation) (moment : ℕ) (replies : List Reply) (now : Told) → (h : IsApplied may template press before operations moment after replies now)
+      → calls_of template after.front before.number ≡ calls_of template h.front before.number ++ answered operations replies
   applied-since operations moment replies now h =
-      let serial : ℕ = length before.calls in
-      ap (λ l. calls_of template l before.number) h.4
-      ∙ (batch_of-called answer template h.0 before.number serial moment operations).calls
-      ∙ ap (λ l. calls_of template h.0 before.number ++ answered operations l) (sym h.6)
+      ap (λ (k : Knowledge). calls_of template k.front before.number) h.after_is
+      ∙ entered-called may template before.number moment h.front (length before.calls) operations h.entries replies h.entered
 
-  pub applied-own : (operations : List Operation) (moment : ℕ) (replies : List Reply) (now : List Entry) → IsApplied answer template before operations moment after replies now
+  pub applied-own : (operations : List Operation) (moment : ℕ) (replies : List Reply) (now : Told) → IsApplied may template press before operations moment after replies now
       → entries_of after.front after.number ≡ after.calls
   applied-own operations moment replies now h =
-      let serial : ℕ = length before.calls in
-      let batch : Batch = batch_of answer template h.0 before.number serial moment operations in
-      (λ i. entries_of (h.4 i) (h.3 i))
-      ∙ entries-append before.number h.0 batch.entries
-      ∙ ap (λ l. l ++ entries_of batch.entries before.number) h.2
-      ∙ ap (λ l. before.calls ++ l) (batch_of-own answer template h.0 before.number serial moment operations)
-      ∙ sym h.5
+      ap (λ (k : Knowledge). entries_of k.front k.number) h.after_is
+      ∙ entries-append before.number h.front h.entries
+      ∙ ap (λ l. l ++ entries_of h.entries before.number) h.met.own
+      ∙ ap (λ l. before.calls ++ l) (entered-own may template before.number moment h.front (length before.calls) operations h.entries replies h.entered)
+      ∙ sym (ap (λ (k : Knowledge). k.calls) h.after_is)
 
-  pub updated-since : (operation : Operation) (moment : ℕ) (reply : Reply) (now : List Entry) → (h : IsUpdated answer template before operation moment after reply now)
-      → calls_of template after.front before.number ≡ calls_of template h.0 before.number ++ record { operation = operation; reply = reply } ∷ []
+  pub updated-since : (operation : Operation) (moment : ℕ) (reply : Reply) (now : Told) → (h : IsUpdated may template press before operation moment after reply now)
+      → calls_of template after.front before.number ≡ calls_of template h.front before.number ++ record { operation = operation; reply = reply } ∷ []
   updated-since operation moment reply now h =
-      let entry : Entry = next_entry answer template h.0 before operation moment in
-      ap (λ l. calls_of template l before.number) h.4
-      ∙ calls-own template h.0 entry before.number refl
-      ∙ ap (λ r. calls_of template h.0 before.number ++ record { operation = operation; reply = r } ∷ []) (sym h.6)
+      ap (λ (k : Knowledge). calls_of template k.front before.number) h.after_is
+      ∙ calls-own template h.front h.entry before.number h.entered.handle_is
+      ∙ (λ i. calls_of template h.front before.number ++ record { operation = h.entered.operation_is i; reply = sym h.reply_is i } ∷ [])
 
-  pub updated-own : (operation : Operation) (moment : ℕ) (reply : Reply) (now : List Entry) → IsUpdated answer template before operation moment after reply now
+  pub updated-own : (operation : Operation) (moment : ℕ) (reply : Reply) (now : Told) → IsUpdated may template press before operation moment after reply now
       → entries_of after.front after.number ≡ after.calls
   updated-own operation moment reply now h =
-      let entry : Entry = next_entry answer template h.0 before operation moment in
-      (λ i. entries_of (h.4 i) (h.3 i))
-      ∙ entries-one before.number h.0 entry refl
-      ∙ ap (λ l. l ++ entry ∷ []) h.2
-      ∙ sym h.5
-
--- entries that were entered together have one moment
-module _ (answer : Text → ℕ → Answer) (template : Template) (front : List Entry) (number serial moment : ℕ) where
-  abbrev AreAt : List Entry → Type 0
-  AreAt entries = All (λ entry. entry.moment ≡ moment) entries
-
-  at_along : (batch : Batch) (operations : List Operation) → AreAt batch.entries → AreAt (fold (with_operation answer template front number serial moment) batch operations).entries
-  at_along batch [] h = h
-  at_along batch (o ∷ os) h =
-      at_along (with_operation answer template front number serial moment batch o) os
-      (All-append (λ (x : Entry). x.moment ≡ moment) batch.entries (entry_of answer template (front ++ batch.entries) number (serial + length batch.entries) o moment ∷ []) h one)
-    where
-      one : AreAt (entry_of answer template (front ++ batch.entries) number (serial + length batch.entries) o moment ∷ [])
-      one zero d within = refl
-      one (suc k) d within = absurd (omega (arith, within))
-
-  pub batch_of-at : (operations : List Operation) → AreAt (batch_of answer template front number serial moment operations).entries
-  unfolding batch_of
-  batch_of-at operations = at_along (record { entries = []; replies = [] }) operations (λ k d within. absurd (omega (arith, within)))
+      ap (λ (k : Knowledge). entries_of k.front k.number) h.after_is
+      ∙ entries-one before.number h.front h.entry h.entered.handle_is
+      ∙ ap (λ l. l ++ h.entry ∷ []) h.met.own
+      ∙ sym (ap (λ (k : Knowledge). k.calls) h.after_is)

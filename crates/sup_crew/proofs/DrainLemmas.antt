@@ -15,7 +15,8 @@ use Rattle.sup_types.specs.declared.history.Operation.TheVariants.{Exit}
 use Rattle.sup_types.specs.declared.history.Reply.{Reply}
 use Rattle.sup_log.specs.Tokens.{Told}
 use Rattle.sup_desk.specs.Knowledge.{Knowledge}
-use Rattle.sup_desk.specs.Batches.{Batch, with_operation, batch_of, IsApplied}
+use Rattle.sup_desk.specs.Batches.{IsApplied}
+use Rattle.sup_desk.proofs.Batched.{entered-replies}
 use Rattle.sup_inbox.specs.declared.note.Note.{Note}
 use Rattle.sup_crew.specs.Calls.{exits}
 use Rattle.sup_crew.specs.Drains.{entered_of, notes_of, replies_of, IsEntered}
@@ -91,25 +92,11 @@ replies-next pairs pairs' old rest all note reply p h e =
     ∙ ap (λ l. replies_of pairs ++ l) (sym h)
     ∙ e
 
-module _ (answer : Text → ℕ → Answer) (template : Template) (front : List Entry) (number serial moment : ℕ) where
-  replies_along : (batch : Batch) (operations : List Operation)
-      → length (fold (with_operation answer template front number serial moment) batch operations).replies ≡ length batch.replies + length operations
-  replies_along batch [] = omega arith
-  replies_along batch (operation ∷ operations) =
-      let next = with_operation answer template front number serial moment batch operation in
-      let rest = replies_along next operations in
-      let one : length next.replies ≡ length batch.replies + 1 = length-append batch.replies _ in
-      omega (arith, rest, one)
-
-  pub batch_of-replies : (operations : List Operation) → length (batch_of answer template front number serial moment operations).replies ≡ length operations
-  unfolding batch_of
-  batch_of-replies operations = omega (arith, replies_along (record { entries = []; replies = [] }) operations)
-
 -- each operation has its reply
-pub applied-length : (answer : Text → ℕ → Answer) (template : Template) (before after : Knowledge) (operations : List Operation) (moment : ℕ) (replies : List Reply) (told : List Entry)
-    → IsApplied answer template before operations moment after replies told → length replies ≡ length operations
-applied-length answer template before after operations moment replies told h =
-    ap (λ (l : List Reply). length l) h.6 ∙ batch_of-replies answer template h.0 before.number (length before.calls) moment operations
+pub applied-length : (may : Text → ℕ → Answer → Type 0) (template : Template) (press : Book) (before after : Knowledge) (operations : List Operation) (moment : ℕ) (replies : List Reply) (told : Told)
+    → IsApplied may template press before operations moment after replies told → length replies ≡ length operations
+applied-length may template press before after operations moment replies told h =
+    entered-replies may template before.number moment h.front (length before.calls) operations h.entries replies h.entered
 
 -- as many of the held notes as there are replies
 pub exits-first : (pairs : List (Note × Reply)) (held rest : List Note) (replies : List Reply) → notes_of pairs ++ rest ≡ held → replies_of pairs ≡ replies → exits (take (length replies) held) ≡ exits (notes_of pairs)
@@ -134,13 +121,13 @@ take-within (suc j) (suc k) [] h = refl
 take-within (suc j) (suc k) (n ∷ ns) h = ap (λ l. n ∷ l) (take-within j k ns (omega (arith, h)))
 
 -- a fault leaves no more replies than operations
-pub part-length : (answer : Text → ℕ → Answer) (template : Template) (press : Book) (before after : Knowledge) (moment : ℕ) (operations : List Operation) (replies : List Reply) (ticket : Option Told)
-    → IfSome ticket (λ t. IsApplied answer template before (take (length replies) operations) moment after replies t.front × (t.press ≡ press) × (0 < length replies))
+pub part-length : (may : Text → ℕ → Answer → Type 0) (template : Template) (press : Book) (before after : Knowledge) (moment : ℕ) (operations : List Operation) (replies : List Reply) (ticket : Option Told)
+    → IfSome ticket (λ t. IsApplied may template press before (take (length replies) operations) moment after replies t × (0 < length replies))
     → IfNone ticket ((replies ≡ []) × (after.calls ≡ before.calls) × (after.number ≡ before.number))
     → length replies ≤ length operations
-part-length answer template press before after moment operations replies None some none = let e = ap (λ (l : List Reply). length l) none.0 in omega (arith, e)
-part-length answer template press before after moment operations replies (Some t) some none =
-    let n = applied-length answer template before after (take (length replies) operations) moment replies t.front some.0 in
+part-length may template press before after moment operations replies None some none = let e = ap (λ (l : List Reply). length l) none.0 in omega (arith, e)
+part-length may template press before after moment operations replies (Some t) some none =
+    let n = applied-length may template press before after (take (length replies) operations) moment replies t some.0 in
     let le = take-le (length replies) operations in
     omega (arith, n, le)
 
@@ -154,11 +141,11 @@ pub all-exits : (count : ℕ) (operations : List Operation) (pairs : List (Note 
     → operations ≡ exits (notes_of pairs)
 all-exits count operations pairs held rest replies are n notes same = are ∙ ap (λ k. exits (take k held)) (sym n) ∙ exits-first pairs held rest replies notes same
 
-pub entered-all : (answer : Text → ℕ → Answer) (template : Template) (press : Book) (before after : Knowledge) (moment : ℕ) (pairs : List (Note × Reply)) (operations : List Operation) (replies : List Reply) (told : Told)
-    → IsApplied answer template before operations moment after replies told.front × (told.press ≡ press) → operations ≡ exits (notes_of pairs) → replies ≡ replies_of pairs
-    → IsEntered answer template press before after moment pairs (Some told)
-entered-all answer template press before after moment pairs operations replies told h all same =
-    (subst (λ (x : List Operation × List Reply). IsApplied answer template before x.0 moment after x.1 told.front) (λ i. (all i, same i)) h.0, h.1)
+pub entered-all : (may : Text → ℕ → Answer → Type 0) (template : Template) (press : Book) (before after : Knowledge) (moment : ℕ) (pairs : List (Note × Reply)) (operations : List Operation) (replies : List Reply) (told : Told)
+    → IsApplied may template press before operations moment after replies told → operations ≡ exits (notes_of pairs) → replies ≡ replies_of pairs
+    → IsEntered may template press before after moment pairs (Some told)
+entered-all may template press before after moment pairs operations replies told h all same =
+    subst (λ (x : List Operation × List Reply). IsApplied may template press before x.0 moment after x.1 told) (λ i. (all i, same i)) h
 
 -- where fewer than the limit were entered, none is held
 pub all-or-none : (pairs : List (Note × Reply)) (held rest : List Note) (count limit : ℕ) → count ≡ min (length held) limit → length pairs ≡ count → notes_of pairs ++ rest ≡ held → (length pairs ≡ limit) ⊎ (rest ≡ [])
@@ -180,12 +167,12 @@ none-paired [] e = refl
 none-paired (p ∷ ps) e = absurd (cc e)
 
 -- where the room was for some of the operations alone
-pub entered-part : (answer : Text → ℕ → Answer) (template : Template) (press : Book) (before after : Knowledge) (moment : ℕ) (pairs : List (Note × Reply)) (operations : List Operation) (replies : List Reply) (ticket : Option Told)
-    → IfSome ticket (λ t. IsApplied answer template before (take (length replies) operations) moment after replies t.front × (t.press ≡ press) × (0 < length replies))
+pub entered-part : (may : Text → ℕ → Answer → Type 0) (template : Template) (press : Book) (before after : Knowledge) (moment : ℕ) (pairs : List (Note × Reply)) (operations : List Operation) (replies : List Reply) (ticket : Option Told)
+    → IfSome ticket (λ t. IsApplied may template press before (take (length replies) operations) moment after replies t × (0 < length replies))
     → IfNone ticket ((replies ≡ []) × (after.calls ≡ before.calls) × (after.number ≡ before.number))
     → take (length replies) operations ≡ exits (notes_of pairs) → replies ≡ replies_of pairs
-    → IsEntered answer template press before after moment pairs ticket
-entered-part answer template press before after moment pairs operations replies None some none first same = let h = none in (none-paired pairs (sym same ∙ h.0), h.1, h.2)
-entered-part answer template press before after moment pairs operations replies (Some t) some none first same =
+    → IsEntered may template press before after moment pairs ticket
+entered-part may template press before after moment pairs operations replies None some none first same = let h = none in (none-paired pairs (sym same ∙ h.0), h.1, h.2)
+entered-part may template press before after moment pairs operations replies (Some t) some none first same =
     let h = some in
-    (subst (λ (x : List Operation × List Reply). IsApplied answer template before x.0 moment after x.1 t.front) (λ i. (first i, same i)) h.0, h.1)
+    subst (λ (x : List Operation × List Reply). IsApplied may template press before x.0 moment after x.1 t) (λ i. (first i, same i)) h.0

@@ -12,8 +12,8 @@ use Rattle.sup_log.specs.Tokens.{Told}
 use Rattle.sup_types.specs.declared.history.Entry.{Entry}
 use Rattle.std.proofs.lemmas.List.Elements.{All-append}
 use Rattle.std.proofs.Math.Seq.{drop-append_seam}
-use Rattle.sup_desk.specs.Knowledge.{Knowledge, entries_of, next_entry, IsUpdated}
-use Rattle.sup_desk.specs.Batches.{batch_of, IsApplied}
+use Rattle.sup_desk.specs.Knowledge.{Knowledge, entries_of, IsUpdated}
+use Rattle.sup_desk.specs.Batches.{IsApplied}
 use Rattle.sup_inbox.specs.declared.note.Note.{Note}
 use Rattle.sup_crew.specs.declared.job.Child.{Child}
 use Rattle.sup_crew.specs.Jobs.{weigh}
@@ -27,7 +27,7 @@ use Rattle.sup_crew.specs.Drains.{notes_of, replies_of, IsEntered}
 use Rattle.sup_crew.specs.Leads.{started_job, restarted_job, restarted_jobs, AreAt, HasCalled, HasAll, calls_since, Run, IsLed}
 use Rattle.sup_crew.proofs.Moves.{weigh-append}
 use Rattle.sup_crew.proofs.DrainLemmas.{exits-append}
-use Rattle.sup_crew.proofs.Called.{trans, calls-length, calls-stay, applied-since, applied-own, updated-since, updated-own, batch_of-at}
+use Rattle.sup_crew.proofs.Called.{trans, calls-length, calls-stay, applied-since, applied-own, updated-since, updated-own, entered-at}
 
 driven-append : (cs ds : List Call) → AreDriven cs → AreDriven ds → AreDriven (cs ++ ds)
 driven-append [] ds a b = b
@@ -120,7 +120,7 @@ one_at : (moment : ℕ) (entry : Entry) → entry.moment ≡ moment → AreAt mo
 one_at moment entry is zero d within = is
 one_at moment entry is (suc k) d within = absurd (omega (arith, within))
 
-module _ (answer : Text → ℕ → Answer) (run : Run) (before after : Knowledge) (ticket : Option Told) (tally tally' : Tally) (put left put' left' : List Child) (entered : List Note) (begun : List Text) (led : IsLed run before ticket tally put left entered begun) where
+module _ (may : Text → ℕ → Answer → Type 0) (run : Run) (before after : Knowledge) (ticket : Option Told) (tally tally' : Tally) (put left put' left' : List Child) (entered : List Note) (begun : List Text) (led : IsLed run before ticket tally put left entered begun) where
   abbrev template : Template
   template = run.template
 
@@ -155,32 +155,33 @@ module _ (answer : Text → ℕ → Answer) (run : Run) (before after : Knowledg
             omega (arith, a, b, c, d);
       }
 
-  pub led-started : (now : Told) (arg : Text) (reply : Reply) → IsUpdated answer template before (Start arg) run.moment after reply now.front → now.press ≡ run.press → tally' ≡ with_start tally reply
+  pub led-started : (now : Told) (arg : Text) (reply : Reply) → IsUpdated may template run.press before (Start arg) run.moment after reply now → tally' ≡ with_start tally reply
       → ((h : Child → ℕ) → weigh h put' + weigh h left' ≡ weigh h put + weigh h left + weigh h (started_job arg reply))
       → IsLed run after (Some now) tally' put' left' entered (begun ++ arg ∷ [])
-  led-started now arg reply h p t account =
+  led-started now arg reply h t account =
       let ds : List Call = record { operation = Start arg; reply = reply } ∷ [] in
-      let entry : Entry = next_entry answer template h.0 before (Start arg) run.moment in
       subst (λ l. IsLed run after (Some now) tally' put' left' l (begun ++ arg ∷ [])) (append-nil entered)
-      (led-more now (calls_of template h.0 before.number) ds (entry ∷ []) [] (arg ∷ []) (started_job arg reply)
-      p h.7 h.3 (updated-own answer template before after (Start arg) run.moment reply now.front h) h.5 (one_at run.moment entry refl)
-      (updated-since answer template before after (Start arg) run.moment reply now.front h)
-      (since_more template run.before before ticket run.moment h.0 ds led.called led.whole h.1 h.2)
+      (led-more now (calls_of template h.front before.number) ds (h.entry ∷ []) [] (arg ∷ []) (started_job arg reply)
+      (ap (λ (t : Told). t.press) h.told_is) (ap (λ (t : Told). t.front) h.told_is) (ap (λ (k : Knowledge). k.number) h.after_is)
+      (updated-own may template run.press before after (Start arg) run.moment reply now h) (ap (λ (k : Knowledge). k.calls) h.after_is) (one_at run.moment h.entry h.entered.moment_is)
+      (updated-since may template run.press before after (Start arg) run.moment reply now h)
+      (since_more template run.before before ticket run.moment h.front ds led.called led.whole h.met.more_front h.met.own)
       (tt, tt) refl refl (append-nil (job_made (Start arg) reply []) ∙ job_start arg reply)
       (λ e. t ∙ ap (λ u. with_start u reply) e ∙ sym (tally-start cs arg reply)) account)
 
-  pub led-drained : (now : Told) (pairs : List (Note × Reply)) → IsApplied answer template before (exits (notes_of pairs)) run.moment after (replies_of pairs) now.front → now.press ≡ run.press → tally' ≡ with_exits tally (replies_of pairs)
+  pub led-drained : (now : Told) (pairs : List (Note × Reply)) → IsApplied may template run.press before (exits (notes_of pairs)) run.moment after (replies_of pairs) now → tally' ≡ with_exits tally (replies_of pairs)
       → ((h : Child → ℕ) → weigh h put' + weigh h left' ≡ weigh h put + weigh h left + weigh h (restarted_jobs pairs))
       → IsLed run after (Some now) tally' put' left' (entered ++ notes_of pairs) begun
-  led-drained now pairs h p t account =
+  led-drained now pairs h t account =
       let os : List Operation = exits (notes_of pairs) in
       let ds : List Call = answered os (replies_of pairs) in
-      let more : List Entry = (batch_of answer template h.0 before.number (length before.calls) run.moment os).entries in
       subst (λ l. IsLed run after (Some now) tally' put' left' (entered ++ notes_of pairs) l) (append-nil begun)
-      (led-more now (calls_of template h.0 before.number) ds more (notes_of pairs) [] (restarted_jobs pairs)
-      p h.7 h.3 (applied-own answer template before after os run.moment (replies_of pairs) now.front h) h.5 (batch_of-at answer template h.0 before.number (length before.calls) run.moment os)
-      (applied-since answer template before after os run.moment (replies_of pairs) now.front h)
-      (since_more template run.before before ticket run.moment h.0 ds led.called led.whole h.1 h.2)
+      (led-more now (calls_of template h.front before.number) ds h.entries (notes_of pairs) [] (restarted_jobs pairs)
+      (ap (λ (t : Told). t.press) h.told_is) (ap (λ (t : Told). t.front) h.told_is) (ap (λ (k : Knowledge). k.number) h.after_is)
+      (applied-own may template run.press before after os run.moment (replies_of pairs) now h) (ap (λ (k : Knowledge). k.calls) h.after_is)
+      (entered-at may template before.number run.moment h.front (length before.calls) os h.entries (replies_of pairs) h.entered)
+      (applied-since may template run.press before after os run.moment (replies_of pairs) now h)
+      (since_more template run.before before ticket run.moment h.front ds led.called led.whole h.met.more_front h.met.own)
       (driven_exits pairs) (starts_exits pairs) (exits_exits pairs) (jobs_exits pairs) (λ e. t ∙ tally-exits tally cs pairs e) account)
 
   -- a refused update, or none
@@ -201,7 +202,7 @@ module _ (answer : Text → ℕ → Answer) (run : Run) (before after : Knowledg
       stays (Some told) h = ((λ i. entries_of told.front (number i)) ∙ h.0 ∙ sym calls, trans told.front before.front after.front h.1 more)
 
   -- what a drain entered, or nothing
-  pub led-entered : (told : Option Told) (pairs : List (Note × Reply)) → IsPrefix before.front after.front → IsEntered answer template run.press before after run.moment pairs told → tally' ≡ with_exits tally (replies_of pairs)
+  pub led-entered : (told : Option Told) (pairs : List (Note × Reply)) → IsPrefix before.front after.front → IsEntered may template run.press before after run.moment pairs told → tally' ≡ with_exits tally (replies_of pairs)
       → ((h : Child → ℕ) → weigh h put' + weigh h left' ≡ weigh h put + weigh h left + weigh h (restarted_jobs pairs))
       → IsLed run after (option_or told ticket) tally' put' left' (entered ++ notes_of pairs) begun
   led-entered None pairs more h t account =
@@ -218,7 +219,7 @@ module _ (answer : Text → ℕ → Answer) (run : Run) (before after : Knowledg
         counts = same ∙ stays.counts;
         jobs = λ w. let a = account w in let b = stays.jobs w in let c = ap (λ l. weigh w (restarted_jobs l)) h.0 in omega (arith, a, b, c);
       })
-  led-entered (Some now) pairs more h t account = led-drained now pairs h.0 h.1 t account
+  led-entered (Some now) pairs more h t account = led-drained now pairs h t account
 
 -- a driver that entered nothing
 pub led_begins : (run : Run) → IsLed run run.before None (tally_of []) [] [] [] []

@@ -32,8 +32,8 @@ replies_of [] = []
 replies_of (p ∷ ps) = p.1 ∷ replies_of ps
 
 -- the exits of these notes were entered together, each as an update, with these replies, up to this ticket; or nothing was
-abbrev pub IsEntered : (Text → ℕ → Answer) → Template → Book → Knowledge → Knowledge → ℕ → List (Note × Reply) → Option Told → Type 0
-IsEntered answer template press before after moment pairs ticket =
+abbrev pub IsEntered : (Text → ℕ → Answer → Type 0) → Template → Book → Knowledge → Knowledge → ℕ → List (Note × Reply) → Option Told → Type 0
+IsEntered may template press before after moment pairs ticket =
     MatchOption ticket
     ((pairs ≡ []) × (after.calls ≡ before.calls) × (after.number ≡ before.number))
-    (λ told. IsApplied answer template before (exits (notes_of pairs)) moment after (replies_of pairs) told.front × (told.press ≡ press))
+    (λ told. IsApplied may template press before (exits (notes_of pairs)) moment after (replies_of pairs) told)

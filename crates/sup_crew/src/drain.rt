@@ -124,9 +124,9 @@ fn enter_held<N: Name, S: Starter + Drop, P: Wait + Drop, R: Wait>(
     count: usize,
 ) -> Result<Drained, DrainFault>
     requires { (1 ≤ count) × (count ≤ array_vec_len held.old) }
-    ensures ok { IfOk result (λ d. IsEntered S.answer N.template N.press handle.old handle.new moment d.pairs.items d.ticket) }
+    ensures ok { IfOk result (λ d. IsEntered S.may_answer N.template N.press handle.old handle.new moment d.pairs.items d.ticket) }
     ensures all { IfOk result (λ d. (notes_of d.pairs.items ++ held.new.items ≡ held.old.items) × (vec_len d.pairs ≡ count)) }
-    ensures err { IfErr result (λ e. IsEntered S.answer N.template N.press handle.old handle.new moment e.done.pairs.items e.done.ticket) }
+    ensures err { IfErr result (λ e. IsEntered S.may_answer N.template N.press handle.old handle.new moment e.done.pairs.items e.done.ticket) }
     ensures part { IfErr result (λ e. notes_of e.done.pairs.items ++ held.new.items ≡ held.old.items) }
     ensures few { IfErr result (λ e. vec_len e.done.pairs ≤ count) }
     ensures front { IsPrefix handle.old.front handle.new.front }
@@ -200,14 +200,14 @@ impl Drain {
         ensures same { (self.new.inbox ≡ self.old.inbox) × (self.new.posters ≡ self.old.posters) }
 
         // What was entered.
-        ensures ok { IfOk result (λ d. IsEntered S.answer N.template N.press handle.old handle.new moment d.pairs.items d.ticket) }
+        ensures ok { IfOk result (λ d. IsEntered S.may_answer N.template N.press handle.old handle.new moment d.pairs.items d.ticket) }
         ensures entered { IfOk result (λ d. self.new.entered ≡ self.old.entered ++ notes_of d.pairs.items) }
         ensures all { IfOk result (λ d. (vec_len d.pairs ≡ limit) ⊎ (self.new.held ≡ [])) }
         ensures idle { IfOk result (λ d. d.pairs.items ≡ [] → handle.new ≡ handle.old) }
         ensures few { MatchResult result (λ d. vec_len d.pairs ≤ limit) (λ e. vec_len e.done.pairs ≤ limit) }
 
         // What a fault leaves, and when it comes.
-        ensures err { IfErr result (λ e. IsEntered S.answer N.template N.press handle.old handle.new moment e.done.pairs.items e.done.ticket) }
+        ensures err { IfErr result (λ e. IsEntered S.may_answer N.template N.press handle.old handle.new moment e.done.pairs.items e.done.ticket) }
         ensures part { IfErr result (λ e. self.new.entered ≡ self.old.entered ++ notes_of e.done.pairs.items) }
         ensures front { IsPrefix handle.old.front handle.new.front }
         ensures gone { IfErr result (λ e. e.fault ≡ UpdateFault.Gone → ⊥) }

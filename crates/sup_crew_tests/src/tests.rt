@@ -18,9 +18,10 @@ use sup_types::{Answer, Kind, Restart, Starter, Template, Text};
 struct Always;
 
 impl Starter for Always {
+    ghost use Rattle.std.specs.Prelude.{◌≡◌};
     ghost use Rattle.sup_types.specs.declared.history.Answer.TheVariants.{Running};
 
-    ghost answer = { λ arg moment. Running };
+    ghost may_answer = { λ arg moment answer. answer ≡ Running };
 
     fn start(&self, _arg: &Text, _moment: u64) -> Answer {
         Answer::Running

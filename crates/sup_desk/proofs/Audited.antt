@@ -11,10 +11,10 @@ use Rattle.sup_desk.specs.Knowledge.{Knowledge}
 use Rattle.sup_desk.specs.Audits.{IsGrown, AreGrown, HasSeenAll, HaveSeenAll}
 
 grown_trans : (x y z : Knowledge) → IsGrown x y → IsGrown y z → IsGrown x z
-grown_trans x y z p q = record { front = prefix_trans x.front y.front z.front p.front q.front; calls = q.calls ∙ p.calls; number = q.number ∙ p.number }
+grown_trans x y z p q = record { editions = prefix_trans x.editions y.editions z.editions p.editions q.editions; front = prefix_trans x.front y.front z.front p.front q.front; calls = q.calls ∙ p.calls; number = q.number ∙ p.number }
 
 pub grown_self : (handles : List Knowledge) → AreGrown handles handles
-grown_self handles = record { len = refl; each = λ k d within. record { front = prefix_self (get_or handles k d).front; calls = refl; number = refl } }
+grown_self handles = record { len = refl; each = λ k d within. record { editions = prefix_self (get_or handles k d).editions; front = prefix_self (get_or handles k d).front; calls = refl; number = refl } }
 
 -- the handle at place i has grown
 pub grown_set : (old now : List Knowledge) (i : ℕ) (was is : Knowledge) → AreGrown old now → i < length now → IsGrown (get_or now i was) is

@@ -51,7 +51,7 @@ entries_le h [] = omega arith
 entries_le h (x ∷ xs) = omega (arith, le_more x (entries_of xs h) (x.handle == h) (length xs) (entries_le h xs))
 
 -- a front that was replaced by a longer one is that one
-pub adopted : (old told new : List Entry) → IsPrefix old told → IsPrefix told new → (new ≡ old) ⊎ (new ≡ told) → new ≡ told
+pub adopted : {A : Type 0} (old told new : List A) → IsPrefix old told → IsPrefix told new → (new ≡ old) ⊎ (new ≡ told) → new ≡ told
 adopted old told new grows held cases =
     ⊎_elim
     (λ (same : new ≡ old). same ∙ sym (prefix_whole told old (subst (λ l. IsPrefix told l) same held) (prefix_length old told grows)))

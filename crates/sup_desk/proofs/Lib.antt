@@ -4,3 +4,4 @@ pub mod Entries
 pub mod Counted
 pub mod Batched
 pub mod Audited
+pub mod Results

@@ -11,6 +11,7 @@ AreNumbered handles = (k : ℕ) (d : Knowledge) → k < length handles → (slic
 
 -- the handle may have seen more, and its calls are as they were
 pub record IsGrown (old new : Knowledge) : Type 0 where
+  pub editions : IsPrefix old.editions new.editions
   pub front : IsPrefix old.front new.front
   pub calls : new.calls ≡ old.calls
   pub number : new.number ≡ old.number

@@ -1,38 +1,40 @@
 -- Many operations that are entered together, each as an update of its own.
-use Rattle.std.specs.Prelude.{◌≡◌, ℕ, ◌+◌, List, [], ◌∷◌, ◌++◌, length, fold}
-use mathlib.Core.List.{IsPrefix}
+use Rattle.std.specs.Prelude.{◌≡◌, ℕ, ◌+◌, List, [], ◌∷◌, ◌++◌, length}
+use Rattle.logbook.specs.Pages.{Book}
 use Rattle.sup_types.specs.declared.text.Text.{Text}
 use Rattle.sup_types.specs.declared.template.Template.{Template}
 use Rattle.sup_types.specs.declared.history.Answer.{Answer}
 use Rattle.sup_types.specs.declared.history.Operation.{Operation}
 use Rattle.sup_types.specs.declared.history.Entry.{Entry}
 use Rattle.sup_types.specs.declared.history.Reply.{Reply}
-use Rattle.sup_core.specs.Account.{entry_of, reply_after}
-use Rattle.sup_desk.specs.Knowledge.{Knowledge, entries_of}
+use Rattle.sup_core.specs.Account.{reply_after}
+use Rattle.sup_log.specs.Tokens.{Publication, Told}
+use Rattle.sup_desk.specs.Knowledge.{Knowledge, entries_of, IsEntryOf, IsMet, with_entries}
+use Rattle.sup_desk.specs.Books.{Written, with_pending}
 
--- entries that follow one another, and their replies
-pub record Batch : Type 0 where
+-- these operations, asked for in order after a front by the handle with this number that has made so many calls before:
+-- their entries and their replies
+abbrev pub AreEntered : (Text → ℕ → Answer → Type 0) → Template → ℕ → ℕ → List Entry → ℕ → List Operation → List Entry → List Reply → Type 0
+AreEntered may template number moment front serial [] entries replies = (entries ≡ []) × (replies ≡ [])
+AreEntered may template number moment front serial (operation ∷ operations) entries replies =
+    (e : Entry) × (es : List Entry) × (rs : List Reply) × (entries ≡ e ∷ es) × (replies ≡ reply_after template front e ∷ rs)
+    × IsEntryOf may template front number serial operation moment e
+    × AreEntered may template number moment (front ++ e ∷ []) (serial + 1) operations es rs
+
+-- the operations are answered at the end of one front that the handle meets; then their entries are there too, in one
+-- publication
+pub record IsApplied (may : Text → ℕ → Answer → Type 0) (template : Template) (press : Book) (before : Knowledge) (operations : List Operation) (moment : ℕ) (after : Knowledge) (replies : List Reply) (told : Told) : Type 0 where
+  pub editions : List Publication
+  pub front : List Entry
   pub entries : List Entry
-  pub replies : List Reply
+  pub met : IsMet before editions front
+  pub entered : AreEntered may template before.number moment front (length before.calls) operations entries replies
+  pub after_is : after ≡ with_entries before editions front entries
+  pub told_is : told ≡ record { press = press; editions = after.editions; front = after.front }
 
--- one operation more, entered after those before it
-abbrev pub with_operation : (Text → ℕ → Answer) → Template → List Entry → ℕ → ℕ → ℕ → Batch → Operation → Batch
-with_operation answer template front number serial moment batch operation =
-    let entry : Entry = entry_of answer template (front ++ batch.entries) number (serial + length batch.entries) operation moment in
-    record { entries = batch.entries ++ entry ∷ []; replies = batch.replies ++ reply_after template (front ++ batch.entries) entry ∷ [] }
-
--- what these operations become after a front, for the handle with this number that has made so many calls before
-unfoldable pub batch_of : (Text → ℕ → Answer) → Template → List Entry → ℕ → ℕ → ℕ → List Operation → Batch
-batch_of answer template front number serial moment operations =
-    fold (with_operation answer template front number serial moment) (record { entries = []; replies = [] }) operations
-
--- the operations are answered at the end of one front, which begins with all that the handle had seen and has its own
--- calls, each once; then their entries are there too
-abbrev pub IsApplied : (Text → ℕ → Answer) → Template → Knowledge → List Operation → ℕ → Knowledge → List Reply → List Entry → Type 0
-IsApplied answer template before operations moment after replies told =
-    (front : List Entry) × IsPrefix before.front front × (entries_of front before.number ≡ before.calls)
-    × (after.number ≡ before.number)
-    × (after.front ≡ front ++ (batch_of answer template front before.number (length before.calls) moment operations).entries)
-    × (after.calls ≡ before.calls ++ (batch_of answer template front before.number (length before.calls) moment operations).entries)
-    × (replies ≡ (batch_of answer template front before.number (length before.calls) moment operations).replies)
-    × (told ≡ after.front)
+-- the operations were written one after another, for the handle with this number
+abbrev pub AreWritten : (Text → ℕ → Answer → Type 0) → Template → Written → ℕ → ℕ → List Operation → List Reply → Written → Type 0
+AreWritten may template before number moment operations replies after =
+    (entries : List Entry)
+    × AreEntered may template number moment (before.published ++ before.pending) (length (entries_of (before.published ++ before.pending) number)) operations entries replies
+    × (after ≡ with_pending before entries)

@@ -1,9 +1,10 @@
 -- What stands under the lock, and when it is consistent.
-use Rattle.std.specs.Prelude.{◌≡◌, ℕ, ◌+◌, List, length, slice_index, ◌<◌, ◌≤◌, ◌⊎◌}
+use Rattle.std.specs.Prelude.{◌≡◌, ℕ, ◌+◌, List, ◌++◌, length, slice_index, ◌<◌, ◌≤◌, ◌⊎◌}
 use Rattle.std.specs.List.{All}
 use Rattle.logbook.specs.Pages.{Book}
 use Rattle.sup_types.specs.declared.template.Template.{Template}
 use Rattle.sup_types.specs.declared.history.Entry.{Entry}
+use Rattle.sup_log.specs.Tokens.{Publication, in_one_step}
 use Rattle.sup_desk.specs.Knowledge.{Knowledge, entries_of}
 
 -- the name of no press
@@ -16,20 +17,24 @@ pub record Plot : Type 0 where
   pub template : Template
   pub handles : ℕ
 
--- the published history, how many handles were made, how many there may be, and how many publications there were
+-- the publications, the history that they make, how many handles were made, and how many there may be
 pub record Kept : Type 0 where
+  pub editions : List Publication
   pub history : List Entry
   pub made : ℕ
   pub handles : ℕ
-  pub editions : ℕ
 
 -- the same with entries that are not yet published
 pub record Written : Type 0 where
+  pub editions : List Publication
   pub published : List Entry
   pub pending : List Entry
   pub made : ℕ
   pub handles : ℕ
-  pub editions : ℕ
+
+-- the book, after these entries in one publication
+abbrev pub grown_by : Kept → List Entry → Kept
+grown_by book entries = record { editions = book.editions ++ in_one_step entries; history = book.history ++ entries; made = book.made; handles = book.handles }
 
 -- a handle with this number was made: numbers go from 1
 abbrev pub IsMade : ℕ → ℕ → Type 0
@@ -46,3 +51,8 @@ abbrev pub IsSplit : Kept → Knowledge → Type 0
 IsSplit book handle =
     (length book.history < length handle.front)
     ⊎ ¬ (IsMade book.made handle.number × (length (entries_of book.history handle.number) ≡ length handle.calls))
+
+-- what is written, with these entries too
+abbrev pub with_pending : Written → List Entry → Written
+with_pending leaf entries =
+    record { editions = leaf.editions; published = leaf.published; pending = leaf.pending ++ entries; made = leaf.made; handles = leaf.handles }

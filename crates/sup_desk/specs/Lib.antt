@@ -4,3 +4,4 @@ pub mod Faults
 pub mod Asking
 pub mod Batches
 pub mod Audits
+pub mod Results

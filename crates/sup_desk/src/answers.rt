@@ -55,6 +55,7 @@ pub fn inspect_by<T, F: FnOnce(&View) -> T>(lens: &mut Lens, f: F) -> Result<See
     requires { F.IsAlwaysCallable f }
     ensures press { (lens.new.press ≡ lens.old.press) × (lens.new.template ≡ lens.old.template) }
     ensures front { IsPrefix lens.old.front lens.new.front }
+    ensures editions { IsPrefix lens.old.editions lens.new.editions }
     ensures answer { IfOk result (λ seen. IsAnswered F.FnOnce f (sight lens.new) (sight lens.new).standing.down seen) }
 {
     lens.look(|view| inspected(view, f))

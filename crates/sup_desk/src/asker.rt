@@ -3,7 +3,7 @@ ghost use Rattle.std.specs.Prelude.{◌≡◌, length, ◌⊎◌, IfOk, IsOk};
 ghost use mathlib.Core.List.{IsPrefix};
 ghost use Rattle.sup_core.specs.State.{MatchSeen};
 ghost use Rattle.sup_core.specs.Queries.{which, count, child};
-ghost use Rattle.sup_log.specs.Tokens.{sight};
+ghost use Rattle.sup_log.specs.Tokens.{sight, history_of};
 ghost use Rattle.sup_desk.specs.Asking.{IsAnswered};
 
 use crate::answers::{child_seen, counts_seen, inspect_by, rows_seen};
@@ -28,7 +28,7 @@ impl<N: Name> Model for Asker<N> {
 
     ghost Value = { Asking };
 
-    ghost view = { λ a. record { front = a.lens.front } };
+    ghost view = { λ a. record { editions = a.lens.editions; front = a.lens.front } };
 
     ghost invariant = { λ a. (a.lens.press ≡ N.press) × (a.lens.template ≡ N.template) };
 }
@@ -37,7 +37,7 @@ impl<N: Name> Asker<N> {
     /// An asker that has seen what the lens has.
     pub(crate) fn begin(lens: Lens) -> Asker<N>
         requires { (lens.press ≡ N.press) × (lens.template ≡ N.template) }
-        ensures { result ≡ record { front = lens.front } }
+        ensures { result ≡ record { editions = lens.editions; front = lens.front } }
     {
         Asker {
             lens,
@@ -45,9 +45,11 @@ impl<N: Name> Asker<N> {
         }
     }
 
-    /// The length of its front, in entries. It enters nothing.
+    /// The length of its front, in entries. The front ends with a whole publication: it is what the publications make that
+    /// it has seen. It enters nothing.
     pub fn front(&self) -> u64
-        ensures { result ≡ length self.now.front }
+        ensures front { result ≡ length self.now.front }
+        ensures whole { self.now.front ≡ history_of self.now.editions }
     {
         self.lens.front().stamp()
     }
@@ -56,6 +58,7 @@ impl<N: Name> Asker<N> {
     #[tactic(auto, using(crate::proofs::Answered::count_is))]
     pub fn count_children(&mut self) -> Result<Seen<Counts>, Gone>
         ensures front { IsPrefix self.old.front self.new.front }
+        ensures editions { IsPrefix self.old.editions self.new.editions }
         ensures answer { IfOk result (λ answer. answer ≡ count N.template self.new.front) }
     {
         self.lens.look(|view| counts_seen(view))
@@ -65,6 +68,7 @@ impl<N: Name> Asker<N> {
     #[tactic(auto, using(crate::proofs::Answered::child_is))]
     pub fn child(&mut self, number: u64) -> Result<Seen<Option<Row>>, Gone>
         ensures front { IsPrefix self.old.front self.new.front }
+        ensures editions { IsPrefix self.old.editions self.new.editions }
         ensures answer { IfOk result (λ answer. answer ≡ child N.template self.new.front number) }
     {
         self.lens.look(|view| child_seen(view, number))
@@ -74,6 +78,7 @@ impl<N: Name> Asker<N> {
     #[tactic(auto, using(crate::proofs::Answered::which_is))]
     pub fn which_children(&mut self) -> Result<Seen<Vec<Row>>, QueryFault>
         ensures front { IsPrefix self.old.front self.new.front }
+        ensures editions { IsPrefix self.old.editions self.new.editions }
         ensures answer { IfOk result (λ seen. MatchSeen seen (λ rows. which N.template self.new.front ≡ Seen.Up rows.items) (which N.template self.new.front ≡ Seen.Down)) }
     {
         Ok(self.lens.look(|view| rows_seen(view))??)
@@ -84,7 +89,8 @@ impl<N: Name> Asker<N> {
     pub fn inspect<T, F: FnOnce(&View) -> T>(&mut self, f: F) -> Result<Seen<T>, Gone>
         requires { F.IsAlwaysCallable f }
         ensures front { IsPrefix self.old.front self.new.front }
-        ensures answer { let view = sight (record { press = N.press; template = N.template; front = self.new.front })
+        ensures editions { IsPrefix self.old.editions self.new.editions }
+        ensures answer { let view = sight (record { press = N.press; template = N.template; editions = self.new.editions; front = self.new.front })
             in IfOk result (λ seen. IsAnswered F.FnOnce f view view.standing.down seen) }
     {
         inspect_by(&mut self.lens, f)
@@ -95,8 +101,9 @@ impl<N: Name> Asker<N> {
         requires { ticket.now.press ≡ N.press }
         ensures answered { IsOk result }
         ensures front { IsPrefix self.old.front self.new.front }
-        ensures learnt { IsPrefix ticket.now.front self.new.front }
-        ensures either { (self.new.front ≡ self.old.front) ⊎ (self.new.front ≡ ticket.now.front) }
+        ensures editions { IsPrefix self.old.editions self.new.editions }
+        ensures learnt { IsPrefix ticket.now.front self.new.front × IsPrefix ticket.now.editions self.new.editions }
+        ensures either { ((self.new.front ≡ self.old.front) × (self.new.editions ≡ self.old.editions)) ⊎ ((self.new.front ≡ ticket.now.front) × (self.new.editions ≡ ticket.now.editions)) }
     {
         self.lens.learn(ticket)
     }

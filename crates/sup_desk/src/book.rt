@@ -19,7 +19,7 @@ impl<N: Name, R: Wait + Drop> Model for Book<N, R> {
 
     ghost Value = { Kept };
 
-    ghost view = { λ b. record { history = b.leaf.published; made = b.leaf.made; handles = b.leaf.handles; editions = b.leaf.editions } };
+    ghost view = { λ b. record { editions = b.leaf.editions; history = b.leaf.published; made = b.leaf.made; handles = b.leaf.handles } };
 
     ghost invariant = { λ b. b.leaf.pending ≡ [] };
 }
@@ -28,7 +28,7 @@ impl<N: Name, R: Wait + Drop> Book<N, R> {
     /// A book of this leaf, on which nothing is pending.
     pub(crate) fn of(leaf: Leaf<N, R>) -> Book<N, R>
         requires { leaf.pending ≡ [] }
-        ensures { result ≡ record { history = leaf.published; made = leaf.made; handles = leaf.handles; editions = leaf.editions } }
+        ensures { result ≡ record { editions = leaf.editions; history = leaf.published; made = leaf.made; handles = leaf.handles } }
     {
         Book { leaf }
     }

@@ -20,7 +20,7 @@ impl<N: Name> Model for Caller<N> {
 
     ghost Value = { Knowledge };
 
-    ghost view = { λ c. record { number = c.number; front = c.asker.front; calls = take c.calls (entries_of c.asker.front c.number) } };
+    ghost view = { λ c. record { number = c.number; editions = c.asker.editions; front = c.asker.front; calls = take c.calls (entries_of c.asker.front c.number) } };
 
     ghost invariant = { λ c. c.calls ≤ length (entries_of c.asker.front c.number) };
 }
@@ -28,7 +28,7 @@ impl<N: Name> Model for Caller<N> {
 impl<N: Name> Caller<N> {
     /// A caller with this number, which has made no call.
     pub(crate) fn begin(number: u64, asker: Asker<N>) -> Caller<N>
-        ensures { result ≡ record { number = number; front = asker.front; calls = [] } }
+        ensures { result ≡ record { number = number; editions = asker.editions; front = asker.front; calls = [] } }
     {
         Caller {
             number,

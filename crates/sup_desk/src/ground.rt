@@ -30,7 +30,7 @@ impl<R: Wait + Drop> Model for Ground<R> {
 
     ghost view = { λ g. record { press = g.press.press; template = g.press.template; handles = g.handles } };
 
-    ghost invariant = { λ g. (g.press.pending ≡ []) × (g.press.published ≡ []) × (g.press.editions ≡ 0)
+    ghost invariant = { λ g. (g.press.pending ≡ []) × (g.press.published ≡ []) × (g.press.editions ≡ [])
         × (g.sup ≡ standing g.press.template []) × (vec_len g.counts ≡ 0) × (g.handles ≤ vec_capacity g.counts) × (g.handles ≤ 1024) };
 }
 
@@ -69,7 +69,7 @@ impl<R: Wait + Drop> Ground<R> {
     /// The book of this ground, which N names: nothing is published, and no handle was made.
     pub(crate) fn book<N: Name>(self) -> Book<N, R>
         requires { (self.press ≡ N.press) × (self.template ≡ N.template) }
-        ensures { result ≡ record { history = []; made = 0; handles = self.handles; editions = 0 } }
+        ensures { result ≡ record { editions = []; history = []; made = 0; handles = self.handles } }
     {
         let Ground {
             sup,

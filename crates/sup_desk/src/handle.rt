@@ -3,11 +3,12 @@ ghost use Rattle.std.specs.Prelude.{◌≡◌, ◌≤◌, ◌<◌, ◌++◌, [],
 ghost use mathlib.Core.List.{IsPrefix};
 ghost use Rattle.sup_core.specs.State.{MatchSeen};
 ghost use Rattle.sup_core.specs.Queries.{which, count, child};
-ghost use Rattle.sup_log.specs.Tokens.{sight};
+ghost use Rattle.sup_log.specs.Tokens.{sight, history_of};
 ghost use Rattle.sup_desk.specs.Asking.{IsAnswered};
-ghost use Rattle.sup_desk.specs.Knowledge.{entries_of, IsUpdated};
+ghost use Rattle.sup_desk.specs.Knowledge.{entries_of};
 ghost use Rattle.sup_desk.specs.Batches.{IsApplied};
 ghost use Rattle.sup_desk.specs.Books.{IsSplit};
+ghost use Rattle.sup_desk.specs.Results.{IsUpdateResult};
 ghost use Rattle.sup_desk.specs.Audits.{AreNumbered, IsGrown, HasSeenAll};
 
 use crate::asker::Asker;
@@ -60,7 +61,7 @@ impl<'d, N: Name, D> Model for HandleOf<'d, N, D> {
 
     ghost Value = { Knowledge };
 
-    ghost view = { λ h. record { number = h.number; front = h.asker.front; calls = take h.calls (entries_of h.asker.front h.number) } };
+    ghost view = { λ h. record { number = h.number; editions = h.asker.editions; front = h.asker.front; calls = take h.calls (entries_of h.asker.front h.number) } };
 
     ghost invariant = { λ h. h.calls ≤ length (entries_of h.asker.front h.number) };
 }
@@ -76,13 +77,7 @@ impl<'d, N: Name, S: Starter + Drop, R: Wait + Drop> HandleOf<'d, N, Desk<N, S, 
         moment: u64,
         arg: Text,
     ) -> Result<Done, UpdateFault>
-        ensures ok { IfOk result (λ d. IsUpdated S.answer N.template self.old (Operation.Start arg) moment self.new d.reply d.ticket.front) }
-        ensures press { IfOk result (λ d. d.ticket.press ≡ N.press) }
-        ensures front { IsPrefix self.old.front self.new.front }
-        ensures calls { OnErr result ((self.new.calls ≡ self.old.calls) × (self.new.number ≡ self.old.number)) }
-        ensures gone { IfErr result (λ e. e ≡ UpdateFault.Gone → ⊥) }
-        ensures full { IfErr result (λ e. e ≡ UpdateFault.HistoryFull → (length self.new.front ≡ N.template.entries) × (entries_of self.new.front self.new.number ≡ self.new.calls)) }
-        ensures memory { IfErr result (λ e. e ≡ UpdateFault.OutOfMemory → entries_of self.new.front self.new.number ≡ self.new.calls) }
+        ensures { IsUpdateResult S.may_answer N.template N.press self.old (Operation.Start arg) moment self.new result }
     {
         self.update(rt, moment, Operation::Start(arg))
     }
@@ -95,26 +90,14 @@ impl<'d, N: Name, S: Starter + Drop, R: Wait + Drop> HandleOf<'d, N, Desk<N, S, 
         number: u64,
         reason: Reason,
     ) -> Result<Done, UpdateFault>
-        ensures ok { IfOk result (λ d. IsUpdated S.answer N.template self.old (Operation.Exit number reason) moment self.new d.reply d.ticket.front) }
-        ensures press { IfOk result (λ d. d.ticket.press ≡ N.press) }
-        ensures front { IsPrefix self.old.front self.new.front }
-        ensures calls { OnErr result ((self.new.calls ≡ self.old.calls) × (self.new.number ≡ self.old.number)) }
-        ensures gone { IfErr result (λ e. e ≡ UpdateFault.Gone → ⊥) }
-        ensures full { IfErr result (λ e. e ≡ UpdateFault.HistoryFull → (length self.new.front ≡ N.template.entries) × (entries_of self.new.front self.new.number ≡ self.new.calls)) }
-        ensures memory { IfErr result (λ e. e ≡ UpdateFault.OutOfMemory → entries_of self.new.front self.new.number ≡ self.new.calls) }
+        ensures { IsUpdateResult S.may_answer N.template N.press self.old (Operation.Exit number reason) moment self.new result }
     {
         self.update(rt, moment, Operation::Exit(number, reason))
     }
 
     /// Tries the restart of the child with this number again.
     pub fn retry<W: Wait>(&mut self, rt: &W, moment: u64, number: u64) -> Result<Done, UpdateFault>
-        ensures ok { IfOk result (λ d. IsUpdated S.answer N.template self.old (Operation.Retry number) moment self.new d.reply d.ticket.front) }
-        ensures press { IfOk result (λ d. d.ticket.press ≡ N.press) }
-        ensures front { IsPrefix self.old.front self.new.front }
-        ensures calls { OnErr result ((self.new.calls ≡ self.old.calls) × (self.new.number ≡ self.old.number)) }
-        ensures gone { IfErr result (λ e. e ≡ UpdateFault.Gone → ⊥) }
-        ensures full { IfErr result (λ e. e ≡ UpdateFault.HistoryFull → (length self.new.front ≡ N.template.entries) × (entries_of self.new.front self.new.number ≡ self.new.calls)) }
-        ensures memory { IfErr result (λ e. e ≡ UpdateFault.OutOfMemory → entries_of self.new.front self.new.number ≡ self.new.calls) }
+        ensures { IsUpdateResult S.may_answer N.template N.press self.old (Operation.Retry number) moment self.new result }
     {
         self.update(rt, moment, Operation::Retry(number))
     }
@@ -126,26 +109,14 @@ impl<'d, N: Name, S: Starter + Drop, R: Wait + Drop> HandleOf<'d, N, Desk<N, S, 
         moment: u64,
         number: u64,
     ) -> Result<Done, UpdateFault>
-        ensures ok { IfOk result (λ d. IsUpdated S.answer N.template self.old (Operation.Terminate number) moment self.new d.reply d.ticket.front) }
-        ensures press { IfOk result (λ d. d.ticket.press ≡ N.press) }
-        ensures front { IsPrefix self.old.front self.new.front }
-        ensures calls { OnErr result ((self.new.calls ≡ self.old.calls) × (self.new.number ≡ self.old.number)) }
-        ensures gone { IfErr result (λ e. e ≡ UpdateFault.Gone → ⊥) }
-        ensures full { IfErr result (λ e. e ≡ UpdateFault.HistoryFull → (length self.new.front ≡ N.template.entries) × (entries_of self.new.front self.new.number ≡ self.new.calls)) }
-        ensures memory { IfErr result (λ e. e ≡ UpdateFault.OutOfMemory → entries_of self.new.front self.new.number ≡ self.new.calls) }
+        ensures { IsUpdateResult S.may_answer N.template N.press self.old (Operation.Terminate number) moment self.new result }
     {
         self.update(rt, moment, Operation::Terminate(number))
     }
 
     /// Ends all children, and the supervisor.
     pub fn stop<W: Wait>(&mut self, rt: &W, moment: u64) -> Result<Done, UpdateFault>
-        ensures ok { IfOk result (λ d. IsUpdated S.answer N.template self.old Operation.Stop moment self.new d.reply d.ticket.front) }
-        ensures press { IfOk result (λ d. d.ticket.press ≡ N.press) }
-        ensures front { IsPrefix self.old.front self.new.front }
-        ensures calls { OnErr result ((self.new.calls ≡ self.old.calls) × (self.new.number ≡ self.old.number)) }
-        ensures gone { IfErr result (λ e. e ≡ UpdateFault.Gone → ⊥) }
-        ensures full { IfErr result (λ e. e ≡ UpdateFault.HistoryFull → (length self.new.front ≡ N.template.entries) × (entries_of self.new.front self.new.number ≡ self.new.calls)) }
-        ensures memory { IfErr result (λ e. e ≡ UpdateFault.OutOfMemory → entries_of self.new.front self.new.number ≡ self.new.calls) }
+        ensures { IsUpdateResult S.may_answer N.template N.press self.old Operation.Stop moment self.new result }
     {
         self.update(rt, moment, Operation::Stop)
     }
@@ -157,13 +128,7 @@ impl<'d, N: Name, S: Starter + Drop, R: Wait + Drop> HandleOf<'d, N, Desk<N, S, 
         moment: u64,
         operation: Operation,
     ) -> Result<Done, UpdateFault>
-        ensures ok { IfOk result (λ d. IsUpdated S.answer N.template self.old operation moment self.new d.reply d.ticket.front) }
-        ensures press { IfOk result (λ d. d.ticket.press ≡ N.press) }
-        ensures front { IsPrefix self.old.front self.new.front }
-        ensures calls { OnErr result ((self.new.calls ≡ self.old.calls) × (self.new.number ≡ self.old.number)) }
-        ensures gone { IfErr result (λ e. e ≡ UpdateFault.Gone → ⊥) }
-        ensures full { IfErr result (λ e. e ≡ UpdateFault.HistoryFull → (length self.new.front ≡ N.template.entries) × (entries_of self.new.front self.new.number ≡ self.new.calls)) }
-        ensures memory { IfErr result (λ e. e ≡ UpdateFault.OutOfMemory → entries_of self.new.front self.new.number ≡ self.new.calls) }
+        ensures { IsUpdateResult S.may_answer N.template N.press self.old operation moment self.new result }
     {
         let desk = self.desk;
         enter(
@@ -175,7 +140,8 @@ impl<'d, N: Name, S: Starter + Drop, R: Wait + Drop> HandleOf<'d, N, Desk<N, S, 
         )
     }
 
-    /// Enters the operations of the queue as updates, from its front on and in order, and publishes them in one step. An
+    /// Enters the operations of the queue as updates, from its front on and in order, and publishes them in one step: they
+    /// are one publication, so that everyone who asks sees all of them or none. An
     /// operation that is entered leaves the queue. The room for the replies is made first. After a fault what was entered
     /// is published, and the queue has the others in order. An empty queue enters nothing.
     pub fn apply_all<W: Wait, A: Allocator + Copy>(
@@ -185,14 +151,15 @@ impl<'d, N: Name, S: Starter + Drop, R: Wait + Drop> HandleOf<'d, N, Desk<N, S, 
         moment: u64,
         operations: &mut VecDeque<Operation>,
     ) -> Result<Dones<A>, Part<A>>
-        ensures ok { IfOk result (λ d. IsApplied S.answer N.template self.old operations.old.items moment self.new d.replies.items d.ticket.front × (d.ticket.press ≡ N.press)) }
+        ensures ok { IfOk result (λ d. IsApplied S.may_answer N.template N.press self.old operations.old.items moment self.new d.replies.items d.ticket) }
         ensures all { OnOk result (operations.new.items ≡ []) }
 
         // What a fault leaves.
-        ensures part { IfErr result (λ p. IfSome p.ticket (λ t. IsApplied S.answer N.template self.old (take (length p.replies.items) operations.old.items) moment self.new p.replies.items t.front × (t.press ≡ N.press) × (0 < length p.replies.items))) }
+        ensures part { IfErr result (λ p. IfSome p.ticket (λ t. IsApplied S.may_answer N.template N.press self.old (take (length p.replies.items) operations.old.items) moment self.new p.replies.items t × (0 < length p.replies.items))) }
         ensures nothing { IfErr result (λ p. IfNone p.ticket ((p.replies.items ≡ []) × (self.new.calls ≡ self.old.calls) × (self.new.number ≡ self.old.number))) }
         ensures rest { IfErr result (λ p. operations.new.items ≡ drop (length p.replies.items) operations.old.items) }
         ensures front { IsPrefix self.old.front self.new.front }
+        ensures editions { IsPrefix self.old.editions self.new.editions }
 
         // When a fault comes.
         ensures gone { IfErr result (λ p. p.fault ≡ UpdateFault.Gone → ⊥) }
@@ -232,8 +199,9 @@ impl<'d, N: Name, S: Starter + Drop, R: Wait + Drop> HandleOf<'d, N, Desk<N, S, 
     /// A ticket for all of the history, which the handle has then seen. Its calls are all that stand there under its
     /// number. It waits for the lock.
     pub fn ticket<W: Wait>(&mut self, rt: &W) -> Result<Ticket, TicketFault>
-        ensures ok { IfOk result (λ t. (entries_of self.new.front self.new.number ≡ self.new.calls) × (t.front ≡ self.new.front) × (t.press ≡ N.press)) }
+        ensures ok { IfOk result (λ t. (entries_of self.new.front self.new.number ≡ self.new.calls) × (t ≡ record { press = N.press; editions = self.new.editions; front = self.new.front })) }
         ensures front { IsPrefix self.old.front self.new.front }
+        ensures editions { IsPrefix self.old.editions self.new.editions }
         ensures calls { (self.new.calls ≡ self.old.calls) × (self.new.number ≡ self.old.number) }
         ensures gone { IfErr result (λ e. e ≡ TicketFault.Gone → ⊥) }
     {
@@ -307,9 +275,10 @@ impl<'d, N: Name, D> HandleOf<'d, N, D> {
     pub(crate) fn adopt(&mut self, told: &Ticket)
         requires press { told.now.press ≡ N.press }
         requires front { IsPrefix self.old.front told.now.front }
+        requires editions { IsPrefix self.old.editions told.now.editions }
         requires whole { entries_of self.old.front self.old.number ≡ self.old.calls }
         requires mine { entries_of (drop (length self.old.front) told.now.front) self.old.number ≡ drop (length self.old.front) told.now.front }
-        ensures { self.new ≡ record { number = self.old.number; front = told.now.front; calls = self.old.calls ++ drop (length self.old.front) told.now.front } }
+        ensures { self.new ≡ record { number = self.old.number; editions = told.now.editions; front = told.now.front; calls = self.old.calls ++ drop (length self.old.front) told.now.front } }
     {
         let more = told.stamp() - self.asker.front();
         let _ = self.asker.learn(told);
@@ -328,9 +297,11 @@ impl<'d, N: Name, D> HandleOf<'d, N, D> {
         true
     }
 
-    /// The length of its front, in entries. It enters nothing.
+    /// The length of its front, in entries. The front ends with a whole publication: it is what the publications make that
+    /// the handle has seen. It enters nothing.
     pub fn front(&self) -> u64
-        ensures { result ≡ length self.now.front }
+        ensures front { result ≡ length self.now.front }
+        ensures whole { self.now.front ≡ history_of self.now.editions }
     {
         self.asker.front()
     }
@@ -338,6 +309,7 @@ impl<'d, N: Name, D> HandleOf<'d, N, D> {
     /// How many children there are at one front, which begins with all that the handle had seen, learnt or done.
     pub fn count_children(&mut self) -> Result<Seen<Counts>, Gone>
         ensures front { IsPrefix self.old.front self.new.front }
+        ensures editions { IsPrefix self.old.editions self.new.editions }
         ensures calls { (self.new.calls ≡ self.old.calls) × (self.new.number ≡ self.old.number) }
         ensures answer { IfOk result (λ answer. answer ≡ count N.template self.new.front) }
     {
@@ -347,6 +319,7 @@ impl<'d, N: Name, D> HandleOf<'d, N, D> {
     /// The listed child with this number at such a front.
     pub fn child(&mut self, number: u64) -> Result<Seen<Option<Row>>, Gone>
         ensures front { IsPrefix self.old.front self.new.front }
+        ensures editions { IsPrefix self.old.editions self.new.editions }
         ensures calls { (self.new.calls ≡ self.old.calls) × (self.new.number ≡ self.old.number) }
         ensures answer { IfOk result (λ answer. answer ≡ child N.template self.new.front number) }
     {
@@ -356,6 +329,7 @@ impl<'d, N: Name, D> HandleOf<'d, N, D> {
     /// The listed children at such a front, by ascending numbers.
     pub fn which_children(&mut self) -> Result<Seen<Vec<Row>>, QueryFault>
         ensures front { IsPrefix self.old.front self.new.front }
+        ensures editions { IsPrefix self.old.editions self.new.editions }
         ensures calls { (self.new.calls ≡ self.old.calls) × (self.new.number ≡ self.old.number) }
         ensures answer { IfOk result (λ seen. MatchSeen seen (λ rows. which N.template self.new.front ≡ Seen.Up rows.items) (which N.template self.new.front ≡ Seen.Down)) }
     {
@@ -367,8 +341,9 @@ impl<'d, N: Name, D> HandleOf<'d, N, D> {
     pub fn inspect<T, F: FnOnce(&View) -> T>(&mut self, f: F) -> Result<Seen<T>, Gone>
         requires { F.IsAlwaysCallable f }
         ensures front { IsPrefix self.old.front self.new.front }
+        ensures editions { IsPrefix self.old.editions self.new.editions }
         ensures calls { (self.new.calls ≡ self.old.calls) × (self.new.number ≡ self.old.number) }
-        ensures answer { let view = sight (record { press = N.press; template = N.template; front = self.new.front })
+        ensures answer { let view = sight (record { press = N.press; template = N.template; editions = self.new.editions; front = self.new.front })
             in IfOk result (λ seen. IsAnswered F.FnOnce f view view.standing.down seen) }
     {
         self.asker.inspect(f)
@@ -379,8 +354,9 @@ impl<'d, N: Name, D> HandleOf<'d, N, D> {
         requires { ticket.now.press ≡ N.press }
         ensures answered { IsOk result }
         ensures front { IsPrefix self.old.front self.new.front }
+        ensures editions { IsPrefix self.old.editions self.new.editions }
         ensures calls { (self.new.calls ≡ self.old.calls) × (self.new.number ≡ self.old.number) }
-        ensures learnt { IsPrefix ticket.now.front self.new.front }
+        ensures learnt { IsPrefix ticket.now.front self.new.front × IsPrefix ticket.now.editions self.new.editions }
     {
         self.asker.learn(ticket)
     }

@@ -1,13 +1,14 @@
 //! What a call does with the book that is lent to it: the answers and the refusals of the calls of the same kind, and
 //! what the book is afterwards.
-ghost use Rattle.std.specs.Prelude.{◌≡◌, ◌+◌, ◌++◌, ◌∷◌, [], length, take, drop, vec_len, vec_capacity, All, ◌<◌, ◌≤◌, ◌↔◌, ◌⊎◌, IfOk, OnOk, OnErr, IfErr, MatchOption, OnSome, IfSome, IfNone, true, false};
+ghost use Rattle.std.specs.Prelude.{◌≡◌, ◌+◌, ◌++◌, ◌∷◌, [], length, take, drop, vec_len, vec_capacity, All, List, ◌<◌, ◌≤◌, ◌↔◌, ◌⊎◌, IfOk, OnOk, OnErr, IfErr, MatchOption, OnSome, IfSome, IfNone, true, false};
 ghost use mathlib.Core.List.{IsPrefix};
-ghost use Rattle.sup_log.specs.Tokens.{has_any};
-ghost use Rattle.sup_core.specs.Account.{entry_of, reply_after};
-ghost use Rattle.sup_desk.specs.Knowledge.{entries_of, IsUpdated, next_entry};
-ghost use Rattle.sup_desk.specs.Books.{IsMade, IsSplit};
+ghost use Rattle.sup_log.specs.Tokens.{history_of};
+ghost use Rattle.sup_core.specs.Account.{reply_after};
+ghost use Rattle.sup_desk.specs.Knowledge.{entries_of, IsEntryOf, with_entries};
+ghost use Rattle.sup_desk.specs.Results.{HasSeenMore, IsUpdateResult};
+ghost use Rattle.sup_desk.specs.Books.{IsMade, IsSplit, grown_by, with_pending};
 ghost use Rattle.sup_desk.specs.Audits.{AreNumbered, AreGrown, HaveSeenAll, IsAnySplit};
-ghost use Rattle.sup_desk.specs.Batches.{batch_of, IsApplied};
+ghost use Rattle.sup_desk.specs.Batches.{AreEntered, AreWritten, IsApplied};
 ghost use Rattle.std.specs.VecDeque.{deque_len};
 
 use crate::asker::Asker;
@@ -37,10 +38,12 @@ fn meet<N: Name, D, R: Wait + Drop>(
     handle: &mut HandleOf<'_, N, D>,
 ) -> Option<Ticket>
     ensures met { IfSome result (λ t. (handle.new.front ≡ book.now.history) × (entries_of handle.new.front handle.new.number ≡ handle.new.calls) × IsMade book.now.made handle.new.number) }
-    ensures told { IfSome result (λ t. (t.front ≡ handle.new.front) × (t.press ≡ N.press)) }
+    ensures editions { IfSome result (λ t. handle.new.editions ≡ book.now.editions) }
+    ensures whole { handle.new.front ≡ history_of handle.new.editions }
+    ensures told { IfSome result (λ t. t ≡ record { press = N.press; editions = handle.new.editions; front = handle.new.front }) }
     ensures split { IfNone result (IsSplit book.now handle.new) }
     ensures learnt { IsPrefix book.now.history handle.new.front }
-    ensures front { IsPrefix handle.old.front handle.new.front }
+    ensures seen { HasSeenMore handle.old handle.new }
     ensures calls { (handle.new.calls ≡ handle.old.calls) × (handle.new.number ≡ handle.old.number) }
 {
     let ticket = book.leaf.tell();
@@ -62,8 +65,8 @@ fn write<N: Name, S: Starter, R: Wait + Drop>(
     operation: Operation,
 ) -> Result<Reply, UpdateFault>
     requires { IsMade leaf.old.made number }
-    ensures reply { IfOk result (λ r. r ≡ reply_after N.template (leaf.old.published ++ leaf.old.pending) (entry_of S.answer N.template (leaf.old.published ++ leaf.old.pending) number serial operation moment)) }
-    ensures written { OnOk result (leaf.new ≡ record leaf.old { pending = leaf.old.pending ++ entry_of S.answer N.template (leaf.old.published ++ leaf.old.pending) number serial operation moment ∷ [] }) }
+    ensures written { IfOk result (λ reply. (entry : Entry) × IsEntryOf S.may_answer N.template (leaf.old.published ++ leaf.old.pending) number serial operation moment entry
+        × (reply ≡ reply_after N.template (leaf.old.published ++ leaf.old.pending) entry) × (leaf.new ≡ with_pending leaf.old (entry ∷ []))) }
     ensures kept { OnErr result (leaf.new ≡ leaf.old) }
     ensures full { IfErr result (λ e. e ≡ UpdateFault.HistoryFull → length (leaf.old.published ++ leaf.old.pending) ≡ N.template.entries) }
     ensures faults { IfErr result (λ e. (e ≡ UpdateFault.Gone → ⊥) × (e ≡ UpdateFault.Split → ⊥)) }
@@ -88,34 +91,26 @@ fn write<N: Name, S: Starter, R: Wait + Drop>(
     }
 }
 
-/// Enters an update of the handle in the book.
-pub fn enter<N: Name, D, S: Starter, R: Wait + Drop>(
+/// Enters an update of a handle that has seen all of the history.
+fn enter_one<N: Name, D, S: Starter, R: Wait + Drop>(
     book: &mut Book<N, R>,
     starter: &S,
     handle: &mut HandleOf<'_, N, D>,
     moment: u64,
     operation: Operation,
 ) -> Result<Done, UpdateFault>
-    ensures ok { IfOk result (λ d. IsUpdated S.answer N.template handle.old operation moment handle.new d.reply d.ticket.front) }
-    ensures press { IfOk result (λ d. d.ticket.press ≡ N.press) }
-    ensures front { IsPrefix handle.old.front handle.new.front }
-    ensures calls { OnErr result ((handle.new.calls ≡ handle.old.calls) × (handle.new.number ≡ handle.old.number)) }
-
-    // What the book is then.
-    ensures entered { OnOk result (book.new ≡ record book.old { history = book.old.history ++ next_entry S.answer N.template book.old.history handle.old operation moment ∷ []; editions = book.old.editions + 1 }) }
-    ensures seen { OnOk result (handle.new.front ≡ book.new.history) }
-    ensures kept { OnErr result (book.new ≡ book.old) }
-
-    // When each refusal comes.
-    ensures learnt { IsPrefix book.old.history handle.new.front }
-    ensures gone { IfErr result (λ e. e ≡ UpdateFault.Gone → ⊥) }
-    ensures split { IfErr result (λ e. e ≡ UpdateFault.Split → IsSplit book.old handle.new) }
-    ensures full { IfErr result (λ e. e ≡ UpdateFault.HistoryFull → (length handle.new.front ≡ N.template.entries) × (entries_of handle.new.front handle.new.number ≡ handle.new.calls)) }
-    ensures memory { IfErr result (λ e. e ≡ UpdateFault.OutOfMemory → entries_of handle.new.front handle.new.number ≡ handle.new.calls) }
+    requires front { handle.old.front ≡ book.old.history }
+    requires editions { handle.old.editions ≡ book.old.editions }
+    requires whole { entries_of book.old.history handle.old.number ≡ handle.old.calls }
+    requires made { IsMade book.old.made handle.old.number }
+    ensures entered { IfOk result (λ done. (entry : Entry) × IsEntryOf S.may_answer N.template book.old.history handle.old.number (length handle.old.calls) operation moment entry
+        × (done.reply ≡ reply_after N.template book.old.history entry) × (book.new ≡ grown_by book.old (entry ∷ []))
+        × (handle.new ≡ with_entries handle.old book.old.editions book.old.history (entry ∷ []))) }
+    ensures told { IfOk result (λ done. done.ticket ≡ record { press = N.press; editions = handle.new.editions; front = handle.new.front }) }
+    ensures kept { OnErr result ((book.new ≡ book.old) × (handle.new ≡ handle.old)) }
+    ensures full { IfErr result (λ e. e ≡ UpdateFault.HistoryFull → length book.old.history ≡ N.template.entries) }
+    ensures faults { IfErr result (λ e. (e ≡ UpdateFault.Gone → ⊥) × (e ≡ UpdateFault.Split → ⊥)) }
 {
-    if meet(book, handle).is_none() {
-        return Err(UpdateFault::Split);
-    }
     let reply = write(
         &mut book.leaf,
         starter,
@@ -130,6 +125,32 @@ pub fn enter<N: Name, D, S: Starter, R: Wait + Drop>(
     Ok(Done { reply, ticket })
 }
 
+/// Enters an update of the handle in the book.
+pub fn enter<N: Name, D, S: Starter, R: Wait + Drop>(
+    book: &mut Book<N, R>,
+    starter: &S,
+    handle: &mut HandleOf<'_, N, D>,
+    moment: u64,
+    operation: Operation,
+) -> Result<Done, UpdateFault>
+    ensures result { IsUpdateResult S.may_answer N.template N.press handle.old operation moment handle.new result }
+
+    // What the book is then.
+    ensures entered { OnOk result ((entry : Entry) × IsEntryOf S.may_answer N.template book.old.history handle.old.number (length handle.old.calls) operation moment entry
+        × (book.new ≡ grown_by book.old (entry ∷ []))) }
+    ensures seen { OnOk result ((handle.new.front ≡ book.new.history) × (handle.new.editions ≡ book.new.editions)) }
+    ensures kept { OnErr result (book.new ≡ book.old) }
+
+    // When it is Split.
+    ensures learnt { IsPrefix book.old.history handle.new.front }
+    ensures split { IfErr result (λ e. e ≡ UpdateFault.Split → IsSplit book.old handle.new) }
+{
+    if meet(book, handle).is_none() {
+        return Err(UpdateFault::Split);
+    }
+    enter_one(book, starter, handle, moment, operation)
+}
+
 /// Writes the operations of the queue one after another, each of which then leaves it, up to the first fault.
 fn write_all<N: Name, S: Starter, R: Wait + Drop, A: Allocator>(
     leaf: &mut Leaf<N, R>,
@@ -142,8 +163,7 @@ fn write_all<N: Name, S: Starter, R: Wait + Drop, A: Allocator>(
     requires made { IsMade leaf.old.made number }
     requires none { vec_len replies.old ≡ 0 }
     requires room { deque_len operations.old ≤ vec_capacity replies.old }
-    ensures written { leaf.new ≡ record leaf.old { pending = leaf.old.pending ++ (batch_of S.answer N.template (leaf.old.published ++ leaf.old.pending) number (length (entries_of (leaf.old.published ++ leaf.old.pending) number)) moment (take (length replies.new.items) operations.old.items)).entries } }
-    ensures replies { replies.new.items ≡ (batch_of S.answer N.template (leaf.old.published ++ leaf.old.pending) number (length (entries_of (leaf.old.published ++ leaf.old.pending) number)) moment (take (length replies.new.items) operations.old.items)).replies }
+    ensures written { AreWritten S.may_answer N.template leaf.old number moment (take (length replies.new.items) operations.old.items) replies.new.items leaf.new }
     ensures rest { operations.new.items ≡ drop (length replies.new.items) operations.old.items }
     ensures all { IfNone result (operations.new.items ≡ []) }
     ensures full { IfSome result (λ e. e ≡ UpdateFault.HistoryFull → length (leaf.new.published ++ leaf.new.pending) ≡ N.template.entries) }
@@ -174,14 +194,12 @@ fn enter_met<N: Name, D, S: Starter, R: Wait + Drop, A: Allocator>(
     requires none { vec_len replies.old ≡ 0 }
     requires room { deque_len operations.old ≤ vec_capacity replies.old }
     requires front { handle.old.front ≡ book.old.history }
+    requires editions { handle.old.editions ≡ book.old.editions }
     requires whole { entries_of book.old.history handle.old.number ≡ handle.old.calls }
     requires made { IsMade book.old.made handle.old.number }
-    ensures book { let done = batch_of S.answer N.template book.old.history handle.old.number (length handle.old.calls) moment (take (length replies.new.items) operations.old.items)
-        in book.new ≡ record book.old { history = book.old.history ++ done.entries; editions = book.old.editions + has_any done.entries } }
-    ensures handle { let done = batch_of S.answer N.template book.old.history handle.old.number (length handle.old.calls) moment (take (length replies.new.items) operations.old.items)
-        in handle.new ≡ record { number = handle.old.number; front = book.old.history ++ done.entries; calls = handle.old.calls ++ done.entries } }
-    ensures told { (result.0.front ≡ handle.new.front) × (result.0.press ≡ N.press) }
-    ensures replies { replies.new.items ≡ (batch_of S.answer N.template book.old.history handle.old.number (length handle.old.calls) moment (take (length replies.new.items) operations.old.items)).replies }
+    ensures entered { (entries : List Entry) × AreEntered S.may_answer N.template handle.old.number moment book.old.history (length handle.old.calls) (take (length replies.new.items) operations.old.items) entries replies.new.items
+        × (book.new ≡ grown_by book.old entries) × (handle.new ≡ with_entries handle.old book.old.editions book.old.history entries) }
+    ensures told { result.0 ≡ record { press = N.press; editions = handle.new.editions; front = handle.new.front } }
     ensures rest { operations.new.items ≡ drop (length replies.new.items) operations.old.items }
     ensures all { IfNone result.1 (operations.new.items ≡ []) }
     ensures full { IfSome result.1 (λ e. e ≡ UpdateFault.HistoryFull → length handle.new.front ≡ N.template.entries) }
@@ -214,16 +232,16 @@ pub fn enter_all<N: Name, D, S: Starter, R: Wait + Drop, A: Allocator>(
 ) -> Result<Ticket, Rest>
     requires none { vec_len replies.old ≡ 0 }
     requires room { deque_len operations.old ≤ vec_capacity replies.old }
-    ensures ok { IfOk result (λ t. IsApplied S.answer N.template handle.old operations.old.items moment handle.new replies.new.items t.front × (t.press ≡ N.press)) }
-    ensures part { IfErr result (λ r. IfSome r.ticket (λ t. IsApplied S.answer N.template handle.old (take (length replies.new.items) operations.old.items) moment handle.new replies.new.items t.front × (t.press ≡ N.press) × (0 < length replies.new.items))) }
+    ensures ok { IfOk result (λ t. IsApplied S.may_answer N.template N.press handle.old operations.old.items moment handle.new replies.new.items t) }
+    ensures part { IfErr result (λ r. IfSome r.ticket (λ t. IsApplied S.may_answer N.template N.press handle.old (take (length replies.new.items) operations.old.items) moment handle.new replies.new.items t × (0 < length replies.new.items))) }
     ensures nothing { IfErr result (λ r. IfNone r.ticket ((replies.new.items ≡ []) × (handle.new.calls ≡ handle.old.calls) × (handle.new.number ≡ handle.old.number) × (book.new ≡ book.old))) }
     ensures rest { operations.new.items ≡ drop (length replies.new.items) operations.old.items }
     ensures all { OnOk result (operations.new.items ≡ []) }
-    ensures front { IsPrefix handle.old.front handle.new.front }
+    ensures seen { HasSeenMore handle.old handle.new }
 
-    // What the book is then.
-    ensures entered { (book.new.history ≡ book.old.history ++ (batch_of S.answer N.template book.old.history handle.old.number (length handle.old.calls) moment (take (length replies.new.items) operations.old.items)).entries) × (book.new.made ≡ book.old.made) × (book.new.handles ≡ book.old.handles) }
-    ensures edition { book.new.editions ≡ book.old.editions + has_any (batch_of S.answer N.template book.old.history handle.old.number (length handle.old.calls) moment (take (length replies.new.items) operations.old.items)).entries }
+    // What the book is then: it has all of them in one publication.
+    ensures entered { (entries : List Entry) × AreEntered S.may_answer N.template handle.old.number moment book.old.history (length handle.old.calls) (take (length replies.new.items) operations.old.items) entries replies.new.items
+        × (book.new ≡ grown_by book.old entries) }
 
     // When each refusal comes.
     ensures learnt { IsPrefix book.old.history handle.new.front }
@@ -258,8 +276,8 @@ pub fn give_ticket<N: Name, D, R: Wait + Drop>(
     book: &Book<N, R>,
     handle: &mut HandleOf<'_, N, D>,
 ) -> Result<Ticket, TicketFault>
-    ensures ok { IfOk result (λ t. (handle.new.front ≡ book.now.history) × (entries_of handle.new.front handle.new.number ≡ handle.new.calls) × (t.front ≡ handle.new.front) × (t.press ≡ N.press)) }
-    ensures front { IsPrefix handle.old.front handle.new.front }
+    ensures ok { IfOk result (λ t. (handle.new.front ≡ book.now.history) × (entries_of handle.new.front handle.new.number ≡ handle.new.calls) × (t ≡ record { press = N.press; editions = handle.new.editions; front = handle.new.front })) }
+    ensures seen { HasSeenMore handle.old handle.new }
     ensures calls { (handle.new.calls ≡ handle.old.calls) × (handle.new.number ≡ handle.old.number) }
     ensures learnt { IsPrefix book.now.history handle.new.front }
     ensures gone { IfErr result (λ e. e ≡ TicketFault.Gone → ⊥) }
@@ -270,7 +288,7 @@ pub fn give_ticket<N: Name, D, R: Wait + Drop>(
 
 /// Makes the caller of a handle. It has seen all of the history, and no entry is its own.
 pub fn add_handle<N: Name, R: Wait + Drop>(book: &mut Book<N, R>) -> Result<Caller<N>, HandleFault>
-    ensures ok { IfOk result (λ c. (c ≡ record { number = book.old.made + 1; front = book.old.history; calls = [] }) × (entries_of c.front c.number ≡ [])) }
+    ensures ok { IfOk result (λ c. (c ≡ record { number = book.old.made + 1; editions = book.old.editions; front = book.old.history; calls = [] }) × (entries_of c.front c.number ≡ [])) }
     ensures added { OnOk result (book.new ≡ record book.old { made = book.old.made + 1 }) }
     ensures err { OnErr result (book.new ≡ book.old) }
     ensures none { (result ≡ Err HandleFault.NoHandle) ↔ (book.old.made ≡ book.old.handles) }
@@ -287,7 +305,7 @@ pub fn add_handle<N: Name, R: Wait + Drop>(book: &mut Book<N, R>) -> Result<Call
 
 /// Makes an asker. It has seen all of the history, and the book is as it was.
 pub fn add_asker<N: Name, R: Wait + Drop>(book: &mut Book<N, R>) -> Result<Asker<N>, NoPlace>
-    ensures ok { IfOk result (λ a. a.front ≡ book.old.history) }
+    ensures ok { IfOk result (λ a. a ≡ record { editions = book.old.editions; front = book.old.history }) }
     ensures same { book.new ≡ book.old }
 {
     Ok(Asker::begin(book.leaf.lens()?))
@@ -301,7 +319,7 @@ pub fn audit<N: Name, S: Starter + Drop, R: Wait + Drop>(
 ) -> Result<Ticket, TicketFault>
     requires { AreNumbered handles.old }
     ensures all { OnOk result (length handles.new ≡ book.now.made) }
-    ensures ok { IfOk result (λ t. HaveSeenAll book.now.history handles.new (length handles.new) × (t.front ≡ book.now.history) × (t.press ≡ N.press)) }
+    ensures ok { IfOk result (λ t. HaveSeenAll book.now.history handles.new (length handles.new) × (t ≡ record { press = N.press; editions = book.now.editions; front = book.now.history })) }
     ensures whole { IfOk result (λ t. All (λ entry. IsMade (length handles.new) entry.handle) t.front) }
     ensures grown { AreGrown handles.old handles.new }
     ensures gone { IfErr result (λ e. e ≡ TicketFault.Gone → ⊥) }

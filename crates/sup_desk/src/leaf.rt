@@ -3,7 +3,7 @@ ghost use Rattle.std.specs.Prelude.{◌≡◌, ◌+◌, ◌-◌, ◌<◌, ◌≤
 ghost use mathlib.Core.List.{IsPrefix};
 ghost use Rattle.sup_core.specs.Account.{state_after, reply_after};
 ghost use Rattle.sup_core.specs.Replies.{asked_argument};
-ghost use Rattle.sup_log.specs.Tokens.{standing, has_any};
+ghost use Rattle.sup_log.specs.Tokens.{standing, history_of, in_one_step};
 ghost use Rattle.sup_desk.specs.Knowledge.{entries_of};
 ghost use Rattle.sup_desk.specs.Books.{IsMade, IsSplit};
 
@@ -27,14 +27,14 @@ pub struct Leaf<N: Name, R: Wait + Drop> {
 
 impl<N: Name, R: Wait + Drop> Model for Leaf<N, R> {
     ghost use Rattle.std.specs.Prelude.{◌≡◌, ◌≤◌, ◌++◌, vec_len, vec_capacity};
-    ghost use Rattle.sup_log.specs.Tokens.{standing};
+    ghost use Rattle.sup_log.specs.Tokens.{standing, history_of};
     ghost use Rattle.sup_desk.specs.Books.{Written, IsCounted};
 
     ghost Value = { Written };
 
-    ghost view = { λ l. record { published = l.press.published; pending = l.press.pending; made = vec_len l.counts; handles = l.handles; editions = l.press.editions } };
+    ghost view = { λ l. record { editions = l.press.editions; published = l.press.published; pending = l.press.pending; made = vec_len l.counts; handles = l.handles } };
 
-    ghost invariant = { λ l. (l.press.press ≡ N.press) × (l.press.template ≡ N.template)
+    ghost invariant = { λ l. (l.press.press ≡ N.press) × (l.press.template ≡ N.template) × (l.press.published ≡ history_of l.press.editions)
         × (l.sup ≡ standing N.template (l.press.published ++ l.press.pending))
         × IsCounted (vec_len l.counts) l.counts.items (l.press.published ++ l.press.pending)
         × (vec_len l.counts ≤ l.handles) × (l.handles ≤ vec_capacity l.counts) × (l.handles ≤ 1024) };
@@ -53,10 +53,10 @@ fn count_one(counts: &mut Vec<u64>, number: u64)
 impl<N: Name, R: Wait + Drop> Leaf<N, R> {
     /// Nothing is written, and no handle was made.
     pub fn begin(press: Press<R>, sup: Sup, counts: Vec<u64>, handles: u64) -> Leaf<N, R>
-        requires press { (press.press ≡ N.press) × (press.template ≡ N.template) × (press.pending ≡ []) × (press.published ≡ []) × (press.editions ≡ 0) }
+        requires press { (press.press ≡ N.press) × (press.template ≡ N.template) × (press.pending ≡ []) × (press.published ≡ []) × (press.editions ≡ []) }
         requires sup { sup ≡ standing N.template [] }
         requires counts { (vec_len counts ≡ 0) × (handles ≤ vec_capacity counts) × (handles ≤ 1024) }
-        ensures { result ≡ record { published = []; pending = []; made = 0; handles = handles; editions = 0 } }
+        ensures { result ≡ record { editions = []; published = []; pending = []; made = 0; handles = handles } }
     {
         Leaf {
             sup,
@@ -86,7 +86,7 @@ impl<N: Name, R: Wait + Drop> Leaf<N, R> {
     /// A lens that has seen all that was published, for one handle more. After a refusal nothing has changed.
     pub fn add(&mut self) -> Result<Lens, NoPlace>
         requires { self.old.made < self.old.handles }
-        ensures ok { IfOk result (λ l. (l ≡ record { press = N.press; template = N.template; front = self.old.published }) × (self.new ≡ record self.old { made = self.old.made + 1 })) }
+        ensures ok { IfOk result (λ l. (l ≡ record { press = N.press; template = N.template; editions = self.old.editions; front = self.old.published }) × (self.new ≡ record self.old { made = self.old.made + 1 })) }
         ensures none { entries_of (self.old.published ++ self.old.pending) (self.old.made + 1) ≡ [] }
         ensures err { OnErr result (self.new ≡ self.old) }
     {
@@ -97,7 +97,7 @@ impl<N: Name, R: Wait + Drop> Leaf<N, R> {
 
     /// A lens that has seen all that was published. Nothing else has changed.
     pub fn lens(&mut self) -> Result<Lens, NoPlace>
-        ensures ok { IfOk result (λ l. l ≡ record { press = N.press; template = N.template; front = self.old.published }) }
+        ensures ok { IfOk result (λ l. l ≡ record { press = N.press; template = N.template; editions = self.old.editions; front = self.old.published }) }
         ensures same { self.new ≡ self.old }
     {
         self.press.lens()
@@ -105,7 +105,7 @@ impl<N: Name, R: Wait + Drop> Leaf<N, R> {
 
     /// A ticket for all that was published.
     pub fn tell(&self) -> Ticket
-        ensures { result ≡ record { press = N.press; front = self.now.published } }
+        ensures { result ≡ record { press = N.press; editions = self.now.editions; front = self.now.published } }
     {
         self.press.tell()
     }
@@ -114,8 +114,11 @@ impl<N: Name, R: Wait + Drop> Leaf<N, R> {
     pub fn ties<D>(&self, handle: &HandleOf<'_, N, D>) -> bool
         requires none { self.now.pending ≡ [] }
         requires learnt { IsPrefix self.now.published handle.now.front }
+        requires editions { IsPrefix self.now.editions handle.now.editions }
         ensures tied { result ≡ true → (handle.now.front ≡ self.now.published) × (entries_of self.now.published handle.now.number ≡ handle.now.calls) × IsMade self.now.made handle.now.number }
-        ensures split { result ≡ false → IsSplit (record { history = self.now.published; made = self.now.made; handles = self.now.handles; editions = self.now.editions }) handle.now }
+        ensures editions { result ≡ true → handle.now.editions ≡ self.now.editions }
+        ensures whole { handle.now.front ≡ history_of handle.now.editions }
+        ensures split { result ≡ false → IsSplit (record { editions = self.now.editions; history = self.now.published; made = self.now.made; handles = self.now.handles }) handle.now }
     {
         if handle.front() != self.sup.stamp() {
             return false;
@@ -172,9 +175,9 @@ impl<N: Name, R: Wait + Drop> Leaf<N, R> {
         Ok(reply)
     }
 
-    /// Publishes what is pending.
+    /// Publishes what is pending, as one publication.
     pub fn publish(&mut self)
-        ensures { self.new ≡ record self.old { published = self.old.published ++ self.old.pending; pending = []; editions = self.old.editions + has_any self.old.pending } }
+        ensures { self.new ≡ record self.old { editions = self.old.editions ++ in_one_step self.old.pending; published = self.old.published ++ self.old.pending; pending = [] } }
     {
         self.press.publish();
     }

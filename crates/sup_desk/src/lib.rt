@@ -6,24 +6,32 @@
 //! one front, which begins with all that the handle had seen, learnt or done and has its own calls, each once; its reply
 //! is that of a supervisor of one thread there. A query is answered as by that supervisor at one front, which begins
 //! with all that the handle had seen, learnt or done. A refused update leaves the history and every published answer as
-//! they were. A queue of operations is entered as a run of updates, by one publication. [`Desk::audit`] shows that the
-//! history is the calls of all handles and nothing else.
+//! they were. A queue of operations is entered as a run of updates, by one publication, and all that anyone has seen is
+//! whole publications: a batch is visible whole or not at all. [`Desk::audit`] shows that the history is the calls of all
+//! handles and nothing else.
+//!
+//! A start function says by a relation what it may answer, so that it may depend on the world; the answer that it gave
+//! stands in the entry.
 //!
 //! A value behind a lock is known by its type alone. So the desk and its handles carry a type parameter `N: Name`, whose
-//! members are the press and the template. A program makes a [`Ground`], and then calls a function that is generic in
-//! `N`, with std's `Brand` for `N`, which its proof lets name that ground.
+//! members are the press and the template. [`on_desk`] makes a desk, picks its name and runs a [`Program`] on it, so that
+//! its caller writes no proof:
 //!
 //! ```text
-//! fn run<N: Name, R: Wait>(rt: &R, ground: Ground<&R>) -> Result<(), Fail>
-//!     requires { (ground.press ≡ N.press) × (ground.template ≡ N.template) }
-//! {
-//!     let desk: Desk<N, Always, &R> = Desk::new(ground, Always);
-//!     let mut first = desk.handle(rt)?;
-//!     let mut second = desk.handle(rt)?;
-//!     let done = first.start_child(rt, 0, arg)?;
-//!     second.learn(&done.ticket)?;
-//!     let counts = second.count_children()?;
+//! impl<R: Wait> Program<AlwaysRunning, R> for Sessions {
+//!     type Outcome = Result<u64, Fail>;
+//!
+//!     fn run<N: Name + Send + Sync>(self, rt: &R, desk: &Desk<N, AlwaysRunning, &R>) -> Self::Outcome {
+//!         let mut first = desk.handle(rt)?;
+//!         let mut second = desk.handle(rt)?;
+//!         let done = first.start_child(rt, 0, self.arg)?;
+//!         second.learn(&done.ticket)?;
+//!         let counts = second.count_children()?;
+//!         ..
 //! ```
+//!
+//! A program with threads, or that proves more, makes a [`Ground`], and then calls a function of its own that is generic in
+//! `N`, with std's `Brand` for `N`, which three lines of its proof let name that ground.
 //!
 //! The functions of [`laws`] are lent the book: their contracts say what it is afterwards.
 #![tactic(auto)]
@@ -39,6 +47,7 @@ mod handle;
 pub mod laws;
 mod leaf;
 mod name;
+mod program;
 
 pub use asker::Asker;
 pub use book::Book;
@@ -49,3 +58,4 @@ pub use ground::Ground;
 pub use handle::{Dones, Handle, HandleOf, Part};
 pub use laws::{Done, Rest};
 pub use name::Name;
+pub use program::{Program, on_desk};

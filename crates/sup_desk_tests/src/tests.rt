@@ -3,9 +3,11 @@
 //! that borrow them.
 ghost use Rattle.std.specs.Prelude.{◌≡◌, IfOk};
 
+mod asking;
 mod batches;
 mod growth;
 mod meanwhile;
+mod programs;
 mod rows;
 mod threads;
 
@@ -24,9 +26,10 @@ use sup_types::{
 struct Always;
 
 impl Starter for Always {
+    ghost use Rattle.std.specs.Prelude.{◌≡◌};
     ghost use Rattle.sup_types.specs.declared.history.Answer.TheVariants.{Running};
 
-    ghost answer = { λ arg moment. Running };
+    ghost may_answer = { λ arg moment answer. answer ≡ Running };
 
     fn start(&self, _arg: &Text, _moment: u64) -> Answer {
         Answer::Running

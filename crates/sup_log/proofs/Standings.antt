@@ -39,10 +39,11 @@ pub empty_first : (s : State) → IsAfter s [] → IsEmptyWhenDown s
 empty_first s after down = ap (λ (t : State). t.rows) after.state
 
 -- a copy that is lawful is what a lens of its press sees
-pub sights : (v : Sight) (template : Template) (told : Told) → IsLawful v → template ≡ v.standing.template → told ≡ record { press = v.press; front = v.front }
-    → v ≡ sight record { press = told.press; template = template; front = told.front }
+pub sights : (v : Sight) (template : Template) (told : Told) → IsLawful v → template ≡ v.standing.template → told ≡ record { press = v.press; editions = v.editions; front = v.front }
+    → v ≡ sight record { press = told.press; template = template; editions = told.editions; front = told.front }
 sights v template told lawful same is =
     let press : v.press ≡ told.press = ap (λ (t : Told). t.press) (sym is) in
     let front : v.front ≡ told.front = ap (λ (t : Told). t.front) (sym is) in
+    let editions : v.editions ≡ told.editions = ap (λ (t : Told). t.editions) (sym is) in
     let state : v.standing ≡ standing template told.front = lawful ∙ ap (λ (t : Template). standing t v.front) (sym same) ∙ ap (standing template) front in
-    λ i. record { press = press i; standing = state i; front = front i }
+    λ i. record { press = press i; standing = state i; editions = editions i; front = front i }

@@ -10,4 +10,4 @@ abbrev pub taken : State → Entry → State
 taken s e = if s.steps == s.template.entries then s else next_state s e
 
 abbrev pub absorbed : Sight → Edition → Sight
-absorbed v e = record { press = e.press; standing = fold taken v.standing e.entries; front = e.front }
+absorbed v e = record { press = e.press; standing = fold taken v.standing e.entries; editions = e.editions; front = e.front }

@@ -28,7 +28,7 @@ no_template =
 
 -- a seat that has entered nothing
 abbrev pub unknown : Known
-unknown = record { named = false; view = record { press = record { number = 0; log_name = 0; cells_name = 0 }; standing = standing no_template []; front = [] } }
+unknown = record { named = false; view = record { press = record { number = 0; log_name = 0; cells_name = 0 }; standing = standing no_template []; editions = []; front = [] } }
 
 abbrev pub known : Sight → Known
 known v = record { named = true; view = v }

@@ -1,41 +1,60 @@
 -- What contracts see of a ticket, a view, a lens and a press.
-use Rattle.std.specs.Prelude.{◌≡◌, ℕ, List, [], ◌∷◌}
+use Rattle.std.specs.Prelude.{◌≡◌, ℕ, List, [], ◌∷◌, ◌++◌}
 use Rattle.logbook.specs.Pages.{Book}
 use Rattle.sup_types.specs.declared.history.Entry.{Entry}
 use Rattle.sup_types.specs.declared.template.Template.{Template}
 use Rattle.sup_core.specs.State.{State}
 use Rattle.sup_core.specs.Account.{state_after, trimmed}
 
--- a front of the history of a press
+-- what one publication adds to the history, which is at least one entry
+pub record Publication : Type 0 where
+  pub first : Entry
+  pub rest : List Entry
+
+-- the history that these publications make
+abbrev pub history_of : List Publication → List Entry
+history_of [] = []
+history_of (p ∷ ps) = (p.first ∷ p.rest) ++ history_of ps
+
+-- these entries in one publication; no entries are none
+abbrev pub in_one_step : List Entry → List Publication
+in_one_step [] = []
+in_one_step (x ∷ xs) = record { first = x; rest = xs } ∷ []
+
+-- a front of the history of a press, and the publications that make it
 pub record Told : Type 0 where
   pub press : Book
+  pub editions : List Publication
   pub front : List Entry
 
 -- a copy of the supervisor, and the front that it has absorbed
 pub record Sight : Type 0 where
   pub press : Book
   pub standing : State
+  pub editions : List Publication
   pub front : List Entry
 
--- one publication: its entries, and the front that ends with them
+-- the entries of one publication, and the front that ends with them
 pub record Edition : Type 0 where
   pub press : Book
   pub entries : List Entry
+  pub editions : List Publication
   pub front : List Entry
 
 -- the press that a lens looks at, the template of that press, and the front that the lens has seen
 pub record Sighted : Type 0 where
   pub press : Book
   pub template : Template
+  pub editions : List Publication
   pub front : List Entry
 
--- which press it is, its template, what was published, what is pending, and how many publications had something pending
+-- which press it is, its template, the publications, the history that they make, and what is pending
 pub record Record : Type 0 where
   pub press : Book
   pub template : Template
+  pub editions : List Publication
   pub published : List Entry
   pub pending : List Entry
-  pub editions : ℕ
 
 -- the supervisor of this template after a front, which keeps only the last attempts
 unfoldable pub standing : Template → List Entry → State
@@ -43,13 +62,8 @@ standing template front = trimmed (state_after template front)
 
 -- the copy that has absorbed just what the lens has seen
 abbrev pub sight : Sighted → Sight
-sight l = record { press = l.press; standing = standing l.template l.front; front = l.front }
+sight l = record { press = l.press; standing = standing l.template l.front; editions = l.editions; front = l.front }
 
 -- the copy is the supervisor after its front
 abbrev pub IsLawful : Sight → Type 0
 IsLawful v = v.standing ≡ standing v.standing.template v.front
-
--- 1 where the list has an item
-abbrev pub has_any : List Entry → ℕ
-has_any [] = 0
-has_any (x ∷ xs) = 1

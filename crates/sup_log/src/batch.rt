@@ -16,5 +16,5 @@ impl<A: Allocator> Model for Batch<A> {
 
     ghost Value = { Edition };
 
-    ghost view = { λ b. record { press = b.front.press; entries = b.entries.items; front = b.front.front } };
+    ghost view = { λ b. record { press = b.front.press; entries = b.entries.items; editions = b.front.editions; front = b.front.front } };
 }

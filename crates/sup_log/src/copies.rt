@@ -65,7 +65,7 @@ fn turn<R: Wait>(rt: &R, writer: Ends) -> Ends
 
 /// Publishes a batch that changes nothing.
 fn stir<R: Wait>(alloc: Global, rt: &R, writer: Ends, front: &Ticket) -> Result<Ends, OutOfMemory>
-    requires shown { (writer.desk.shown.value.press ≡ front.now.press) × (writer.desk.shown.value.front ≡ front.now.front) × IsLawful writer.desk.shown.value }
+    requires shown { (writer.desk.shown.value.press ≡ front.now.press) × (writer.desk.shown.value.editions ≡ front.now.editions) × (writer.desk.shown.value.front ≡ front.now.front) × IsLawful writer.desk.shown.value }
     requires none { drop writer.behind writer.log.items ≡ [] }
     ensures known { IfOk result (λ w. view w.desk.place ≡ known w.desk.shown.value) }
     ensures shown { IfOk result (λ w. w.desk.shown.value ≡ writer.desk.shown.value) }
@@ -92,7 +92,7 @@ fn opened(
 ) -> Result<Ends, OutOfMemory>
     requires front { front.now.front ≡ [] }
     requires places { (0 < places) × (places ≤ 1024) }
-    ensures shown { IfOk result (λ w. (w.desk.shown.value.press ≡ front.now.press) × (w.desk.shown.value.front ≡ front.now.front) × (w.desk.shown.value.standing.template ≡ template) × IsLawful w.desk.shown.value) }
+    ensures shown { IfOk result (λ w. (w.desk.shown.value.press ≡ front.now.press) × (w.desk.shown.value.editions ≡ front.now.editions) × (w.desk.shown.value.front ≡ front.now.front) × (w.desk.shown.value.standing.template ≡ template) × IsLawful w.desk.shown.value) }
     ensures none { IfOk result (λ w. drop w.behind w.log.items ≡ []) }
 {
     let first = View::new(alloc, template, front.copied())?;
@@ -111,7 +111,7 @@ impl Copies {
     ) -> Result<Copies, OutOfMemory>
         requires front { front.now.front ≡ [] }
         requires places { (0 < places) × (places ≤ 1024) }
-        ensures { IfOk result (λ c. (c.press ≡ front.now.press) × (c.front ≡ front.now.front) × (c.standing.template ≡ template) × IsLawful c) }
+        ensures { IfOk result (λ c. (c.press ≡ front.now.press) × (c.editions ≡ front.now.editions) × (c.front ≡ front.now.front) × (c.standing.template ≡ template) × IsLawful c) }
     {
         let writer = opened(alloc, template, places, front)?;
         // The second finds the first in the queue, as each batch finds the one before.

@@ -29,7 +29,7 @@ impl Model for Lens {
 
     ghost Value = { Sighted };
 
-    ghost view = { λ l. record { press = l.front.press; template = l.reader.place.me.0.client.view.standing.template; front = l.front.front } };
+    ghost view = { λ l. record { press = l.front.press; template = l.reader.place.me.0.client.view.standing.template; editions = l.front.editions; front = l.front.front } };
 
     ghost invariant = { λ l. (l.reader.place.me.0.client.named ≡ true) × (l.reader.place.me.0.client.view.press ≡ l.front.press) };
 }
@@ -45,8 +45,8 @@ fn read<T, F: FnOnce(&View) -> T>(
     requires callable { F.IsAlwaysCallable f }
     ensures named { (view result.0.place).named ≡ true }
     ensures fits { Fits (view reader.place).view (view result.0.place).view }
-    ensures front { IfOk result.1 (λ r. (r.0.press ≡ front.press) × IsPrefix front.front r.0.front) }
-    ensures answer { IfOk result.1 (λ r. FnOnceReturnsAt F.FnOnce f (sight (record { press = r.0.press; template = (view reader.place).view.standing.template; front = r.0.front })) r.1) }
+    ensures front { IfOk result.1 (λ r. (r.0.press ≡ front.press) × IsPrefix front.front r.0.front × IsPrefix front.editions r.0.editions) }
+    ensures answer { IfOk result.1 (λ r. FnOnceReturnsAt F.FnOnce f (sight (record { press = r.0.press; template = (view reader.place).view.standing.template; editions = r.0.editions; front = r.0.front })) r.1) }
 {
     match reader.enter_as::<Sees>() {
         Ok(reading) => {
@@ -73,8 +73,8 @@ fn read_in_place<T, F: FnOnce(&View) -> T>(
     requires callable { F.IsAlwaysCallable f }
     ensures named { (view reader.new.place).named ≡ true }
     ensures fits { Fits (view reader.old.place).view (view reader.new.place).view }
-    ensures front { IfOk result (λ r. (r.0.press ≡ front.press) × IsPrefix front.front r.0.front) }
-    ensures answer { IfOk result (λ r. FnOnceReturnsAt F.FnOnce f (sight (record { press = r.0.press; template = (view reader.old.place).view.standing.template; front = r.0.front })) r.1) }
+    ensures front { IfOk result (λ r. (r.0.press ≡ front.press) × IsPrefix front.front r.0.front × IsPrefix front.editions r.0.editions) }
+    ensures answer { IfOk result (λ r. FnOnceReturnsAt F.FnOnce f (sight (record { press = r.0.press; template = (view reader.old.place).view.standing.template; editions = r.0.editions; front = r.0.front })) r.1) }
 {
     replace_with(
         reader,
@@ -91,6 +91,7 @@ impl Lens {
         requires { F.IsAlwaysCallable f }
         ensures press { (self.new.press ≡ self.old.press) × (self.new.template ≡ self.old.template) }
         ensures front { IsPrefix self.old.front self.new.front }
+        ensures editions { IsPrefix self.old.editions self.new.editions }
         ensures answer { IfOk result (λ r. FnOnceReturnsAt F.FnOnce f (sight self.new) r) }
         ensures gone { OnErr result (self.new ≡ self.old) }
     {
@@ -106,7 +107,8 @@ impl Lens {
         ensures answered { IsOk result }
         ensures press { (self.new.press ≡ self.old.press) × (self.new.template ≡ self.old.template) }
         ensures front { IsPrefix self.old.front self.new.front × IsPrefix ticket.now.front self.new.front }
-        ensures either { (self.new.front ≡ self.old.front) ⊎ (self.new.front ≡ ticket.now.front) }
+        ensures editions { IsPrefix self.old.editions self.new.editions × IsPrefix ticket.now.editions self.new.editions }
+        ensures either { ((self.new.front ≡ self.old.front) × (self.new.editions ≡ self.old.editions)) ⊎ ((self.new.front ≡ ticket.now.front) × (self.new.editions ≡ ticket.now.editions)) }
     {
         if !ticket.begins(&self.front) {
             self.front = ticket.copied();
@@ -116,7 +118,7 @@ impl Lens {
 
     /// The front that it has seen or learnt. It enters nothing.
     pub fn front(&self) -> &Ticket
-        ensures { result.now ≡ record { press = self.now.press; front = self.now.front } }
+        ensures { result.now ≡ record { press = self.now.press; editions = self.now.editions; front = self.now.front } }
     {
         &self.front
     }

@@ -1,6 +1,6 @@
 //! The press: it makes entries pending, and publishes them.
-ghost use Rattle.std.specs.Prelude.{◌≡◌, ◌<◌, ◌≤◌, ◌+◌, [], ◌∷◌, ◌++◌, length, IfOk, MatchResult};
-ghost use Rattle.sup_log.specs.Tokens.{has_any};
+ghost use Rattle.std.specs.Prelude.{◌≡◌, ◌<◌, ◌≤◌, ◌+◌, ◌^◌, [], ◌∷◌, ◌++◌, length, IfOk, MatchResult};
+ghost use Rattle.sup_log.specs.Tokens.{in_one_step};
 
 use crate::batch::Batch;
 use crate::copies::Copies;
@@ -20,7 +20,6 @@ pub struct Press<R: Wait + Drop> {
     history: History,
     pending: Vec<Entry>,
     copies: Copies,
-    editions: u64,
     rt: R,
 }
 
@@ -30,9 +29,20 @@ impl<R: Wait + Drop> Model for Press<R> {
 
     ghost Value = { Record };
 
-    ghost view = { λ p. record { press = p.history.press; template = p.copies.standing.template; published = p.history.front; pending = p.pending.items; editions = p.editions } };
+    ghost view = { λ p. record { press = p.history.press; template = p.copies.standing.template; editions = p.history.editions; published = p.history.front; pending = p.pending.items } };
 
-    ghost invariant = { λ p. (p.copies.press ≡ p.history.press) × (p.copies.front ≡ p.history.front) × IsLawful p.copies × (length p.history.front + length p.pending.items ≤ p.copies.standing.template.entries) × (p.editions ≤ length p.history.front) };
+    ghost invariant = { λ p. (p.copies.press ≡ p.history.press) × (p.copies.editions ≡ p.history.editions) × (p.copies.front ≡ p.history.front) × IsLawful p.copies × (length p.history.front + length p.pending.items ≤ p.copies.standing.template.entries) × (length p.history.editions ≤ length p.history.front) };
+}
+
+/// Adds these entries to the history in one publication. A ticket for all of it.
+fn extended<R: Wait>(history: &mut History, rt: &R, entries: &[Entry]) -> Ticket
+    requires some { 0 < length entries.now }
+    requires room { (length history.old.front + length entries.now < 2 ^ 64) × (length history.old.editions + 1 < 2 ^ 64) }
+    ensures grown { history.new ≡ record history.old { editions = history.old.editions ++ in_one_step entries.now; front = history.old.front ++ entries.now } }
+    ensures told { result ≡ history.new }
+{
+    history.extend(rt, entries);
+    history.tell()
 }
 
 impl<R: Wait + Drop> Press<R> {
@@ -44,7 +54,7 @@ impl<R: Wait + Drop> Press<R> {
         places: usize,
     ) -> Result<Press<R>, OutOfMemory>
         requires { (0 < places) × (places ≤ 1024) }
-        ensures { IfOk result (λ p. (p.template ≡ template) × (p.published ≡ []) × (p.pending ≡ []) × (p.editions ≡ 0)) }
+        ensures { IfOk result (λ p. (p.template ≡ template) × (p.published ≡ []) × (p.pending ≡ []) × (p.editions ≡ [])) }
     {
         let history = History::new();
         let copies = Copies::new(alloc, &rt, template, places, &history.tell())?;
@@ -52,7 +62,6 @@ impl<R: Wait + Drop> Press<R> {
             history,
             pending: Vec::new(alloc),
             copies,
-            editions: 0,
             rt,
         })
     }
@@ -60,7 +69,7 @@ impl<R: Wait + Drop> Press<R> {
     /// A lens that has seen all that was published. Refused where no place or no memory is left, with nothing changed.
     pub fn lens(&mut self) -> Result<Lens, NoPlace>
         ensures kept { self.new ≡ self.old }
-        ensures lens { IfOk result (λ l. l ≡ record { press = self.old.press; template = self.old.template; front = self.old.published }) }
+        ensures lens { IfOk result (λ l. l ≡ record { press = self.old.press; template = self.old.template; editions = self.old.editions; front = self.old.published }) }
     {
         let reader = self.copies.seat()?;
         Ok(Lens {
@@ -87,34 +96,32 @@ impl<R: Wait + Drop> Press<R> {
         self.pending.as_slice()
     }
 
-    /// Publishes what is pending, in order and in one step. It waits for the lenses that look at the copy that is to
-    /// absorb it, and is never refused.
+    /// Publishes what is pending, in order and in one step: all of it is one publication, and no front ends within it. It
+    /// waits for the lenses that look at the copy that is to absorb it, and is never refused.
     pub fn publish(&mut self)
-        ensures { self.new ≡ record self.old { published = self.old.published ++ self.old.pending; pending = []; editions = self.old.editions + has_any self.old.pending } }
+        ensures { self.new ≡ record self.old { editions = self.old.editions ++ in_one_step self.old.pending; published = self.old.published ++ self.old.pending; pending = [] } }
     {
         if self.pending.is_empty() {
             return;
         }
         let alloc = *self.pending.allocator();
         let entries = replace(&mut self.pending, Vec::new(alloc));
-        self.history.extend(&self.rt, entries.as_slice());
-        let front = self.history.tell();
+        let front = extended(&mut self.history, &self.rt, entries.as_slice());
         self.copies.show(&self.rt, Batch { entries, front });
-        self.editions += 1;
     }
 
     /// A ticket for all that is published.
     pub fn tell(&self) -> Ticket
-        ensures { result ≡ record { press = self.now.press; front = self.now.published } }
+        ensures { result ≡ record { press = self.now.press; editions = self.now.editions; front = self.now.published } }
     {
         self.history.tell()
     }
 
     /// How many publications had something pending.
     pub fn editions(&self) -> u64
-        ensures { result ≡ self.now.editions }
+        ensures { result ≡ length self.now.editions }
     {
-        self.editions
+        self.history.editions()
     }
 }
 
@@ -124,7 +131,6 @@ impl<R: Wait + Drop> Drop for Press<R> {
             history: _history,
             pending: _pending,
             copies,
-            editions: _,
             rt,
         } = self;
         copies.close(&rt);

@@ -28,7 +28,7 @@ impl<A: Allocator> Model for View<A> {
 
     ghost Value = { Sight };
 
-    ghost view = { λ v. record { press = v.front.press; standing = v.sup; front = v.front.front } };
+    ghost view = { λ v. record { press = v.front.press; standing = v.sup; editions = v.front.editions; front = v.front.front } };
 
     ghost invariant = { λ v. IsEmptyWhenDown v.sup };
 }
@@ -48,7 +48,7 @@ impl<A: Allocator + Copy> View<A> {
     #[tactic(auto, using(crate::proofs::Standings::standing_after))]
     pub(crate) fn new(alloc: A, template: Template, front: Ticket) -> Result<View<A>, OutOfMemory>
         requires { front.front ≡ [] }
-        ensures { IfOk result (λ v. (v.press ≡ front.press) × (v.front ≡ front.front) × (v.standing.template ≡ template) × IsLawful v) }
+        ensures { IfOk result (λ v. (v.press ≡ front.press) × (v.editions ≡ front.editions) × (v.front ≡ front.front) × (v.standing.template ≡ template) × IsLawful v) }
     {
         Ok(View {
             sup: Sup::new(alloc, template)?,
@@ -116,7 +116,7 @@ impl<A: Allocator + Copy> View<A> {
 
     /// The front that it has absorbed.
     pub(crate) fn front(&self) -> &Ticket
-        ensures { result.now ≡ record { press = self.now.press; front = self.now.front } }
+        ensures { result.now ≡ record { press = self.now.press; editions = self.now.editions; front = self.now.front } }
     {
         &self.front
     }

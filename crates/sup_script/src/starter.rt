@@ -4,7 +4,7 @@ ghost use Rattle.std.specs.Prelude.{◌≡◌};
 ghost use Rattle.sup_script.specs.Starter.{script_answer, is_gap_at, is_within};
 
 use crate::read::words::{read_number, split_once};
-use sup_types::{Answer, Starter, Text};
+use sup_types::{Answer, FixedStarter, Starter, Text};
 
 /// The start function of scripts: it answers by the child's argument and the moment alone.
 ///
@@ -13,10 +13,10 @@ use sup_types::{Answer, Starter, Text};
 #[derive(Clone, Copy, Debug)]
 pub struct ScriptStarter;
 
-impl Starter for ScriptStarter {
+impl FixedStarter for ScriptStarter {
     ghost answer = { script_answer };
 
-    fn start(&self, arg: &Text, moment: u64) -> Answer {
+    fn start_fixed(&self, arg: &Text, moment: u64) -> Answer {
         let bytes = arg.bytes();
         if bytes == b"ignore".as_slice() {
             return Answer::Ignore;
@@ -25,6 +25,17 @@ impl Starter for ScriptStarter {
             return Answer::Failed(1);
         }
         Answer::Running
+    }
+}
+
+impl Starter for ScriptStarter {
+    ghost use Rattle.std.specs.Prelude.{◌≡◌};
+    ghost use Rattle.sup_script.specs.Starter.{script_answer};
+
+    ghost may_answer = { λ arg moment answer. answer ≡ script_answer arg moment };
+
+    fn start(&self, arg: &Text, moment: u64) -> Answer {
+        self.start_fixed(arg, moment)
     }
 }
 

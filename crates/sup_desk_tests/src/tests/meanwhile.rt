@@ -30,9 +30,10 @@ struct Waiting<'m> {
 }
 
 impl<'m> Starter for Waiting<'m> {
+    ghost use Rattle.std.specs.Prelude.{◌≡◌};
     ghost use Rattle.sup_types.specs.declared.history.Answer.TheVariants.{Running};
 
-    ghost answer = { λ arg moment. Running };
+    ghost may_answer = { λ arg moment answer. answer ≡ Running };
 
     fn start(&self, _arg: &Text, _moment: u64) -> Answer {
         self.marks.entered.store(true, Ordering::SeqCst);

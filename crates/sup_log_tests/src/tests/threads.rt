@@ -115,7 +115,7 @@ fn are_three(rt: &impl Abort, rows: &[Row]) {
 
 /// Three entries are published, by two publications.
 fn is_twice_published<R: Wait + Drop>(rt: &impl Abort, press: &Press<R>, last: &Ticket) {
-    assert!(rt; (last.stamp(), press.editions()) == (3, 2));
+    assert!(rt; (last.stamp(), last.editions(), press.editions()) == (3, 2, 2));
 }
 
 fn lenses_learn<R: Threads + Wait + Abort + Sync>(rt: &R, press: Press<&R>)

@@ -10,10 +10,10 @@ use crate::read::command::Command;
 use crate::write::reply::{append_counts, append_refusal, append_reply, append_rows};
 use std::alloc::Allocator;
 use sup_core::Sup;
-use sup_types::{Answer, Entry, Operation, OutOfMemory, Refusal, Reply, Starter};
+use sup_types::{Answer, Entry, FixedStarter, Operation, OutOfMemory, Refusal, Reply};
 
 /// Carries a command out, and appends the text of its reply.
-pub fn append_answer<S: Starter, A: Allocator + Copy>(
+pub fn append_answer<S: FixedStarter, A: Allocator + Copy>(
     command: Command,
     sup: &mut Sup<A>,
     starter: &S,
@@ -41,7 +41,7 @@ pub fn append_answer<S: Starter, A: Allocator + Copy>(
 }
 
 /// Enters an operation, with what the start function answers where it is asked.
-fn enter<S: Starter, A: Allocator + Copy>(
+fn enter<S: FixedStarter, A: Allocator + Copy>(
     moment: u64,
     operation: Operation,
     sup: &mut Sup<A>,
@@ -55,7 +55,7 @@ fn enter<S: Starter, A: Allocator + Copy>(
     ensures steps { sup.new.steps ≡ sup.old.steps + 1 }
 {
     let answer = match sup.wants_answer(&operation, moment) {
-        Some(arg) => starter.start(&arg, moment),
+        Some(arg) => starter.start_fixed(&arg, moment),
         None => Answer::Ignore,
     };
     let entry = Entry {

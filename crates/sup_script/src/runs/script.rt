@@ -10,7 +10,7 @@ use crate::runs::session::Session;
 use crate::runs::watch::{WatchedReader, WatchedWriter};
 use std::alloc::Allocator;
 use std::io::{Read, Write};
-use sup_types::Starter;
+use sup_types::FixedStarter;
 
 /// The most bytes that a text has: 2^24.
 pub const MOST_BYTES: u64 = 16_777_216;
@@ -24,7 +24,7 @@ pub const PIECE: usize = 65_536;
 /// On a fault in a line the replies of the lines before it are written, and nothing more is read. On a fault of reading
 /// the lines that are ended are answered, and the fault stands in the line after them. On WriteFault the line is the one
 /// whose reply was being written.
-pub fn run<A: Allocator + Copy, R: Read, W: Write, S: Starter>(
+pub fn run<A: Allocator + Copy, R: Read, W: Write, S: FixedStarter>(
     alloc: A,
     reader: &mut WatchedReader<R>,
     writer: &mut WatchedWriter<W>,
@@ -44,7 +44,7 @@ pub fn run<A: Allocator + Copy, R: Read, W: Write, S: Starter>(
 
 /// As [`run`], and keeps the line that has the fault, where the fault is one that a line has of itself. It is the empty
 /// line where the input is empty.
-pub fn run_with_line<A: Allocator + Copy, R: Read, W: Write, S: Starter>(
+pub fn run_with_line<A: Allocator + Copy, R: Read, W: Write, S: FixedStarter>(
     alloc: A,
     reader: &mut WatchedReader<R>,
     writer: &mut WatchedWriter<W>,
@@ -70,7 +70,7 @@ pub fn run_with_line<A: Allocator + Copy, R: Read, W: Write, S: Starter>(
 /// Reads piece after piece and answers the lines that each ends, from a session in which nothing was read.
 ///
 /// `part` takes the part of a line that came before a piece.
-fn answer_pieces<A: Allocator + Copy, R: Read, W: Write, S: Starter>(
+fn answer_pieces<A: Allocator + Copy, R: Read, W: Write, S: FixedStarter>(
     session: &mut Session<A>,
     part: &mut Vec<u8, A>,
     reader: &mut WatchedReader<R>,

@@ -22,7 +22,7 @@ use crate::write::outbox::Outbox;
 use std::alloc::Allocator;
 use std::io::Write;
 use sup_core::Sup;
-use sup_types::Starter;
+use sup_types::FixedStarter;
 
 /// What a run over a script goes on with.
 #[derive(Drop)]
@@ -69,7 +69,7 @@ impl<A: Allocator + Copy> Session<A> {
     /// Answers the lines that a piece of the input ends, and writes their replies.
     ///
     /// `part` is the part of a line that came before the piece, and is then the part behind them.
-    pub fn answer_piece<W: Write, S: Starter>(
+    pub fn answer_piece<W: Write, S: FixedStarter>(
         &mut self,
         piece: &[u8],
         part: &mut Vec<u8, A>,
@@ -105,7 +105,7 @@ impl<A: Allocator + Copy> Session<A> {
 
     /// Answers the lines that a part and what ends it make, and writes their replies. Without a part they are answered where
     /// they stand, and no byte is copied.
-    fn answer_joined<W: Write, S: Starter>(
+    fn answer_joined<W: Write, S: FixedStarter>(
         &mut self,
         part: &mut Vec<u8, A>,
         ended: &[u8],
@@ -138,7 +138,7 @@ impl<A: Allocator + Copy> Session<A> {
     /// Answers the lines of a text in order, and writes their replies.
     ///
     /// On a fault in a line the replies of the lines before it are written.
-    pub fn answer_lines<W: Write, S: Starter>(
+    pub fn answer_lines<W: Write, S: FixedStarter>(
         &mut self,
         input: &[u8],
         starter: &S,
@@ -174,7 +174,7 @@ impl<A: Allocator + Copy> Session<A> {
     }
 
     /// Answers the next line, and puts its reply behind those that wait. After a fault they wait as before.
-    fn answer_next<S: Starter>(&mut self, line: &[u8], starter: &S) -> Result<(), Fault>
+    fn answer_next<S: FixedStarter>(&mut self, line: &[u8], starter: &S) -> Result<(), Fault>
         requires { 1 ≤ steps_left self.old.supervisor }
         ensures given { (front : List (List ℕ)) (written : List ℕ) → IsWaiting S.answer front written self.old.outbox.bytes.items self.old.outbox.ends.items self.old.supervisor self.old.next →
             NextGives S.answer front written line.now self.new.supervisor self.old.next self.new.outbox.bytes.items self.new.outbox.ends.items result }
@@ -205,7 +205,7 @@ impl<A: Allocator + Copy> Session<A> {
 }
 
 /// Answers a line: the first one makes the supervisor, and of each other one the text of its reply is appended.
-fn answer_line<S: Starter, A: Allocator + Copy>(
+fn answer_line<S: FixedStarter, A: Allocator + Copy>(
     alloc: A,
     line: &[u8],
     supervisor: &mut Option<Sup<A>>,
@@ -238,7 +238,7 @@ fn first_supervisor<A: Allocator + Copy>(alloc: A, line: &[u8]) -> Result<Sup<A>
 }
 
 /// Answers a line after the header, and appends the text of the reply.
-fn answer_command<S: Starter, A: Allocator + Copy>(
+fn answer_command<S: FixedStarter, A: Allocator + Copy>(
     line: &[u8],
     sup: &mut Sup<A>,
     starter: &S,

@@ -17,7 +17,7 @@ returns-in-Ok-clause-led g c before begun led =
     let q = c.queue_restarted.ensures in
     let new = c.queue_restarted.new.self in
     subst (λ (x : Knowledge × Option Told × List Note). IsLed (run_of g.N.Name.template g.N.Name.press c.args.moment before) x.0 x.1 new.tally new.hand.share.put (children_of new.left.items) x.2 begun) (λ i. (sym q.handle i, sym q.ticket i, sym e.entered i))
-    (led-entered g.S.Starter.answer (run_of g.N.Name.template g.N.Name.press c.args.moment before) old.handle c.drain.new.handle old.ticket old.tally new.tally old.hand.share.put (children_of old.left.items) new.hand.share.put (children_of new.left.items) c.args.drain.now.entered begun led
+    (led-entered g.S.Starter.may_answer (run_of g.N.Name.template g.N.Name.press c.args.moment before) old.handle c.drain.new.handle old.ticket old.tally new.tally old.hand.share.put (children_of old.left.items) new.hand.share.put (children_of new.left.items) c.args.drain.now.entered begun led
     done.ticket done.pairs.items e.front e.ok q.tally
     (λ h. q.account h ∙ ap (λ l. weigh h old.hand.share.put + weigh h (children_of l) + weigh h (restarted_jobs done.pairs.items)) c.make_room.ensures.same))
 
@@ -29,15 +29,15 @@ returns-in-Err-drain-clause-led g c before begun led =
     let q = c.queue_restarted-in-Err-drain.ensures in
     let new = c.queue_restarted-in-Err-drain.new.self in
     subst (λ (x : Knowledge × Option Told × List Note). IsLed (run_of g.N.Name.template g.N.Name.press c.args.moment before) x.0 x.1 new.tally new.hand.share.put (children_of new.left.items) x.2 begun) (λ i. (sym q.handle i, sym q.ticket i, sym e.part i))
-    (led-entered g.S.Starter.answer (run_of g.N.Name.template g.N.Name.press c.args.moment before) old.handle c.drain.new.handle old.ticket old.tally new.tally old.hand.share.put (children_of old.left.items) new.hand.share.put (children_of new.left.items) c.args.drain.now.entered begun led
+    (led-entered g.S.Starter.may_answer (run_of g.N.Name.template g.N.Name.press c.args.moment before) old.handle c.drain.new.handle old.ticket old.tally new.tally old.hand.share.put (children_of old.left.items) new.hand.share.put (children_of new.left.items) c.args.drain.now.entered begun led
     done.ticket done.pairs.items e.front e.err q.tally
     (λ h. q.account h ∙ ap (λ l. weigh h old.hand.share.put + weigh h (children_of l) + weigh h (restarted_jobs done.pairs.items)) c.make_room.ensures.same))
 
 pub queue_restarted-requires-clause-born : goal.queue_restarted-requires-clause-born
 queue_restarted-requires-clause-born g c =
-    entered-born g.S.Starter.answer g.N.Name.template c.args.self.now.handle c.drain.new.handle g.N.Name.press c.in-Ok.done.pairs.items c.args.moment c.in-Ok.done.ticket c.in-Ok.ensures.ok
+    entered-born g.S.Starter.may_answer g.N.Name.template g.N.Name.press c.args.self.now.handle c.drain.new.handle c.in-Ok.done.pairs.items c.args.moment c.in-Ok.done.ticket c.in-Ok.ensures.ok
 
 pub queue_restarted-requires-in-Err-drain-clause-born : goal.queue_restarted-requires-in-Err-drain-clause-born
 queue_restarted-requires-in-Err-drain-clause-born g c =
     let done = c.in-Err-drain.field-0.done in
-    entered-born g.S.Starter.answer g.N.Name.template c.args.self.now.handle c.drain.new.handle g.N.Name.press done.pairs.items c.args.moment done.ticket c.in-Err-drain.ensures.err
+    entered-born g.S.Starter.may_answer g.N.Name.template g.N.Name.press c.args.self.now.handle c.drain.new.handle done.pairs.items c.args.moment done.ticket c.in-Err-drain.ensures.err

@@ -16,7 +16,7 @@ returns-in_err-done-clause-err g c =
     let put = old.hand.share.put in
     let e = c.in_err-done.ensures in
     subst (λ l. IsLed (run_of g.N.Name.template g.N.Name.press c.args.moment before) c.start_child.new.self old.ticket old.tally put (children_of l) entered begun) (sym c.make_room.ensures.same)
-    (led-stays g.S.Starter.answer (run_of g.N.Name.template g.N.Name.press c.args.moment before) old.handle c.start_child.new.self old.ticket old.tally old.tally put (children_of old.left.items) put (children_of old.left.items) entered begun led e.front e.calls.0 e.calls.1))
+    (led-stays g.S.Starter.may_answer (run_of g.N.Name.template g.N.Name.press c.args.moment before) old.handle c.start_child.new.self old.ticket old.tally old.tally put (children_of old.left.items) put (children_of old.left.items) entered begun led e.seen.front e.calls.0 e.calls.1))
 
 pub returns-clause-ok : goal.returns-clause-ok
 returns-clause-ok g c before entered begun led =
@@ -28,10 +28,10 @@ returns-clause-ok g c before entered begun led =
     let arg = c.args.arg.now in
     let updated = e.ok in
     subst (λ (x : Knowledge × Option Told). IsLed (run_of g.N.Name.template g.N.Name.press c.args.moment before) x.0 x.1 new.tally new.hand.share.put (children_of new.left.items) entered (begun ++ arg ∷ [])) (λ i. (sym q.handle i, sym q.ticket i))
-    (led-started g.S.Starter.answer (run_of g.N.Name.template g.N.Name.press c.args.moment before) old.handle c.start_child.new.self old.ticket old.tally new.tally old.hand.share.put (children_of old.left.items) new.hand.share.put (children_of new.left.items) entered begun led
-    done.ticket arg done.reply updated e.press q.tally
+    (led-started g.S.Starter.may_answer (run_of g.N.Name.template g.N.Name.press c.args.moment before) old.handle c.start_child.new.self old.ticket old.tally new.tally old.hand.share.put (children_of old.left.items) new.hand.share.put (children_of new.left.items) entered begun led
+    done.ticket arg done.reply updated q.tally
     (λ h. q.account h ∙ ap (λ l. weigh h old.hand.share.put + weigh h (children_of l) + weigh h (started_job arg done.reply)) c.make_room.ensures.same))
 
 pub queue_started-requires-clause-born : goal.queue_started-requires-clause-born
 queue_started-requires-clause-born g c =
-    updated-born g.S.Starter.answer g.N.Name.template c.args.self.now.handle c.start_child.new.self _ c.args.moment c.in_ok-done.done.reply c.in_ok-done.done.ticket.front c.in_ok-done.ensures.ok
+    updated-born g.S.Starter.may_answer g.N.Name.template g.N.Name.press c.args.self.now.handle c.start_child.new.self _ c.args.moment c.in_ok-done.done.reply c.in_ok-done.done.ticket c.in_ok-done.ensures.ok

@@ -5,7 +5,7 @@ use Rattle.std.proofs.Math.Seq.{get_or-append_seam}
 use Rattle.sup_core.specs.Account.{reply_after}
 use Rattle.sup_core.specs.Changes.{next_state}
 use Rattle.sup_core.specs.Replies.{reply_to}
-use Rattle.sup_log.specs.Tokens.{Record, standing}
+use Rattle.sup_log.specs.Tokens.{Record, standing, history_of}
 use Rattle.sup_desk.specs.Books.{Written, IsCounted}
 use Rattle.sup_desk.proofs.After.{steps_is, template_is, next_is, reply_is}
 use Rattle.sup_desk.proofs.Entries.{entries_le}
@@ -21,8 +21,8 @@ pub step-reply-requires : goal.step-reply-requires
 step-reply-requires g c =
     let l = c.self.inside in
     let all : length (l.press.published ++ l.press.pending) ≡ length (c.args.self.now.published ++ c.args.self.now.pending) = ap (λ (w : Written). length (w.published ++ w.pending)) c.self.view_is in
-    let steps = steps_is g.N.Name.template (l.press.published ++ l.press.pending) l.sup c.self.invariant.2 in
-    let bound = ap (λ (t : Template). t.entries) (template_is g.N.Name.template (l.press.published ++ l.press.pending) l.sup c.self.invariant.2) in
+    let steps = steps_is g.N.Name.template (l.press.published ++ l.press.pending) l.sup c.self.invariant.3 in
+    let bound = ap (λ (t : Template). t.entries) (template_is g.N.Name.template (l.press.published ++ l.press.pending) l.sup c.self.invariant.3) in
     omega (arith, all, steps, bound, c.requires.room)
 
 pub count_one-requires-clause-room : goal.count_one-requires-clause-room
@@ -32,7 +32,7 @@ count_one-requires-clause-room g c =
     let all : length (l.press.published ++ l.press.pending) ≡ length (c.args.self.now.published ++ c.args.self.now.pending) = ap (λ (w : Written). length (w.published ++ w.pending)) c.self.view_is in
     let made = ap (λ (w : Written). w.made) c.self.view_is in
     let low : place < vec_len l.counts = omega (arith, made, c.requires.made.0, c.requires.made.1) in
-    let count = c.self.invariant.3.0 place low in
+    let count = c.self.invariant.4.0 place low in
     let few = entries_le (place + 1) (l.press.published ++ l.press.pending) in
     let last = c.index-pending-pending.is
     ∙ last_of l.press.pending c.pending-pending.result.now c.args.entry c.index-pending-pending.result (c.pending-pending.ensures ∙ ap (λ (r : Record). r.pending) c.in_ok-append.ensures) in
@@ -50,22 +50,22 @@ invariant_of-self-2 g c =
     let made' = vec_len c.count_one.new.counts in
     let counts' : List ℕ = c.count_one.new.counts.items in
     let place : ℕ = entry.handle - 1 in
-    let is : c.append.new.self ≡ record { press = l.press.press; template = l.press.template; published = l.press.published; pending = l.press.pending ++ entry ∷ []; editions = l.press.editions } =
+    let is : c.append.new.self ≡ record { press = l.press.press; template = l.press.template; editions = l.press.editions; published = l.press.published; pending = l.press.pending ++ entry ∷ [] } =
     c.in_ok-append.ensures in
     let last = c.index-pending-pending.is
     ∙ last_of l.press.pending c.pending-pending.result.now entry c.index-pending-pending.result (c.pending-pending.ensures ∙ ap (λ (r : Record). r.pending) is) in
     let longer : all ++ entry ∷ [] ≡ l.press.published ++ (l.press.pending ++ entry ∷ []) = append_assoc l.press.published l.press.pending (entry ∷ []) in
-    let sup = c.step-reply.ensures.next ∙ ap (next_state l.sup) last ∙ next_is n.template all l.sup entry old.2 ∙ ap (λ k. standing n.template k) longer in
+    let sup = c.step-reply.ensures.next ∙ ap (next_state l.sup) last ∙ next_is n.template all l.sup entry old.3 ∙ ap (λ k. standing n.template k) longer in
     let mine : (1 ≤ entry.handle) × (entry.handle ≤ made) = (c.requires.made.0, omega (arith, ap (λ (w : Written). w.made) c.self.view_is, c.requires.made.1)) in
-    let more = counted_push made l.counts.items all entry place (sym l.counts.ok.0) old.3 mine (omega (arith, mine.0)) in
+    let more = counted_push made l.counts.items all entry place (sym l.counts.ok.0) old.4 mine (omega (arith, mine.0)) in
     let counted : IsCounted made' counts' (l.press.published ++ (l.press.pending ++ entry ∷ [])) =
     subst (λ (m : ℕ). IsCounted m counts' (l.press.published ++ (l.press.pending ++ entry ∷ []))) (sym c.count_one.ensures.len.0)
     (subst (λ (k : List ℕ). IsCounted made k (l.press.published ++ (l.press.pending ++ entry ∷ []))) (sym (c.count_one.ensures.items ∙ ap (λ (e : Entry). set l.counts.items (e.handle - 1) (get_or l.counts.items (e.handle - 1) 0 + 1)) last))
     (subst (λ (h : List Entry). IsCounted made (set l.counts.items place (get_or l.counts.items place 0 + 1)) h) longer more)) in
-    subst (λ (r : Record). (r.press ≡ n.press) × (r.template ≡ n.template) × (c.step-reply.new.self ≡ standing n.template (r.published ++ r.pending))
+    subst (λ (r : Record). (r.press ≡ n.press) × (r.template ≡ n.template) × (r.published ≡ history_of r.editions) × (c.step-reply.new.self ≡ standing n.template (r.published ++ r.pending))
     × IsCounted made' counts' (r.published ++ r.pending) × (made' ≤ l.handles) × (l.handles ≤ vec_capacity c.count_one.new.counts) × (l.handles ≤ 1024))
     (sym is)
-    (old.0, old.1, sup, counted, omega (arith, c.count_one.ensures.len.0, old.4), omega (arith, c.count_one.ensures.len.1, old.5), old.6)
+    (old.0, old.1, old.2, sup, counted, omega (arith, c.count_one.ensures.len.0, old.5), omega (arith, c.count_one.ensures.len.1, old.6), old.7)
 
 pub returns-clause-ok : goal.returns-clause-ok
 returns-clause-ok g c =
@@ -73,11 +73,11 @@ returns-clause-ok g c =
     let n = g.N.Name in
     let entry : Entry = c.args.entry in
     let all = l.press.published ++ l.press.pending in
-    let is : c.append.new.self ≡ record { press = l.press.press; template = l.press.template; published = l.press.published; pending = l.press.pending ++ entry ∷ []; editions = l.press.editions } =
+    let is : c.append.new.self ≡ record { press = l.press.press; template = l.press.template; editions = l.press.editions; published = l.press.published; pending = l.press.pending ++ entry ∷ [] } =
     c.in_ok-append.ensures in
     let last = c.index-pending-pending.is
     ∙ last_of l.press.pending c.pending-pending.result.now entry c.index-pending-pending.result (c.pending-pending.ensures ∙ ap (λ (r : Record). r.pending) is) in
-    let step = λ (w : Written). let next : Written = record { published = w.published; pending = w.pending ++ entry ∷ []; made = w.made; handles = w.handles; editions = w.editions } in next in (
-      c.step-reply.ensures.reply ∙ ap (reply_to l.sup) last ∙ reply_is n.template all l.sup entry c.self.invariant.2 ∙ ap (λ (w : Written). reply_after n.template (w.published ++ w.pending) entry) c.self.view_is,
-      (λ i. record { published = (is i).published; pending = (is i).pending; made = c.count_one.ensures.len.0 i; handles = l.handles; editions = (is i).editions }) ∙ ap step c.self.view_is,
+    let step = λ (w : Written). let next : Written = record { editions = w.editions; published = w.published; pending = w.pending ++ entry ∷ []; made = w.made; handles = w.handles } in next in (
+      c.step-reply.ensures.reply ∙ ap (reply_to l.sup) last ∙ reply_is n.template all l.sup entry c.self.invariant.3 ∙ ap (λ (w : Written). reply_after n.template (w.published ++ w.pending) entry) c.self.view_is,
+      (λ i. record { editions = (is i).editions; published = (is i).published; pending = (is i).pending; made = c.count_one.ensures.len.0 i; handles = l.handles }) ∙ ap step c.self.view_is,
     )

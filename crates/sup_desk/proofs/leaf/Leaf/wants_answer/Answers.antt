@@ -9,5 +9,5 @@ pub returns : goal.returns
 returns g c =
     let l = c.self.inside in
     c.wants_answer.ensures.value
-    ∙ asked_is g.N.Name.template (l.press.published ++ l.press.pending) l.sup c.args.operation.now c.args.moment c.self.invariant.2
+    ∙ asked_is g.N.Name.template (l.press.published ++ l.press.pending) l.sup c.args.operation.now c.args.moment c.self.invariant.3
     ∙ ap (λ (w : Written). asked_argument (state_after g.N.Name.template (w.published ++ w.pending)) c.args.operation.now c.args.moment) c.self.view_is

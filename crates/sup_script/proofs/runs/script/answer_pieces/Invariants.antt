@@ -5,7 +5,7 @@ use Rattle.sup_script.proofs.runs.script.answer_pieces.Given as goal
 
 abbrev pub invariant-loop-piece : goal.invariant-loop-piece
 invariant-loop-piece g l = record {
-  so_far : IsReadTo g.S.Starter.answer (g.R.Read.remaining l.initial.reader.reader) (g.R.Read.remaining l.reader.reader) (g.W.Write.contents l.initial.writer.writer) (g.W.Write.contents l.writer.writer) l.part.items l.session.supervisor l.session.next l.reader.given;
+  so_far : IsReadTo g.S.FixedStarter.answer (g.R.Read.remaining l.initial.reader.reader) (g.R.Read.remaining l.reader.reader) (g.W.Write.contents l.initial.writer.writer) (g.W.Write.contents l.writer.writer) l.part.items l.session.supervisor l.session.next l.reader.given;
   short : l.reader.given ≤ 16777216;
   calls : l.reader.calls ≤ l.reader.given;
   first : 1 ≤ l.session.next;

@@ -9,5 +9,5 @@ returns-clause-given g c = λ front written w.
     let counted : c.len.result ≡ length bytes = omega (arith, c.len.ensures, c.answer_line-answered.new.out.ok.0) in
     let pushed : c.push.new.self.items ≡ ends ++ length bytes ∷ [] =
     (rw c.unwrap.ensures at c.push.ensures.items) ∙ ap (λ (l : List ℕ). l ++ c.len.result ∷ []) c.reserve.ensures.items ∙ ap (λ n. ends ++ n ∷ []) counted in
-    rw pushed (waits_more g.S.Starter.answer front c.args.line.now written c.args.self.now.outbox.bytes.items bytes ends c.args.self.now.supervisor c.answer_line-answered.new.supervisor c.args.self.now.next
+    rw pushed (waits_more g.S.FixedStarter.answer front c.args.line.now written c.args.self.now.outbox.bytes.items bytes ends c.args.self.now.supervisor c.answer_line-answered.new.supervisor c.args.self.now.next
     w (c.in_default.ensures.given front _ _ w.so_far))

@@ -1,0 +1,127 @@
+-- What an update of a handle that has met the history says of the handle that asked for it.
+use Rattle.std.proofs.Common.{◌≡◌, ℕ, List, [], ◌∷◌, ◌++◌, length, refl, ap, sym, ◌∙◌, subst}
+use Rattle.std.proofs.Common.{true}
+use Rattle.std.specs.Option.{IfSome, is_some}
+use Rattle.std.specs.declared.option.Option.{Option}
+use Rattle.std.specs.declared.option.Option.TheVariants.{None, Some}
+use Rattle.std.specs.Result.{IfOk, IfErr, OnErr}
+use Rattle.std.specs.declared.result.Result.{Result}
+use Rattle.std.specs.declared.result.Result.TheVariants.{Ok, Err}
+use mathlib.Core.List.{IsPrefix}
+use Rattle.logbook.specs.Pages.{Book}
+use Rattle.sup_types.specs.declared.text.Text.{Text}
+use Rattle.sup_types.specs.declared.template.Template.{Template}
+use Rattle.sup_types.specs.declared.history.Answer.{Answer}
+use Rattle.sup_types.specs.declared.history.Operation.{Operation}
+use Rattle.sup_types.specs.declared.history.Entry.{Entry}
+use Rattle.sup_types.specs.declared.history.Reply.{Reply}
+use Rattle.sup_core.specs.Account.{reply_after}
+use Rattle.sup_log.specs.Tokens.{Publication, Told, history_of, in_one_step}
+use Rattle.sup_log.proofs.Prefixes.{prefix_trans}
+use Rattle.sup_desk.specs.declared.laws.Done.{Done}
+use Rattle.sup_desk.specs.declared.faults.UpdateFault.{UpdateFault}
+use Rattle.sup_desk.specs.declared.faults.UpdateFault.TheVariants.{HistoryFull, Gone, Split}
+use Rattle.sup_desk.specs.Books.{Kept, grown_by}
+use Rattle.sup_desk.specs.Knowledge.{Knowledge, entries_of, with_entries, IsEntryOf, IsMet, IsUpdated}
+use Rattle.sup_desk.specs.Batches.{AreEntered, IsApplied}
+use Rattle.sup_desk.specs.Results.{HasSeenMore, IsUpdateResult}
+
+-- what holds where there is something
+pub some_by : {T P : Type 0} (r : Option T) → is_some r ≡ true → IfSome r (λ _. P) → P
+some_by None is p = absurd (cc is)
+some_by (Some x) is p = p
+
+-- a handle that has met the history of the book, in which its calls are all that stand under its number
+pub record HasMet (book : Kept) (before met : Knowledge) : Type 0 where
+  pub front : met.front ≡ book.history
+  pub editions_are : met.editions ≡ book.editions
+  pub whole : met.front ≡ history_of met.editions
+  pub own : entries_of met.front met.number ≡ met.calls
+  pub seen : HasSeenMore before met
+  pub calls : (met.calls ≡ before.calls) × (met.number ≡ before.number)
+
+module _ (may : Text → ℕ → Answer → Type 0) (template : Template) (press : Book) (book : Kept) (before met after : Knowledge) (moment : ℕ) (has : HasMet book before met) where
+  pub is_met : IsMet before book.editions book.history
+  is_met = record {
+    whole = sym has.front ∙ has.whole ∙ ap history_of has.editions_are;
+    more_editions = subst (λ (l : List Publication). IsPrefix before.editions l) has.editions_are has.seen.editions;
+    more_front = subst (λ (l : List Entry). IsPrefix before.front l) has.front has.seen.front;
+    own = ap (entries_of book.history) (sym has.calls.1) ∙ ap (λ (l : List Entry). entries_of l met.number) (sym has.front) ∙ has.own ∙ has.calls.0;
+  }
+
+  -- the handle with these entries, told of the handle as it was
+  pub with_same : (entries : List Entry) → with_entries met book.editions book.history entries ≡ with_entries before book.editions book.history entries
+  with_same entries = λ i. record {
+    number = has.calls.1 i;
+    editions = book.editions ++ in_one_step entries;
+    front = book.history ++ entries;
+    calls = has.calls.0 i ++ entries;
+  }
+
+  pub seen_with : (entries : List Entry) → after ≡ with_entries met book.editions book.history entries → HasSeenMore before after
+  seen_with entries is = record {
+    editions = subst (λ (k : Knowledge). IsPrefix before.editions k.editions) (sym is)
+        (prefix_trans before.editions book.editions (book.editions ++ in_one_step entries) is_met.more_editions (in_one_step entries, refl));
+    front = subst (λ (k : Knowledge). IsPrefix before.front k.front) (sym is)
+        (prefix_trans before.front book.history (book.history ++ entries) is_met.more_front (entries, refl));
+  }
+
+  updated : (operation : Operation) (done : Done) (entry : Entry) → IsEntryOf may template book.history met.number (length met.calls) operation moment entry
+      → done.reply ≡ reply_after template book.history entry → after ≡ with_entries met book.editions book.history (entry ∷ [])
+      → done.ticket ≡ record { press = press; editions = after.editions; front = after.front }
+      → IsUpdated may template press before operation moment after done.reply done.ticket
+  updated operation done entry entered reply is told = record {
+    editions = book.editions;
+    front = book.history;
+    entry = entry;
+    met = is_met;
+    entered = subst (λ (n : ℕ). IsEntryOf may template book.history n (length before.calls) operation moment entry) has.calls.1
+        (subst (λ (l : List Entry). IsEntryOf may template book.history met.number (length l) operation moment entry) has.calls.0 entered);
+    after_is = is ∙ with_same (entry ∷ []);
+    reply_is = reply;
+    told_is = told;
+  }
+
+  pub update_result : (operation : Operation) (left : Kept) (result : Result Done UpdateFault)
+      → IfOk result (λ done. (entry : Entry) × IsEntryOf may template book.history met.number (length met.calls) operation moment entry
+      × (done.reply ≡ reply_after template book.history entry) × (left ≡ grown_by book (entry ∷ [])) × (after ≡ with_entries met book.editions book.history (entry ∷ [])))
+      → IfOk result (λ done. done.ticket ≡ record { press = press; editions = after.editions; front = after.front })
+      → OnErr result ((left ≡ book) × (after ≡ met))
+      → IfErr result (λ e. e ≡ HistoryFull → length book.history ≡ template.entries)
+      → IfErr result (λ e. (e ≡ Gone → ⊥) × (e ≡ Split → ⊥))
+      → IsUpdateResult may template press before operation moment after result
+  update_result operation left (Ok done) (entry, entered, reply, book', is) told kept full faults = record {
+    ok = updated operation done entry entered reply is told;
+    seen = seen_with (entry ∷ []) is;
+    calls = tt;
+    gone = tt;
+    full = tt;
+    memory = tt;
+  }
+  update_result operation left (Err e) entered told kept full faults =
+      let own : entries_of after.front after.number ≡ after.calls = subst (λ (k : Knowledge). entries_of k.front k.number ≡ k.calls) (sym kept.1) has.own in
+      record {
+        ok = tt;
+        seen = subst (λ (k : Knowledge). HasSeenMore before k) (sym kept.1) has.seen;
+        calls = (ap (λ (k : Knowledge). k.calls) kept.1 ∙ has.calls.0, ap (λ (k : Knowledge). k.number) kept.1 ∙ has.calls.1);
+        gone = faults.0;
+        full = λ is. (ap (λ (k : Knowledge). length k.front) kept.1 ∙ ap length has.front ∙ full is, own);
+        memory = λ is. own;
+      }
+
+  -- the operations of a batch
+  pub applied : (operations : List Operation) (entries : List Entry) (replies : List Reply) (told : Told)
+      → AreEntered may template met.number moment book.history (length met.calls) operations entries replies
+      → after ≡ with_entries met book.editions book.history entries
+      → told ≡ record { press = press; editions = after.editions; front = after.front }
+      → IsApplied may template press before operations moment after replies told
+  applied operations entries replies told entered is ticket = record {
+    editions = book.editions;
+    front = book.history;
+    entries = entries;
+    met = is_met;
+    entered = subst (λ (n : ℕ). AreEntered may template n moment book.history (length before.calls) operations entries replies) has.calls.1
+        (subst (λ (l : List Entry). AreEntered may template met.number moment book.history (length l) operations entries replies) has.calls.0 entered);
+    after_is = is ∙ with_same entries;
+    told_is = ticket;
+  }
