@@ -1,0 +1,261 @@
+//! Doors: by which a program starts children, sends to them, ends them and asks.
+ghost use Rattle.std.specs.Prelude.{◌≡◌, ℕ, length, IfOk, IfErr, OnErr, IsOk};
+ghost use mathlib.Core.List.{IsPrefix};
+ghost use Rattle.sup_core.specs.State.{MatchSeen};
+ghost use Rattle.sup_core.specs.Queries.{which, count, child};
+ghost use Rattle.sup_log.specs.Tokens.{sight, history_of};
+ghost use Rattle.sup_desk.specs.Asking.{IsAnswered};
+ghost use Rattle.sup_desk.specs.Knowledge.{IsUpdated, entries_of};
+ghost use Rattle.sup_desk.specs.Results.{IsUpdateResult};
+
+use crate::alive::Alive;
+use crate::behaviour::Behaviour;
+use crate::outbox::Office;
+use crate::yard::Yard;
+use futures::Future;
+use std::marker::Model;
+use std::sync::Wait;
+use std::time::Clock;
+use sup_desk::{Caller, Desk, Done, Handle, HandleFault, Name, QueryFault, UpdateFault};
+use sup_log::{Gone, Ticket, View};
+use sup_types::{Counts, Operation, Reply, Row, Seen, Starter, Text};
+
+/// A handle of the desk, with the right to run children. It may be moved to one thread. It does not give its handle out: an
+/// exit that was entered past the crew would be a second one.
+#[derive(Drop)]
+pub struct Door<
+    't,
+    'h,
+    'd,
+    N: Name,
+    S: Starter + Drop,
+    Q: Wait + Drop,
+    I: Office,
+    B: Behaviour,
+    P: Wait + Drop,
+    F: Future,
+> {
+    pub(crate) desk: &'d Desk<N, S, Q>,
+    pub(crate) handle: Handle<'d, N, S, Q>,
+    pub(crate) yard: &'t Yard<'h, I, B, P, F>,
+}
+
+impl<
+    't,
+    'h,
+    'd,
+    N: Name,
+    S: Starter + Drop,
+    Q: Wait + Drop,
+    I: Office,
+    B: Behaviour,
+    P: Wait + Drop,
+    F: Future,
+> Model for Door<'t, 'h, 'd, N, S, Q, I, B, P, F> {
+    ghost use Rattle.sup_desk.specs.Knowledge.{Knowledge};
+
+    ghost Value = { Knowledge };
+
+    ghost view = { λ d. d.handle };
+}
+
+/// Updates, at the moment of the crew's clock. Each waits for the desk's lock, as a handle's does. After a refusal the
+/// history and every published answer are as before.
+impl<
+    't,
+    'h,
+    'd,
+    N: Name,
+    S: Starter + Drop,
+    Q: Wait + Drop,
+    I: Office,
+    B: Behaviour,
+    P: Wait + Drop,
+> Door<'t, 'h, 'd, N, S, Q, I, B, P, Alive<'h, I, B, P>> {
+    /// Starts a child with this argument. At `Started` it runs, and is sent to under its number. Room for its exit is made
+    /// first.
+    pub fn start_child<R: Wait + Clock>(&mut self, rt: &R, arg: Text) -> Result<Done, UpdateFault>
+        ensures ok { IfOk result (λ d. (moment : ℕ) × IsUpdated S.may_answer N.template N.press self.old (Operation.Start arg) moment (record { number = self.new.number; editions = d.ticket.editions; front = d.ticket.front; calls = self.new.calls }) d.reply d.ticket) }
+        ensures seen { IfOk result (λ d. IsPrefix d.ticket.front self.new.front) }
+        ensures front { IsPrefix self.old.front self.new.front }
+        ensures calls { OnErr result ((self.new.calls ≡ self.old.calls) × (self.new.number ≡ self.old.number)) }
+        ensures gone { IfErr result (λ e. e ≡ UpdateFault.Gone → ⊥) }
+        ensures full { IfErr result (λ e. e ≡ UpdateFault.HistoryFull → (length self.new.front ≡ N.template.entries) × (entries_of self.new.front self.new.number ≡ self.new.calls)) }
+    {
+        let Ok(place) = self.yard.hub.make_room() else {
+            return Err(UpdateFault::OutOfMemory);
+        };
+        let moment = self.yard.now(rt);
+        match self.handle.start_child(rt, moment, arg) {
+            Ok(done) => {
+                self.run_started(moment, arg, place, &done.reply);
+                Ok(done)
+            }
+            Err(fault) => {
+                self.yard.hub.free_room(place);
+                Err(fault)
+            }
+        }
+    }
+
+    /// Runs the child that was started, whose exit has room in the outbox of this place. Where none was, the room is given
+    /// back.
+    fn run_started(&mut self, moment: u64, arg: Text, place: usize, reply: &Reply)
+        ensures front { IsPrefix self.old.front self.new.front }
+        ensures calls { (self.new.calls ≡ self.old.calls) × (self.new.number ≡ self.old.number) }
+    {
+        if let Reply::Started(number) = reply {
+            self.yard
+                .begin(&mut self.handle, moment, *number, arg, place);
+        } else {
+            self.yard.hub.free_room(place);
+        }
+    }
+
+    /// Ends the child with this number. At `Ended` it is told to end, and is let go when its grace is over. Its exit is entered
+    /// later, and changes nothing.
+    pub fn terminate_child<R: Wait + Clock>(
+        &mut self,
+        rt: &R,
+        number: u64,
+    ) -> Result<Done, UpdateFault>
+        ensures { (moment : ℕ) × IsUpdateResult S.may_answer N.template N.press self.old (Operation.Terminate number) moment self.new result }
+    {
+        let moment = self.yard.now(rt);
+        let done = self.handle.terminate_child(rt, moment, number)?;
+        if let Reply::Ended = done.reply {
+            self.yard.end(number, moment);
+        }
+        Ok(done)
+    }
+
+    /// Ends all children, and the supervisor. They are told to end.
+    pub fn stop<R: Wait + Clock>(&mut self, rt: &R) -> Result<Done, UpdateFault>
+        ensures { (moment : ℕ) × IsUpdateResult S.may_answer N.template N.press self.old Operation.Stop moment self.new result }
+    {
+        let moment = self.yard.now(rt);
+        let done = self.handle.stop(rt, moment)?;
+        self.yard.end_all(moment);
+        Ok(done)
+    }
+
+    /// Sends to the child with this number. The message comes back where no such child is alive, where it was told to end, or
+    /// for want of memory.
+    pub fn send(&self, number: u64, message: B::Message) -> Result<(), B::Message> {
+        let hub = self.yard.hub;
+        hub.rooms.send(&hub.rt, number, message)
+    }
+
+    /// Another door of the crew, with a handle of its own.
+    pub fn another<R: Wait>(
+        &self,
+        rt: &R,
+    ) -> Result<Door<'t, 'h, 'd, N, S, Q, I, B, P, Alive<'h, I, B, P>>, HandleFault> {
+        Ok(Door {
+            desk: self.desk,
+            handle: self.desk.handle(rt)?,
+            yard: self.yard,
+        })
+    }
+
+    /// Lets the crew close: the driver stops the supervisor, and all children end.
+    pub fn close(&self) {
+        self.yard.hub.counts.close();
+        self.yard.hub.ring();
+    }
+
+    /// Its handle, for an audit once the crew has closed.
+    pub fn end(self) -> Caller<N>
+        ensures { result ≡ self.entry }
+    {
+        let Door {
+            desk: _,
+            handle,
+            yard: _,
+        } = self;
+        handle.unbind().0
+    }
+}
+
+/// What takes no lock and never waits.
+impl<
+    't,
+    'h,
+    'd,
+    N: Name,
+    S: Starter + Drop,
+    Q: Wait + Drop,
+    I: Office,
+    B: Behaviour,
+    P: Wait + Drop,
+> Door<'t, 'h, 'd, N, S, Q, I, B, P, Alive<'h, I, B, P>> {
+    /// The number of its handle: 1, 2, 3, .. in the order of making.
+    pub fn number(&self) -> u64
+        ensures { result ≡ self.now.number }
+    {
+        self.handle.number()
+    }
+
+    /// The length of its front, in entries. It enters nothing.
+    pub fn front(&self) -> u64
+        ensures front { result ≡ length self.now.front }
+        ensures whole { self.now.front ≡ history_of self.now.editions }
+    {
+        self.handle.front()
+    }
+
+    /// How many children there are at one front, which begins with all that the door had seen, learnt or done.
+    pub fn count_children(&mut self) -> Result<Seen<Counts>, Gone>
+        ensures front { IsPrefix self.old.front self.new.front }
+        ensures editions { IsPrefix self.old.editions self.new.editions }
+        ensures calls { (self.new.calls ≡ self.old.calls) × (self.new.number ≡ self.old.number) }
+        ensures answer { IfOk result (λ answer. answer ≡ count N.template self.new.front) }
+    {
+        self.handle.count_children()
+    }
+
+    /// The listed child with this number at such a front.
+    pub fn child(&mut self, number: u64) -> Result<Seen<Option<Row>>, Gone>
+        ensures front { IsPrefix self.old.front self.new.front }
+        ensures editions { IsPrefix self.old.editions self.new.editions }
+        ensures calls { (self.new.calls ≡ self.old.calls) × (self.new.number ≡ self.old.number) }
+        ensures answer { IfOk result (λ answer. answer ≡ child N.template self.new.front number) }
+    {
+        self.handle.child(number)
+    }
+
+    /// The listed children at such a front, by ascending numbers.
+    pub fn which_children(&mut self) -> Result<Seen<Vec<Row>>, QueryFault>
+        ensures front { IsPrefix self.old.front self.new.front }
+        ensures editions { IsPrefix self.old.editions self.new.editions }
+        ensures calls { (self.new.calls ≡ self.old.calls) × (self.new.number ≡ self.old.number) }
+        ensures answer { IfOk result (λ seen. MatchSeen seen (λ rows. which N.template self.new.front ≡ Seen.Up rows.items) (which N.template self.new.front ≡ Seen.Down)) }
+    {
+        self.handle.which_children()
+    }
+
+    /// Calls `f` once on a view at such a front, and not at all where the supervisor is down. `f` may make no update,
+    /// which would wait for this look.
+    pub fn inspect<T, G: FnOnce(&View) -> T>(&mut self, f: G) -> Result<Seen<T>, Gone>
+        requires { G.IsAlwaysCallable f }
+        ensures front { IsPrefix self.old.front self.new.front }
+        ensures editions { IsPrefix self.old.editions self.new.editions }
+        ensures calls { (self.new.calls ≡ self.old.calls) × (self.new.number ≡ self.old.number) }
+        ensures answer { let view = sight (record { press = N.press; template = N.template; editions = self.new.editions; front = self.new.front })
+            in IfOk result (λ seen. IsAnswered G.FnOnce f view view.standing.down seen) }
+    {
+        self.handle.inspect(f)
+    }
+
+    /// From now on its front begins with the ticket's, which is of the same desk. It enters nothing and always succeeds.
+    pub fn learn(&mut self, ticket: &Ticket) -> Result<(), Gone>
+        requires { ticket.now.press ≡ N.press }
+        ensures answered { IsOk result }
+        ensures front { IsPrefix self.old.front self.new.front }
+        ensures editions { IsPrefix self.old.editions self.new.editions }
+        ensures calls { (self.new.calls ≡ self.old.calls) × (self.new.number ≡ self.old.number) }
+        ensures learnt { IsPrefix ticket.now.front self.new.front × IsPrefix ticket.now.editions self.new.editions }
+    {
+        self.handle.learn(ticket)
+    }
+}

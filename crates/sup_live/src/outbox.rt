@@ -1,0 +1,140 @@
+//! Outboxes: exits on their way to the inbox, of which none is refused.
+ghost use Rattle.std.specs.Prelude.{◌≡◌, [], ◌∷◌, ◌++◌, IfErr, OnOk};
+ghost use Rattle.sup_live.specs.Outboxes.{told};
+
+use std::alloc::Global;
+use std::collections::VecDeque;
+use std::marker::{Brand, PhantomData};
+use std::sync::Wait;
+use sup_inbox::{Inbox, InboxFull, Poster};
+use sup_types::OutOfMemory;
+
+/// Names an inbox, and says how many posters it has. A value behind a lock is known by its type alone, so the type says
+/// which inbox it posts to.
+pub trait Office {
+    ghost use Rattle.std.specs.Prelude.{ℕ};
+    ghost use Rattle.atomic_table.specs.Seated.{TableId};
+
+    ghost inbox: { TableId };
+
+    ghost posters: { ℕ };
+}
+
+impl Office for Brand {
+    ghost use Rattle.sup_live.specs.Offices.{no_inbox};
+
+    ghost inbox = { no_inbox };
+
+    ghost posters = { 0 };
+}
+
+/// A poster, the exits that wait for room in the inbox, and how many children there is room for among these.
+#[derive(Drop)]
+pub struct Outbox<I: Office> {
+    poster: Poster,
+    waiting: VecDeque<InboxFull>,
+    children: usize,
+    of: PhantomData<I>,
+    ghost of_inbox: { poster.inbox ≡ I.inbox },
+}
+
+impl<I: Office> Outbox<I> {
+    /// An outbox in which nothing waits. It takes no memory.
+    pub(crate) fn new(alloc: Global, poster: Poster) -> Outbox<I>
+        requires { poster.inbox ≡ I.inbox }
+    {
+        Outbox {
+            poster,
+            waiting: VecDeque::new(alloc),
+            children: 0,
+            of: PhantomData,
+        }
+    }
+
+    /// Makes room for the exits of one child more.
+    pub(crate) fn make_room(&mut self) -> Result<(), OutOfMemory> {
+        let Some(children) = self.children.checked_add(1) else {
+            return Err(OutOfMemory);
+        };
+        self.waiting.reserve(children)?;
+        self.children = children;
+        Ok(())
+    }
+
+    /// Gives the room of one child back.
+    pub(crate) fn free_room(&mut self) {
+        self.children = self.children.saturating_sub(1);
+    }
+
+    /// Lets the exit wait behind those that wait, and posts as many as the inbox has room for. It comes back where memory was
+    /// refused for it, which cannot be where room was made for it.
+    #[tactic(auto, using(crate::proofs::Outboxes::told_one_more))]
+    pub(crate) fn put<R: Wait>(
+        &mut self,
+        rt: &R,
+        inbox: &Inbox,
+        exit: InboxFull,
+    ) -> Result<(), InboxFull>
+        requires { inbox.now.id ≡ I.inbox }
+        ensures ok { OnOk result (told self.new.poster.posted self.new.waiting.items ≡ told self.old.poster.posted self.old.waiting.items ++ exit ∷ []) }
+        ensures err { IfErr result (λ back. (back ≡ exit) × (told self.new.poster.posted self.new.waiting.items ≡ told self.old.poster.posted self.old.waiting.items)) }
+    {
+        if let Err(refused) = self.waiting.push_back(exit) {
+            return Err(refused.value);
+        }
+        self.post_waiting(rt, inbox);
+        Ok(())
+    }
+
+    /// Posts the exits that wait, in order, for as long as the inbox has room. Whether it posted any.
+    pub(crate) fn post_waiting<R: Wait>(&mut self, rt: &R, inbox: &Inbox) -> bool
+        requires { inbox.now.id ≡ I.inbox }
+        ensures { told self.new.poster.posted self.new.waiting.items ≡ told self.old.poster.posted self.old.waiting.items }
+    {
+        let mut posted = false;
+        for _turn in 0..self.waiting.len() {
+            if !self.post_first(rt, inbox) {
+                return posted;
+            }
+            posted = true;
+        }
+        posted
+    }
+
+    /// Posts the exit that has waited longest. Whether there was one, and room for it.
+    #[tactic(auto, using(crate::proofs::Outboxes::told_moved, crate::proofs::Outboxes::told_same))]
+    fn post_first<R: Wait>(&mut self, rt: &R, inbox: &Inbox) -> bool
+        requires { inbox.now.id ≡ I.inbox }
+        ensures { told self.new.poster.posted self.new.waiting.items ≡ told self.old.poster.posted self.old.waiting.items }
+    {
+        let Some(first) = self.waiting.pop_front() else {
+            return false;
+        };
+        let InboxFull {
+            number,
+            arg,
+            reason,
+        } = first;
+        match self.poster.post(rt, inbox, number, arg, reason) {
+            Ok(()) => true,
+            Err(back) => {
+                self.waiting.push_front_reserved(back);
+                false
+            }
+        }
+    }
+
+    /// The poster, and the exits that wait.
+    pub(crate) fn end(self) -> (Poster, VecDeque<InboxFull>)
+        ensures inbox { result.0.inbox ≡ I.inbox }
+        ensures told { told result.0.posted result.1.items ≡ told self.poster.posted self.waiting.items }
+    {
+        let Outbox {
+            poster,
+            waiting,
+            children: _,
+            of: _,
+        } = self;
+        (poster, waiting)
+    }
+}

@@ -1,0 +1,33 @@
+//! Programs: what is done with a crew.
+use crate::alive::Alive;
+use crate::behaviour::Behaviour;
+use crate::door::Door;
+use crate::outbox::Office;
+use std::sync::Wait;
+use std::thread::Threads;
+use std::time::Clock;
+use sup_desk::Name;
+use sup_types::Starter;
+
+/// What is done with a crew while it runs: in the thread that runs the crew, which it may leave only to threads that it joins.
+pub trait Program<N: Name, B: Behaviour> {
+    /// What comes of it.
+    type Outcome: Drop;
+
+    /// Uses the door, from which others can be made. Once it returns, the crew closes.
+    fn run<'h, S, Q, I, P, R>(
+        self,
+        rt: &R,
+        door: &mut Door<'_, 'h, '_, N, S, Q, I, B, P, Alive<'h, I, B, P>>,
+    ) -> Self::Outcome
+    where
+        N: Send + Sync,
+        S: Starter + Drop + Send + Sync,
+        Q: Wait + Drop + Send + Sync,
+        I: Office + Send + Sync,
+        B: Sync,
+        B::Message: Send,
+        B::Child: Send,
+        P: Wait + Drop + Send + Sync,
+        R: Threads + Wait + Clock + Sync;
+}

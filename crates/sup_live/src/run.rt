@@ -1,0 +1,367 @@
+//! Runs.
+ghost use Rattle.std.specs.Prelude.{◌≡◌, ◌<◌, ◌≤◌, [], true, length, IfOk, vec_len, vec_capacity};
+ghost use Rattle.sup_live.specs.Leads.{exits_among, are_driven};
+ghost use Rattle.sup_inbox.specs.Ends.{AreOf};
+ghost use denote.Param.Send.{IsSend};
+
+use crate::alive::Alive;
+use crate::behaviour::Behaviour;
+use crate::clock::Moments;
+use crate::door::Door;
+use crate::driver::{Driven, Driver};
+use crate::hub::Hub;
+use crate::outbox::Office;
+use crate::plan::{LiveFault, Plan};
+use crate::program::Program;
+use crate::report::Report;
+use crate::yard::Yard;
+use arrayvec::ArrayVec;
+use futures::Future;
+use futures::executor::TaskSet;
+use futures::task::Doorbell;
+use std::alloc::{AllocGlobal, Global};
+use std::collections::VecDeque;
+use std::marker::Brand;
+use std::random::RandomSource;
+use std::sync::Wait;
+use std::thread;
+use std::thread::{Scope, Threads};
+use std::time::Clock;
+use sup_crew::HELD;
+use sup_desk::{Caller, Desk, Handle, Name};
+use sup_inbox::{Inbox, InboxFull, Note, Poster, Taker, settle};
+use sup_types::{OutOfMemory, Starter};
+
+/// What is left once all threads were joined.
+#[derive(Drop)]
+struct Joined<N: Name, I: Office, T: Drop> {
+    driven: Driven<N, I>,
+    door: Caller<N>,
+    outcome: T,
+}
+
+/// Starts the workers. Those that could not be started have gone.
+fn start_workers<'s, 'h: 's, E, I, B, P, R>(
+    scope: &Scope<'s, E>,
+    rt: &'s R,
+    yard: &'s Yard<'h, I, B, P, Alive<'h, I, B, P>>,
+    workers: usize,
+)
+where
+    I: Office + Send + Sync + 's,
+    B: Behaviour + Sync + 's,
+    B::Message: Send + 's,
+    B::Child: Send + 's,
+    P: Wait + Drop + Send + Sync + 's,
+    R: Threads + Wait + Clock + Sync,
+{
+    for worker in 0..workers {
+        let begun = scope.spawn(move || {
+            yard.tasks.work(rt, worker);
+            yard.hub.counts.worker_went();
+            yard.hub.ring();
+        });
+        if begun.is_err() {
+            yard.hub.counts.worker_went();
+        }
+    }
+}
+
+/// Starts the threads, runs the program, and joins the driver.
+fn run_program<'s, 'h: 's, 'd: 's, E, N, S, Q, I, B, P, T, R>(
+    scope: &Scope<'s, E>,
+    rt: &'s R,
+    desk: &'d Desk<N, S, Q>,
+    yard: &'s Yard<'h, I, B, P, Alive<'h, I, B, P>>,
+    driver: Driver<'d, N, S, Q, I>,
+    handle: Handle<'d, N, S, Q>,
+    program: T,
+    workers: usize,
+) -> Result<Joined<N, I, T::Outcome>, LiveFault>
+where
+    N: Name + Send + Sync + 's,
+    S: Starter + Drop + Send + Sync + 's,
+    Q: Wait + Drop + Send + Sync + 's,
+    I: Office + Send + Sync + 's,
+    B: Behaviour + Sync + 's,
+    B::Message: Send + 's,
+    B::Child: Send + 's,
+    P: Wait + Drop + Send + Sync + 's,
+    T: Program<N, B> + Drop,
+    R: Threads + Wait + Clock + Sync,
+{
+    let Ok(holds) = yard.tasks.hold(yard.alloc) else {
+        return Err(LiveFault::OutOfMemory);
+    };
+    start_workers(scope, rt, yard, workers);
+    if yard.hub.counts.have_all_gone() {
+        return Err(LiveFault::NoThread);
+    }
+    let Ok(driving) = scope.spawn(move || driver.drive(rt, yard)) else {
+        yard.tasks.shut_down();
+        return Err(LiveFault::NoThread);
+    };
+    let mut door = Door { desk, handle, yard };
+    let outcome = program.run(rt, &mut door);
+    door.close();
+    let driven = driving.join(rt);
+    drop(holds);
+    Ok(Joined {
+        driven,
+        door: door.end(),
+        outcome,
+    })
+}
+
+/// Opens the scope of the threads.
+fn run_threads<'h, 'd, N, S, Q, I, B, P, T, R>(
+    rt: &R,
+    desk: &'d Desk<N, S, Q>,
+    yard: &Yard<'h, I, B, P, Alive<'h, I, B, P>>,
+    driver: Driver<'d, N, S, Q, I>,
+    handle: Handle<'d, N, S, Q>,
+    program: T,
+    workers: usize,
+) -> Result<Joined<N, I, T::Outcome>, LiveFault>
+where
+    N: Name + Send + Sync,
+    S: Starter + Drop + Send + Sync,
+    Q: Wait + Drop + Send + Sync,
+    I: Office + Send + Sync,
+    B: Behaviour + Sync,
+    B::Message: Send,
+    B::Child: Send,
+    P: Wait + Drop + Send + Sync,
+    T: Program<N, B> + Drop,
+    R: Threads + Wait + Clock + Sync,
+{
+    thread::scope(
+        thread::scope_env(),
+        rt,
+        move |scope| -> Result<Joined<N, I, T::Outcome>, LiveFault>
+            requires threads { IsSend N.row × IsSend S.row × IsSend Q.row × IsSend I.row × IsSend P.row }
+            requires children { IsSend B.Message.row × IsSend B.Child.row }
+        { run_program(scope, rt, desk, yard, driver, handle, program, workers) },
+    )
+}
+
+/// Ends a yard. It stands apart, over any future, since the borrow checker of this kit sees no lifetime of a yard's children
+/// outlive the function that made it.
+fn end_yard<'h, I: Office, B: Behaviour, P: Wait + Drop, F: Future>(yard: Yard<'h, I, B, P, F>) {
+    drop(yard);
+}
+
+/// Makes the yard and the handles, and runs the threads.
+fn run_in_yard<'h, 'd, N, S, Q, I, B, P, T, R>(
+    rt: &R,
+    alloc: Global,
+    desk: &'d Desk<N, S, Q>,
+    behaviour: &'h B,
+    moments: Moments<'h>,
+    plan: Plan,
+    program: T,
+    hub: &'h Hub<I, B::Message, P>,
+    taker: Taker,
+) -> Result<Joined<N, I, T::Outcome>, LiveFault>
+where
+    N: Name + Send + Sync,
+    S: Starter + Drop + Send + Sync,
+    Q: Wait + Drop + Send + Sync,
+    I: Office + Send + Sync,
+    B: Behaviour + Sync,
+    B::Message: Send,
+    B::Child: Send,
+    P: Wait + Drop + Send + Sync,
+    T: Program<N, B> + Drop,
+    R: Threads + Wait + Clock + RandomSource + AllocGlobal + Sync,
+    requires taker { taker ≡ record { inbox = I.inbox; posters = I.posters; taken = [] } }
+{
+    let handle = desk.handle(rt)?;
+    let door = desk.handle(rt)?;
+    let driver = Driver::new(alloc, handle, taker, plan.retry_after)?;
+    let Ok(tasks) = TaskSet::new(rt, Doorbell::parking(), plan.workers) else {
+        return Err(LiveFault::OutOfMemory);
+    };
+    let yard = Yard {
+        alloc,
+        hub,
+        behaviour,
+        moments,
+        grace: plan.grace,
+        tasks,
+    };
+    let joined = run_threads(rt, desk, &yard, driver, door, program, plan.workers);
+    end_yard(yard);
+    joined
+}
+
+/// Room for what the end of a run hands over, made before the run, so that its end takes no memory.
+#[derive(Drop)]
+struct Room {
+    posters: Vec<Poster>,
+    waiting: Vec<VecDeque<InboxFull>>,
+    left: Vec<Note>,
+    held: Vec<Note>,
+}
+
+impl Room {
+    fn new(alloc: Global, workers: usize, inbox: usize) -> Result<Room, OutOfMemory>
+        ensures empty { IfOk result (λ r. (r.posters.items ≡ []) × (r.waiting.items ≡ []) × (r.left.items ≡ []) × (r.held.items ≡ [])) }
+        ensures room { IfOk result (λ r. (workers ≤ vec_capacity r.posters) × (workers ≤ vec_capacity r.waiting) × (inbox ≤ vec_capacity r.left) × (64 ≤ vec_capacity r.held)) }
+    {
+        Ok(Room {
+            posters: Vec::with_capacity(alloc, workers)?,
+            waiting: Vec::with_capacity(alloc, workers)?,
+            left: Vec::with_capacity(alloc, inbox)?,
+            held: Vec::with_capacity(alloc, HELD)?,
+        })
+    }
+}
+
+/// The inbox of a run, its ends, and room.
+struct Parts {
+    inbox: Inbox,
+    posters: Vec<Poster>,
+    taker: Taker,
+    room: Room,
+}
+
+/// Runs the crew of an office.
+fn run_office<N, S, Q, I, B, T, R>(
+    rt: &R,
+    alloc: Global,
+    desk: &Desk<N, S, Q>,
+    behaviour: &B,
+    moments: Moments<'_>,
+    plan: Plan,
+    program: T,
+    parts: Parts,
+) -> Result<Report<N, T::Outcome>, LiveFault>
+where
+    N: Name + Send + Sync,
+    S: Starter + Drop + Send + Sync,
+    Q: Wait + Drop + Send + Sync,
+    I: Office + Send + Sync,
+    B: Behaviour + Sync,
+    B::Message: Send,
+    B::Child: Send,
+    T: Program<N, B> + Drop,
+    R: Threads + Wait + Clock + RandomSource + AllocGlobal + Sync,
+    requires inbox { parts.inbox.id ≡ I.inbox }
+    requires posters { AreOf I.inbox parts.posters.items × (vec_len parts.posters ≡ I.posters) }
+    requires taker { parts.taker ≡ record { inbox = I.inbox; posters = I.posters; taken = [] } }
+    requires empty { (parts.room.posters.items ≡ []) × (parts.room.waiting.items ≡ []) × (parts.room.left.items ≡ []) × (parts.room.held.items ≡ []) }
+    requires room { (I.posters ≤ vec_capacity parts.room.posters) × (I.posters ≤ vec_capacity parts.room.waiting) × (parts.inbox.capacity ≤ vec_capacity parts.room.left) × (64 ≤ vec_capacity parts.room.held) }
+    ensures driven { IfOk result (λ r. are_driven r.driver.calls ≡ true) }
+    ensures counted { IfOk result (λ r. r.exits ≡ length (exits_among r.driver.calls)) }
+{
+    let Parts {
+        inbox,
+        posters,
+        taker,
+        room,
+    } = parts;
+    let hub: Hub<I, B::Message, &R> = Hub::new(rt, alloc, inbox, posters, plan.workers as u64)?;
+    let joined = run_in_yard(
+        rt, alloc, desk, behaviour, moments, plan, program, &hub, taker,
+    )?;
+    Ok(report(rt, hub, joined, room))
+}
+
+/// The notes that are held, in a list that has room for them.
+fn list_held(held: ArrayVec<Note, HELD>, room: Vec<Note>) -> Vec<Note>
+    requires { (room.items ≡ []) × (64 ≤ vec_capacity room) }
+    ensures { result.items ≡ held.items }
+{
+    let mut held = held;
+    let mut list = room;
+    while !held.is_empty() {
+        let note = held.remove(0);
+        // Names the reason: the borrow checker of this kit asks where its type is declared.
+        let reason = note.reason;
+        list.push_reserved(Note { reason, ..note });
+    }
+    list
+}
+
+/// Settles the inbox, and tells what the crew did.
+fn report<N: Name, I: Office, M: Drop, P: Wait + Drop, T: Drop, R: Wait>(
+    rt: &R,
+    hub: Hub<I, M, P>,
+    joined: Joined<N, I, T>,
+    room: Room,
+) -> Report<N, T>
+    requires empty { (room.posters.items ≡ []) × (room.waiting.items ≡ []) × (room.left.items ≡ []) × (room.held.items ≡ []) }
+    requires room { (I.posters ≤ vec_capacity room.posters) × (I.posters ≤ vec_capacity room.waiting) × (hub.inbox.capacity ≤ vec_capacity room.left) × (64 ≤ vec_capacity room.held) }
+    ensures driven { are_driven result.driver.calls ≡ true }
+    ensures counted { result.exits ≡ length (exits_among result.driver.calls) }
+{
+    let Joined {
+        driven,
+        door,
+        outcome,
+    } = joined;
+    let (made, lost) = (hub.counts.made(), hub.counts.lost());
+    let (caller, drain, exits, tally, fault) = driven.parts();
+    let (taker, kept) = drain.end();
+    let (inbox, posters, unposted) = hub.end(room.posters, room.waiting);
+    let Ok(settled) = settle(rt, posters, taker, inbox, room.left) else {
+        unreachable!()
+    };
+    Report {
+        outcome,
+        driver: caller,
+        door,
+        made,
+        exits,
+        tally,
+        held: list_held(kept, room.held),
+        left: settled.left,
+        unposted,
+        lost,
+        fault,
+    }
+}
+
+/// Runs a crew over the desk, until the program returns: its door starts children, and the crew runs them, restarts those
+/// that crashed as the template says, tries failed restarts again, and ends those that were ended. Then the crew closes: it
+/// stops the supervisor, and every child is told to end and is let go at the latest when the plan's grace is over.
+///
+/// Two handles of the desk are used: the driver's, and that of the program's first door. Both come back, for an audit. After a
+/// fault nothing was entered, and the program was not run.
+pub fn run_live<N, S, Q, B, T, R>(
+    rt: &R,
+    alloc: Global,
+    desk: &Desk<N, S, Q>,
+    behaviour: &B,
+    moments: Moments<'_>,
+    plan: Plan,
+    program: T,
+) -> Result<Report<N, T::Outcome>, LiveFault>
+where
+    N: Name + Send + Sync,
+    S: Starter + Drop + Send + Sync,
+    Q: Wait + Drop + Send + Sync,
+    B: Behaviour + Sync,
+    B::Message: Send,
+    B::Child: Send,
+    T: Program<N, B> + Drop,
+    R: Threads + Wait + Clock + RandomSource + AllocGlobal + Sync,
+    requires workers { (1 ≤ plan.workers) × (plan.workers ≤ 64) }
+    requires inbox { (1 ≤ plan.inbox) × (plan.inbox ≤ 65536) }
+    ensures driven { IfOk result (λ r. are_driven r.driver.calls ≡ true) }
+    ensures counted { IfOk result (λ r. r.exits ≡ length (exits_among r.driver.calls)) }
+{
+    let room = Room::new(alloc, plan.workers, plan.inbox)?;
+    let (inbox, root) = Inbox::new(alloc, plan.inbox)?;
+    let Ok((posters, taker)) = root.split(alloc, &inbox, plan.workers) else {
+        return Err(LiveFault::OutOfMemory);
+    };
+    let parts = Parts {
+        inbox,
+        posters,
+        taker,
+        room,
+    };
+    run_office::<N, S, Q, Brand, B, T, R>(rt, alloc, desk, behaviour, moments, plan, program, parts)
+}

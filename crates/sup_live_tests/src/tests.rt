@@ -1,0 +1,215 @@
+//! What no clause says.
+ghost use Rattle.std.specs.Prelude.{◌≡◌};
+
+mod children;
+mod runs;
+
+use children::{Board, Counting};
+use runs::{Answers, Crashes, GivesUp, Retries, Terminates};
+use std::alloc::AllocGlobal;
+use std::marker::Brand;
+use std::process::Abort;
+use std::random::RandomSource;
+use std::sync::Wait;
+use std::test::*;
+use std::thread::Threads;
+use std::time::Clock;
+use sup_desk::{Desk, Ground, Handle, Name};
+use sup_live::{Moments, Plan, Program, Report, Tally, run_live};
+use sup_types::{Answer, Kind, Restart, Starter, Template, Text};
+
+/// Each start is answered `Running`, but for those at moment 5.
+#[derive(Drop)]
+struct NotAtFive;
+
+impl Starter for NotAtFive {
+    ghost use Rattle.std.specs.Prelude.{◌≡◌, ◌⊎◌};
+    ghost use Rattle.sup_types.specs.declared.history.Answer.TheVariants.{Running, Failed};
+
+    ghost may_answer = { λ arg moment answer. (answer ≡ Running) ⊎ (answer ≡ Failed 7) };
+
+    fn start(&self, _arg: &Text, moment: u64) -> Answer {
+        if moment == 5 {
+            Answer::Failed(7)
+        } else {
+            Answer::Running
+        }
+    }
+}
+
+/// What a crew did.
+#[derive(Clone, Copy)]
+struct Told {
+    outcome: u64,
+    made: u64,
+    tally: Tally,
+    adds_up: bool,
+    is_audited: bool,
+}
+
+/// What the report says, and whether the history is the calls of its two handles and nothing else.
+fn tell<N: Name, R: Wait>(rt: &R, desk: &Desk<N, NotAtFive, &R>, report: Report<N, u64>) -> Told {
+    let adds_up = report.adds_up();
+    let (outcome, made, tally) = (report.outcome, report.made, report.tally);
+    let mut handles = [desk.bind(report.driver), desk.bind(report.door)];
+    let is_audited = Handle::are_in_order(&handles) && desk.audit(rt, &mut handles).is_ok();
+    Told {
+        outcome,
+        made,
+        tally,
+        adds_up,
+        is_audited,
+    }
+}
+
+/// Runs the program over a desk on this ground.
+fn run<'a, N, T, R>(rt: &R, ground: Ground<&R>, board: &'a Board, program: T) -> Option<Told>
+where
+    N: Name + Send + Sync,
+    T: Program<N, Counting<'a>, Outcome = u64> + Drop,
+    R: Threads + Wait + Clock + RandomSource + AllocGlobal + Sync,
+    requires { (ground.press ≡ N.press) × (ground.template ≡ N.template) }
+{
+    let desk: Desk<N, NotAtFive, &R> = Desk::new(ground, NotAtFive);
+    let behaviour = Counting { board };
+    let plan = Plan {
+        workers: 2,
+        inbox: 1,
+        retry_after: 1,
+        grace: 5,
+    };
+    let moments = Moments::Kept(&board.time);
+    match run_live(rt, rt.alloc(), &desk, &behaviour, moments, plan, program) {
+        Ok(report) => Some(tell(rt, &desk, report)),
+        Err(_) => None,
+    }
+}
+
+fn answer<N: Name + Send + Sync, R: Threads + Wait + Clock + RandomSource + AllocGlobal + Sync>(
+    rt: &R,
+    ground: Ground<&R>,
+    board: &Board,
+) -> Option<Told>
+    requires { (ground.press ≡ N.press) × (ground.template ≡ N.template) }
+{
+    run::<N, Answers, R>(rt, ground, board, Answers { board })
+}
+
+fn crash<N: Name + Send + Sync, R: Threads + Wait + Clock + RandomSource + AllocGlobal + Sync>(
+    rt: &R,
+    ground: Ground<&R>,
+    board: &Board,
+) -> Option<Told>
+    requires { (ground.press ≡ N.press) × (ground.template ≡ N.template) }
+{
+    run::<N, Crashes, R>(rt, ground, board, Crashes { board })
+}
+
+fn terminate<N: Name + Send + Sync, R: Threads + Wait + Clock + RandomSource + AllocGlobal + Sync>(
+    rt: &R,
+    ground: Ground<&R>,
+    board: &Board,
+) -> Option<Told>
+    requires { (ground.press ≡ N.press) × (ground.template ≡ N.template) }
+{
+    run::<N, Terminates, R>(rt, ground, board, Terminates { board })
+}
+
+fn try_again<N: Name + Send + Sync, R: Threads + Wait + Clock + RandomSource + AllocGlobal + Sync>(
+    rt: &R,
+    ground: Ground<&R>,
+    board: &Board,
+) -> Option<Told>
+    requires { (ground.press ≡ N.press) × (ground.template ≡ N.template) }
+{
+    run::<N, Retries, R>(rt, ground, board, Retries { board })
+}
+
+fn give_up<N: Name + Send + Sync, R: Threads + Wait + Clock + RandomSource + AllocGlobal + Sync>(
+    rt: &R,
+    ground: Ground<&R>,
+    board: &Board,
+) -> Option<Told>
+    requires { (ground.press ≡ N.press) × (ground.template ≡ N.template) }
+{
+    run::<N, GivesUp, R>(rt, ground, board, GivesUp { board })
+}
+
+/// The report's numbers, where there is a report.
+fn there(rt: &impl Abort, told: Option<Told>) -> Told {
+    match told {
+        Some(told) => told,
+        None => panic!(rt; "a report"),
+    }
+}
+
+fn template(rt: &impl Abort) -> Template {
+    match Template::new(Restart::Transient, Kind::Worker, 2, 1000, 100, 1 << 40) {
+        Ok(template) => template,
+        Err(_) => panic!(rt; "a template"),
+    }
+}
+
+/// Children run, and hear what they are sent.
+#[test]
+fn children_run_and_are_sent_to(rt: HostRuntime) -> Result<(), Fail> {
+    let board = Board::new();
+    let ground = Ground::new(rt.alloc(), &rt, template(&rt), 2)?;
+    let told = answer::<Brand, HostRuntime>(&rt, ground, &board);
+    let told = there(&rt, told);
+    assert!(rt; told.outcome == 6 && told.made == 3);
+    assert!(rt; told.adds_up && told.is_audited);
+    Ok(())
+}
+
+/// A crashed child runs at once under its new number.
+#[test]
+fn a_crashed_child_runs_under_a_new_number(rt: HostRuntime) -> Result<(), Fail> {
+    let board = Board::new();
+    let ground = Ground::new(rt.alloc(), &rt, template(&rt), 2)?;
+    let told = crash::<Brand, HostRuntime>(&rt, ground, &board);
+    let told = there(&rt, told);
+    assert!(rt; told.outcome == 1 && told.made == 2);
+    assert!(rt; told.tally.restarts == 1);
+    assert!(rt; told.adds_up && told.is_audited);
+    Ok(())
+}
+
+/// A termination reaches the child, and one that does not listen is let go.
+#[test]
+fn a_termination_reaches_the_child(rt: HostRuntime) -> Result<(), Fail> {
+    let board = Board::new();
+    let ground = Ground::new(rt.alloc(), &rt, template(&rt), 2)?;
+    let told = terminate::<Brand, HostRuntime>(&rt, ground, &board);
+    let told = there(&rt, told);
+    assert!(rt; told.outcome == 1 && told.made == 2);
+    assert!(rt; told.tally.strays.wrapping_add(told.tally.downs) == 2);
+    assert!(rt; told.adds_up && told.is_audited);
+    Ok(())
+}
+
+/// A restart that failed is tried again by the crew.
+#[test]
+fn a_failed_restart_is_tried_again(rt: HostRuntime) -> Result<(), Fail> {
+    let board = Board::new();
+    let ground = Ground::new(rt.alloc(), &rt, template(&rt), 2)?;
+    let told = try_again::<Brand, HostRuntime>(&rt, ground, &board);
+    let told = there(&rt, told);
+    assert!(rt; told.outcome == 12 && told.made == 2);
+    assert!(rt; told.tally.failed == 1 && told.tally.retried == 1);
+    assert!(rt; told.adds_up && told.is_audited);
+    Ok(())
+}
+
+/// All children end when the supervisor gives up, and the report says that it did.
+#[test]
+fn all_children_end_when_the_supervisor_gives_up(rt: HostRuntime) -> Result<(), Fail> {
+    let board = Board::new();
+    let ground = Ground::new(rt.alloc(), &rt, template(&rt), 2)?;
+    let told = give_up::<Brand, HostRuntime>(&rt, ground, &board);
+    let told = there(&rt, told);
+    assert!(rt; told.outcome == 1 && told.made == 4);
+    assert!(rt; told.tally.given_up == 1);
+    assert!(rt; told.adds_up && told.is_audited);
+    Ok(())
+}

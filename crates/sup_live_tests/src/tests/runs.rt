@@ -1,0 +1,232 @@
+//! Runs of crews.
+use super::children::{Board, Counting, Letter, await_word, read};
+use std::sync::Wait;
+use std::sync::atomic::Ordering;
+use std::thread;
+use std::thread::Threads;
+use std::time::{Clock, Duration};
+use sup_desk::Name;
+use sup_live::{Alive, Door, Office, Program};
+use sup_types::{Reply, Starter, Text};
+
+/// Starts a child. Its number, or 0 where none was started.
+fn start<'h, 'a, N, S, Q, I, P, R>(
+    rt: &R,
+    door: &mut Door<'_, 'h, '_, N, S, Q, I, Counting<'a>, P, Alive<'h, I, Counting<'a>, P>>,
+) -> u64
+where
+    N: Name,
+    S: Starter + Drop,
+    Q: Wait + Drop,
+    I: Office,
+    P: Wait + Drop,
+    R: Wait + Clock,
+{
+    let Some(arg) = Text::new(b"child") else {
+        return 0;
+    };
+    match door.start_child(rt, arg) {
+        Ok(done) => match done.reply {
+            Reply::Started(number) => number,
+            _ => 0,
+        },
+        Err(_) => 0,
+    }
+}
+
+/// Sends once the child is there, for at most half a minute.
+fn send_soon<'h, 'a, N, S, Q, I, P, R>(
+    rt: &R,
+    door: &Door<'_, 'h, '_, N, S, Q, I, Counting<'a>, P, Alive<'h, I, Counting<'a>, P>>,
+    number: u64,
+    letter: Letter,
+)
+where
+    N: Name,
+    S: Starter + Drop,
+    Q: Wait + Drop,
+    I: Office,
+    P: Wait + Drop,
+    R: Wait + Clock,
+{
+    for _ in 0..30_000u64 {
+        if door.send(number, letter).is_ok() {
+            return;
+        }
+        thread::sleep(rt, Duration::from_millis(1));
+    }
+}
+
+/// Starts three children and sends two letters to each. How many were counted.
+#[derive(Drop)]
+pub struct Answers<'a> {
+    pub board: &'a Board,
+}
+
+impl<'a, N: Name> Program<N, Counting<'a>> for Answers<'a> {
+    type Outcome = u64;
+
+    fn run<'h, S, Q, I, P, R>(
+        self,
+        rt: &R,
+        door: &mut Door<'_, 'h, '_, N, S, Q, I, Counting<'a>, P, Alive<'h, I, Counting<'a>, P>>,
+    ) -> u64
+    where
+        N: Send + Sync,
+        S: Starter + Drop + Send + Sync,
+        Q: Wait + Drop + Send + Sync,
+        I: Office + Send + Sync,
+        P: Wait + Drop + Send + Sync,
+        R: Threads + Wait + Clock + Sync,
+    {
+        let board = self.board;
+        for _ in 0..3u32 {
+            let number = start(rt, door);
+            let _ = door.send(number, Letter::Count);
+            let _ = door.send(number, Letter::Count);
+        }
+        await_word(rt, &board.counted, 6);
+        read(&board.counted)
+    }
+}
+
+/// Crashes a child, and sends to it under its old number and under its new one. 1 where only the new one is heard.
+#[derive(Drop)]
+pub struct Crashes<'a> {
+    pub board: &'a Board,
+}
+
+impl<'a, N: Name> Program<N, Counting<'a>> for Crashes<'a> {
+    type Outcome = u64;
+
+    fn run<'h, S, Q, I, P, R>(
+        self,
+        rt: &R,
+        door: &mut Door<'_, 'h, '_, N, S, Q, I, Counting<'a>, P, Alive<'h, I, Counting<'a>, P>>,
+    ) -> u64
+    where
+        N: Send + Sync,
+        S: Starter + Drop + Send + Sync,
+        Q: Wait + Drop + Send + Sync,
+        I: Office + Send + Sync,
+        P: Wait + Drop + Send + Sync,
+        R: Threads + Wait + Clock + Sync,
+    {
+        let board = self.board;
+        let old = start(rt, door);
+        let _ = door.send(old, Letter::Crash);
+        await_word(rt, &board.began, 2);
+        let is_gone = door.send(old, Letter::Count).is_err();
+        send_soon(rt, door, old.wrapping_add(1), Letter::Count);
+        await_word(rt, &board.counted, 1);
+        if is_gone { read(&board.counted) } else { 0 }
+    }
+}
+
+/// Terminates a child that listens, and one that does not. 1 where the first was told, and the second was let go.
+#[derive(Drop)]
+pub struct Terminates<'a> {
+    pub board: &'a Board,
+}
+
+impl<'a, N: Name> Program<N, Counting<'a>> for Terminates<'a> {
+    type Outcome = u64;
+
+    fn run<'h, S, Q, I, P, R>(
+        self,
+        rt: &R,
+        door: &mut Door<'_, 'h, '_, N, S, Q, I, Counting<'a>, P, Alive<'h, I, Counting<'a>, P>>,
+    ) -> u64
+    where
+        N: Send + Sync,
+        S: Starter + Drop + Send + Sync,
+        Q: Wait + Drop + Send + Sync,
+        I: Office + Send + Sync,
+        P: Wait + Drop + Send + Sync,
+        R: Threads + Wait + Clock + Sync,
+    {
+        let board = self.board;
+        let first = start(rt, door);
+        let second = start(rt, door);
+        let _ = door.send(second, Letter::Deafen);
+        await_word(rt, &board.counted, 1);
+        let _ = door.terminate_child(rt, first);
+        let _ = door.terminate_child(rt, second);
+        await_word(rt, &board.told, 1);
+        board.time.store(100, Ordering::SeqCst);
+        read(&board.told)
+    }
+}
+
+/// Crashes a child at a moment at which no child starts. How many began once the moment had gone by.
+#[derive(Drop)]
+pub struct Retries<'a> {
+    pub board: &'a Board,
+}
+
+impl<'a, N: Name> Program<N, Counting<'a>> for Retries<'a> {
+    type Outcome = u64;
+
+    fn run<'h, S, Q, I, P, R>(
+        self,
+        rt: &R,
+        door: &mut Door<'_, 'h, '_, N, S, Q, I, Counting<'a>, P, Alive<'h, I, Counting<'a>, P>>,
+    ) -> u64
+    where
+        N: Send + Sync,
+        S: Starter + Drop + Send + Sync,
+        Q: Wait + Drop + Send + Sync,
+        I: Office + Send + Sync,
+        P: Wait + Drop + Send + Sync,
+        R: Threads + Wait + Clock + Sync,
+    {
+        let board = self.board;
+        let number = start(rt, door);
+        board.time.store(5, Ordering::SeqCst);
+        let _ = door.send(number, Letter::Crash);
+        thread::sleep(rt, Duration::from_millis(200));
+        let before = read(&board.began);
+        board.time.store(6, Ordering::SeqCst);
+        await_word(rt, &board.began, 2);
+        before.wrapping_mul(10).wrapping_add(read(&board.began))
+    }
+}
+
+/// Crashes a child more often than the intensity allows, beside another. 1 where the other was told to end and the supervisor is down.
+#[derive(Drop)]
+pub struct GivesUp<'a> {
+    pub board: &'a Board,
+}
+
+impl<'a, N: Name> Program<N, Counting<'a>> for GivesUp<'a> {
+    type Outcome = u64;
+
+    fn run<'h, S, Q, I, P, R>(
+        self,
+        rt: &R,
+        door: &mut Door<'_, 'h, '_, N, S, Q, I, Counting<'a>, P, Alive<'h, I, Counting<'a>, P>>,
+    ) -> u64
+    where
+        N: Send + Sync,
+        S: Starter + Drop + Send + Sync,
+        Q: Wait + Drop + Send + Sync,
+        I: Office + Send + Sync,
+        P: Wait + Drop + Send + Sync,
+        R: Threads + Wait + Clock + Sync,
+    {
+        let board = self.board;
+        let number = start(rt, door);
+        let _other = start(rt, door);
+        let _ = door.send(number, Letter::Crash);
+        await_word(rt, &board.began, 3);
+        send_soon(rt, door, number.wrapping_add(2), Letter::Crash);
+        await_word(rt, &board.began, 4);
+        send_soon(rt, door, number.wrapping_add(3), Letter::Crash);
+        await_word(rt, &board.told, 1);
+        if start(rt, door) == 0 {
+            read(&board.told)
+        } else {
+            0
+        }
+    }
+}
