@@ -23,8 +23,8 @@ use Rattle.sup_types.specs.declared.history.Entry.{Entry}
 use Rattle.sup_types.specs.declared.history.Reply.{Reply}
 use Rattle.sup_types.specs.declared.history.Reply.TheVariants.{Started, Undefined, StartFailed, Full, Removed, ShutDown, Restarted, Restarting, Ignored, Stray, NotFound, Ended, Stopped, GaveUp, Down}
 use Rattle.std.specs.List.Sorted.{IsNonDecreasing}
-use Rattle.sup_window.specs.Attempts.{greatest, keep_last}
-use Rattle.sup_window.proofs.SeenLemmas.{rises-push, greatest-push, keep_last-push, is_borne-keep_last}
+use Rattle.sup_window.specs.Attempts.{greatest, remembered}
+use Rattle.sup_window.specs.Laws.{rises-push, greatest-push, remembered-push, is_borne-remembered}
 use Rattle.sup_types.specs.Reason.{restarts_after}
 use Rattle.sup_types.specs.Status.{is_running}
 use Rattle.sup_core.specs.Rows.{has_number, runs_as, waits_as, argument_at, without, waiting_at}
@@ -431,11 +431,11 @@ pub account-push : (template : Template) (history : List Entry) (entry : Entry)
     → account template (history ++ entry ∷ []) ≡ account template history ++ item_of template (account template history) entry ∷ []
 account-push template history entry = fold_push (λ items entry. items ++ item_of template items entry ∷ []) [] history entry
 
--- the last attempts decide as all do
+-- the attempts that a window remembers decide as all do
 bears-trimmed : (template : Template) (items : List Item) (moment : ℕ) → IsSound items
     → bears (arrived (trimmed (standing template items)) moment) ≡ bears (arrived (standing template items) moment)
 bears-trimmed template items moment sound =
-    is_borne-keep_last template.intensity template.period (attempt_moments items) (max (latest_moment items) moment) sound.rising
+    is_borne-remembered template.intensity template.period (attempt_moments items) (max (latest_moment items) moment) sound.rising
 
 reply_up-trimmed : (template : Template) (items : List Item) (moment : ℕ) (operation : Operation) (answer : Answer) → IsSound items
     → reply_up (arrived (trimmed (standing template items)) moment) operation answer ≡ reply_up (arrived (standing template items) moment) operation answer
@@ -455,10 +455,10 @@ pub reply_to-trimmed : (template : Template) (items : List Item) (entry : Entry)
 reply_to-trimmed template items entry sound =
     ap (λ r. if is_down items then Down else r) (reply_up-trimmed template items entry.moment entry.operation entry.answer sound)
 
-trimmed_moments : (n : ℕ) (b : Bool) (ms : List ℕ) (at : ℕ) → 1 ≤ n
-    → keep_last n (cond b (ms ++ at ∷ []) ms) ≡ cond b (keep_last n (keep_last n ms ++ at ∷ [])) (keep_last n ms)
-trimmed_moments n true ms at some = sym (keep_last-push n ms at some)
-trimmed_moments n false ms at some = refl
+trimmed_moments : (n : ℕ) (b : Bool) (ms : List ℕ) (at : ℕ)
+    → remembered n (cond b (ms ++ at ∷ []) ms) ≡ cond b (remembered n (remembered n ms ++ at ∷ [])) (remembered n ms)
+trimmed_moments n true ms at = sym (remembered-push n ms at)
+trimmed_moments n false ms at = refl
 
 -- one more entry: the recount goes on as the state does
 pub standing-push : (template : Template) (items : List Item) (entry : Entry) → IsSound items
@@ -468,25 +468,25 @@ standing-push template items entry sound =
     let reply = reply_to s entry in
     let at = max (latest_moment items) entry.moment in
     let item = item_of template items entry in
-    let limit = template.intensity + 1 in
+    let limit = template.intensity in
     let state : List Row → ℕ → ℕ → List ℕ → Bool → ℕ → State =
     λ rows made latest attempts down steps.
     record { template = template; rows = rows; made = made; latest = latest; attempts = attempts; down = down; steps = steps } in
     let rows' = listed_rows (items ++ item ∷ []) in
     let made' = made_count (items ++ item ∷ []) in
     let latest' = latest_moment (items ++ item ∷ []) in
-    let moments' = keep_last limit (attempt_moments (items ++ item ∷ [])) in
+    let moments' = remembered limit (attempt_moments (items ++ item ∷ [])) in
     let down' = is_down (items ++ item ∷ []) in
     let steps' = length (items ++ item ∷ []) in
     let rows'' = rows_after (listed_rows items) entry.operation reply in
     let made'' : ℕ = if makes_child reply then made_count items + 1 else made_count items in
-    let moments'' : List ℕ = if is_attempt reply then keep_last limit (keep_last limit (attempt_moments items) ++ at ∷ []) else keep_last limit (attempt_moments items) in
+    let moments'' : List ℕ = if is_attempt reply then remembered limit (remembered limit (attempt_moments items) ++ at ∷ []) else remembered limit (attempt_moments items) in
     let down'' : Bool = is_down items || goes_down reply in
     ap (λ rows. state rows made' latest' moments' down' steps') (listed_rows-push items sound entry at reply (apt_reply s entry) (makes_up template items entry))
     ∙ ap (λ made. state rows'' made latest' moments' down' steps') (made_count-push items item)
     ∙ ap (λ latest. state rows'' made'' latest moments' down' steps') (latest_moment-push items item)
     ∙ ap (λ moments. state rows'' made'' at moments down' steps')
-    (ap (keep_last limit) (attempt_moments-push items item) ∙ trimmed_moments limit (is_attempt reply) (attempt_moments items) at (omega arith))
+    (ap (remembered limit) (attempt_moments-push items item) ∙ trimmed_moments limit (is_attempt reply) (attempt_moments items) at)
     ∙ ap (λ down. state rows'' made'' at moments'' down steps') (is_down-push items item)
     ∙ ap (λ steps. state rows'' made'' at moments'' down'' steps) (length-append items (item ∷ []))
     ∙ ap (λ r. changed (arrived (trimmed s) entry.moment) entry.operation r) (sym (reply_to-trimmed template items entry sound))

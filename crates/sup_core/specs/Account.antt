@@ -1,5 +1,5 @@
 -- The reference semantics of the supervisor of one thread: each reply is computed from the whole account of a history.
-use Rattle.std.specs.Prelude.{◌≡◌, ℕ, zero, suc, ◌+◌, ◌-◌, ◌==◌, List, [], ◌∷◌, ◌++◌, Bool, false, not, ◌||◌, length, map, filter, fold, count_by, max, slice_index_or, Option, Some, None, if◌then◌else◌}
+use Rattle.std.specs.Prelude.{◌≡◌, ℕ, zero, suc, ◌-◌, ◌==◌, List, [], ◌∷◌, ◌++◌, Bool, false, not, ◌||◌, length, map, filter, fold, count_by, max, slice_index_or, Option, Some, None, if◌then◌else◌}
 use Rattle.std.specs.List.{list_any}
 use Rattle.sup_types.specs.declared.text.Text.{Text}
 use Rattle.sup_types.specs.declared.template.Template.{Template}
@@ -14,7 +14,7 @@ use Rattle.sup_types.specs.declared.history.Reply.TheVariants.{Started, Removed,
 use Rattle.sup_core.specs.State.{State}
 use Rattle.sup_core.specs.Replies.{reply_to, asked_argument}
 use Rattle.sup_core.specs.Changes.{makes_child, is_attempt, goes_down, start_argument, is_end_of}
-use Rattle.sup_window.specs.Attempts.{keep_last}
+use Rattle.sup_window.specs.Attempts.{remembered}
 
 -- an entry, the moment at which it counts, and its reply
 pub record Item : Type 0 where
@@ -124,11 +124,11 @@ state_after template history = standing template (account template history)
 abbrev pub reply_after : Template → List Entry → Entry → Reply
 reply_after template history entry = reply_to (state_after template history) entry
 
--- the same with only the last attempts, one more than are allowed
+-- the same with the attempts alone that a window remembers
 abbrev pub trimmed : State → State
-trimmed s = record s { attempts = keep_last (s.template.intensity + 1) s.attempts }
+trimmed s = record s { attempts = remembered s.template.intensity s.attempts }
 
--- a supervisor's state is that after this history, of whose attempts it keeps the last
+-- a supervisor's state is that after this history, of whose attempts it has those that its window remembers
 pub record IsAfter (s : State) (history : List Entry) : Type 0 where
   pub state : s ≡ trimmed (state_after s.template history)
 

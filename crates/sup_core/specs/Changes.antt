@@ -8,7 +8,7 @@ use Rattle.sup_types.specs.declared.history.Operation.TheVariants.{Start, Termin
 use Rattle.sup_types.specs.declared.history.Entry.{Entry}
 use Rattle.sup_types.specs.declared.history.Reply.{Reply}
 use Rattle.sup_types.specs.declared.history.Reply.TheVariants.{Started, Removed, ShutDown, Restarted, Restarting, Ignored, Ended, Stopped, GaveUp}
-use Rattle.sup_window.specs.Attempts.{keep_last}
+use Rattle.sup_window.specs.Attempts.{remembered}
 use Rattle.sup_core.specs.Rows.{argument_at, without, waiting_at}
 use Rattle.sup_core.specs.State.{State, arrived}
 use Rattle.sup_core.specs.Replies.{reply_to}
@@ -64,8 +64,7 @@ rows_after rows operation Stopped = []
 rows_after rows operation GaveUp = []
 rows_after rows operation _ = rows
 
--- the state after an operation that has arrived and had this reply. Of the attempts it keeps the last, one more
--- than are allowed
+-- the state after an operation that has arrived and had this reply. Of the attempts it has those that its window remembers
 abbrev pub changed : State → Operation → Reply → State
 changed s operation reply =
     record {
@@ -73,7 +72,7 @@ changed s operation reply =
       rows = rows_after s.rows operation reply;
       made = if makes_child reply then s.made + 1 else s.made;
       latest = s.latest;
-      attempts = if is_attempt reply then keep_last (s.template.intensity + 1) (s.attempts ++ s.latest ∷ []) else s.attempts;
+      attempts = if is_attempt reply then remembered s.template.intensity (s.attempts ++ s.latest ∷ []) else s.attempts;
       down = s.down || goes_down reply;
       steps = s.steps;
     }

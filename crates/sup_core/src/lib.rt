@@ -7,26 +7,31 @@
 //! with the entry; every query answers as the reference semantics does. A step needs no memory, and is never refused while
 //! the history is not full: the supervisor makes room at first for all that its template allows.
 //!
-//! The supervisor asks no start function. Its caller asks, where [`Sup::wants_answer`] says so, and hands the answer in with
-//! the entry. It reads no clock: the caller gives the moment, too.
+//! The supervisor asks no start function. Its caller asks, where [`Sup::asks`] says so, and hands the answer in with the entry.
+//! It reads no clock: the caller gives the moment, too. [`Sup::step_asked`] goes on from what `asks` found, so a restart takes
+//! one look-up; [`Sup::step`] looks for itself, as for an entry of a history.
 //!
 //! ```text
 //! let mut sup = Sup::new(alloc, template)?;
-//! let answer = match sup.wants_answer(&operation, moment) {
-//!     Some(arg) => starter.start(&arg, moment),
+//! let asked = sup.asks(&operation, moment);
+//! let answer = match &asked.arg {
+//!     Some(arg) => starter.start(arg, moment),
 //!     None => Answer::Ignore,
 //! };
-//! let reply = sup.step(&Entry { handle: 0, serial: sup.stamp(), moment, operation, answer });
+//! let entry = Entry { handle: 0, serial: sup.stamp(), moment, operation, answer };
+//! let reply = sup.step_asked(&entry, &asked);
 //! ```
 //!
-//! `supervisor` has the supervisor, `table` its rows by their numbers, `child` what is kept of one, and `near` the hash by
-//! which rows are found.
+//! `supervisor` has the supervisor, `asked` what it asks of its caller, `table` its rows by their numbers, `child` what is kept
+//! of one, and `near` the hash by which rows are found.
 #![tactic(auto)]
 
+mod asked;
 mod child;
 mod near;
 mod supervisor;
 mod table;
 
+pub use asked::Asked;
 pub use near::Near;
 pub use supervisor::Sup;

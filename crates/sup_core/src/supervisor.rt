@@ -1,12 +1,12 @@
 //! The supervisor: its entries and its queries.
 //!
 //! Some public functions only call a private one: `counts` calls `count`, `child` calls `find`, `rows` calls `copied`,
-//! `wants_answer` calls `asked_argument` and `step` calls `advance`. The private one is proved of the supervisor's state,
+//! `wants_answer` and `asks` call `asked_argument`, and `step` and `step_asked` call `advance`. The private one is proved of the supervisor's state,
 //! by its code. The public one is proved from that of the whole history, by lemmas on the reference semantics. So no proof
 //! walks through code and history at once.
 ghost use Rattle.std.specs.Prelude.{◌≡◌, ◌==◌, ◌<◌, ◌≤◌, ℕ, ◌+◌, List, [], ◌∷◌, ◌++◌, IsTrue, IfOk, IsOk, ◌⊎◌, MatchOption, false, true, length, if◌then◌else◌};
 ghost use Rattle.std.specs.List.{list_any};
-ghost use Rattle.sup_window.specs.Attempts.{keep_last};
+ghost use Rattle.sup_window.specs.Attempts.{remembered};
 ghost use Rattle.sup_types.specs.declared.history.Entry.{Entry};
 ghost use Rattle.sup_types.specs.declared.history.Operation.{Operation};
 ghost use Rattle.sup_types.specs.declared.history.Answer.{Answer};
@@ -17,6 +17,7 @@ ghost use Rattle.sup_core.specs.Changes.{running, changed, next_state};
 ghost use Rattle.sup_core.specs.Account.{IsAfter, reply_after, state_after, account, is_down};
 ghost use Rattle.sup_core.specs.Queries.{which, count, child};
 
+use crate::asked::{Asked, NO_PLACE};
 use crate::table::Table;
 use std::alloc::{Allocator, Global};
 use std::marker::Model;
@@ -172,44 +173,56 @@ impl<A: Allocator + Copy> Sup<A> {
         ensures history { (history : List Entry) → IsAfter self.now history
             → result ≡ asked_argument (state_after self.now.template history) operation.now moment }
     {
+        self.asked_argument(operation, moment).arg
+    }
+
+    /// What an entry with this operation and moment asks: the argument whose start decides the reply, if there is one. The
+    /// entry with the answer is then entered by [`Sup::step_asked`], which does not look for the child again.
+    pub fn asks(&self, operation: &Operation, moment: u64) -> Asked
+        ensures value { result.arg ≡ asked_argument self.now operation.now moment }
+        ensures history { (history : List Entry) → IsAfter self.now history
+            → result.arg ≡ asked_argument (state_after self.now.template history) operation.now moment }
+    {
         self.asked_argument(operation, moment)
     }
 
-    fn asked_argument(&self, operation: &Operation, moment: u64) -> Option<Text>
-        ensures { result ≡ asked_argument self.now operation.now moment }
+    fn asked_argument(&self, operation: &Operation, moment: u64) -> Asked
+        ensures { result.arg ≡ asked_argument self.now operation.now moment }
     {
         if self.down {
-            return None;
+            return Asked::nothing();
         }
         match operation {
             Operation::Start(arg) => {
                 if self.is_full() {
-                    return None;
+                    return Asked::nothing();
                 }
-                Some(*arg)
+                Asked::new(Some(*arg), NO_PLACE)
             }
             Operation::Exit(number, reason) => {
                 if !self.template.restart.restarts_after(reason) {
-                    return None;
+                    return Asked::nothing();
                 }
                 self.asked_again(Status::Running, *number, moment)
             }
             Operation::Retry(number) => self.asked_again(Status::Restarting, *number, moment),
-            Operation::Terminate(_) | Operation::Stop => None,
+            Operation::Terminate(_) | Operation::Stop => Asked::nothing(),
         }
     }
 
     /// The argument of the listed child with this number and status, if one more attempt is allowed.
-    fn asked_again(&self, status: Status, number: u64, moment: u64) -> Option<Text>
-        ensures { result ≡ if list_any (stands_as status number) self.now.rows then asked_again (arrived self.now moment) number else None }
+    fn asked_again(&self, status: Status, number: u64, moment: u64) -> Asked
+        ensures { result.arg ≡ if list_any (stands_as status number) self.now.rows then asked_again (arrived self.now moment) number else None }
     {
         if !self.window.would_allow(self.latest.max(moment)) {
-            return None;
+            return Asked::nothing();
         }
-        self.table.argument_as(status, number)
+        self.table.asked_of(status, number)
     }
 
     /// Enters the next entry of the history, and answers the reply to it.
+    ///
+    /// Where the start function was asked for this entry, [`Sup::step_asked`] takes a look-up less.
     pub fn step(&mut self, entry: &Entry) -> Reply
         requires { self.old.steps < self.old.template.entries }
         ensures reply { result ≡ reply_to self.old entry.now }
@@ -219,10 +232,22 @@ impl<A: Allocator + Copy> Sup<A> {
         ensures history { (history : List Entry) → IsAfter self.old history
             → (result ≡ reply_after self.old.template history entry.now) × IsAfter self.new (history ++ entry.now ∷ []) }
     {
-        self.advance(entry)
+        self.advance(entry, NO_PLACE)
     }
 
-    fn advance(&mut self, entry: &Entry) -> Reply
+    /// Enters an entry as [`Sup::step`] does, for which [`Sup::asks`] was called before. The child is looked for where that found it, and by
+    /// its number only if it stands there no more. So the reply is right whatever was asked.
+    pub fn step_asked(&mut self, entry: &Entry, asked: &Asked) -> Reply
+        requires { self.old.steps < self.old.template.entries }
+        ensures reply { result ≡ reply_to self.old entry.now }
+        ensures next { self.new ≡ next_state self.old entry.now }
+        ensures history { (history : List Entry) → IsAfter self.old history
+            → (result ≡ reply_after self.old.template history entry.now) × IsAfter self.new (history ++ entry.now ∷ []) }
+    {
+        self.advance(entry, asked.place())
+    }
+
+    fn advance(&mut self, entry: &Entry, place: usize) -> Reply
         requires { self.old.steps < self.old.template.entries }
         ensures reply { result ≡ reply_to self.old entry.now }
         ensures next { self.new ≡ next_state self.old entry.now }
@@ -231,10 +256,11 @@ impl<A: Allocator + Copy> Sup<A> {
         if self.is_down() {
             return Reply::Down;
         }
-        self.perform(&entry.operation, entry.answer)
+        self.perform(&entry.operation, entry.answer, place)
     }
 
-    fn perform(&mut self, operation: &Operation, answer: Answer) -> Reply
+    /// `place` is where the operation's child may have been found.
+    fn perform(&mut self, operation: &Operation, answer: Answer, place: usize) -> Reply
         requires up { self.old.down ≡ false }
         requires room { self.old.made < self.old.steps }
         ensures reply { result ≡ reply_up self.old operation.now answer }
@@ -242,8 +268,8 @@ impl<A: Allocator + Copy> Sup<A> {
     {
         match operation {
             Operation::Start(arg) => self.start(arg, answer),
-            Operation::Exit(number, reason) => self.exit(*number, reason, answer),
-            Operation::Retry(number) => self.retry(*number, answer),
+            Operation::Exit(number, reason) => self.exit(*number, reason, answer, place),
+            Operation::Retry(number) => self.retry(*number, answer, place),
             Operation::Terminate(number) => self.terminate(*number),
             Operation::Stop => self.stop(),
         }
@@ -274,7 +300,7 @@ impl<A: Allocator + Copy> Sup<A> {
         }
     }
 
-    fn exit(&mut self, number: u64, reason: &Reason, answer: Answer) -> Reply
+    fn exit(&mut self, number: u64, reason: &Reason, answer: Answer, place: usize) -> Reply
         requires up { self.old.down ≡ false }
         requires room { self.old.made < self.old.steps }
         ensures reply { result ≡ reply_up self.old (Operation.Exit number reason.now) answer }
@@ -283,7 +309,7 @@ impl<A: Allocator + Copy> Sup<A> {
         if !self.template.restart.restarts_after(reason) {
             return self.let_go(number);
         }
-        match self.restart(Status::Running, number, answer) {
+        match self.restart(Status::Running, number, answer, place) {
             Some(reply) => reply,
             None => Reply::Stray(number),
         }
@@ -295,7 +321,11 @@ impl<A: Allocator + Copy> Sup<A> {
         ensures reply { result ≡ if list_any (runs_as number) self.old.rows then let_go self.old number else Reply.Stray number }
         ensures next { (operation : Operation) → self.new ≡ changed self.old operation result }
     {
-        if self.table.take_as(Status::Running, number).is_none() {
+        if self
+            .table
+            .take_as(Status::Running, number, NO_PLACE)
+            .is_none()
+        {
             return Reply::Stray(number);
         }
         if !self.shuts_down() {
@@ -317,13 +347,13 @@ impl<A: Allocator + Copy> Sup<A> {
             }
     }
 
-    fn retry(&mut self, number: u64, answer: Answer) -> Reply
+    fn retry(&mut self, number: u64, answer: Answer, place: usize) -> Reply
         requires up { self.old.down ≡ false }
         requires room { self.old.made < self.old.steps }
         ensures reply { result ≡ reply_up self.old (Operation.Retry number) answer }
         ensures next { self.new ≡ changed self.old (Operation.Retry number) result }
     {
-        match self.restart(Status::Restarting, number, answer) {
+        match self.restart(Status::Restarting, number, answer, place) {
             Some(reply) => reply,
             None => Reply::NotFound,
         }
@@ -351,7 +381,13 @@ impl<A: Allocator + Copy> Sup<A> {
     }
 
     /// An attempt to restart the listed child with this number and status, if there is one.
-    fn restart(&mut self, status: Status, number: u64, answer: Answer) -> Option<Reply>
+    fn restart(
+        &mut self,
+        status: Status,
+        number: u64,
+        answer: Answer,
+        place: usize,
+    ) -> Option<Reply>
         requires up { self.old.down ≡ false }
         requires room { self.old.made < self.old.steps }
         ensures { MatchOption result
@@ -360,14 +396,14 @@ impl<A: Allocator + Copy> Sup<A> {
             × ((operation : Operation) → self.new ≡ changed self.old operation reply)) }
     {
         match answer {
-            Answer::Running => self.replace(status, number),
-            Answer::Ignore => self.drop_out(status, number),
-            Answer::Failed(code) => self.keep_waiting(status, number, code),
+            Answer::Running => self.replace(status, number, place),
+            Answer::Ignore => self.drop_out(status, number, place),
+            Answer::Failed(code) => self.keep_waiting(status, number, code, place),
         }
     }
 
     /// The restart was answered `Running`.
-    fn replace(&mut self, status: Status, number: u64) -> Option<Reply>
+    fn replace(&mut self, status: Status, number: u64, place: usize) -> Option<Reply>
         requires up { self.old.down ≡ false }
         requires room { self.old.made < self.old.steps }
         ensures { MatchOption result
@@ -375,7 +411,7 @@ impl<A: Allocator + Copy> Sup<A> {
             (λ reply. (list_any (stands_as status number) self.old.rows ≡ true) × (reply ≡ attempted self.old number Answer.Running)
             × ((operation : Operation) → self.new ≡ changed self.old operation reply)) }
     {
-        let arg = self.table.take_as(status, number)?;
+        let arg = self.table.take_as(status, number, place)?;
         if !self.note_attempt() {
             return Some(self.give_up());
         }
@@ -383,14 +419,14 @@ impl<A: Allocator + Copy> Sup<A> {
     }
 
     /// The restart was answered `Ignore`.
-    fn drop_out(&mut self, status: Status, number: u64) -> Option<Reply>
+    fn drop_out(&mut self, status: Status, number: u64, place: usize) -> Option<Reply>
         requires { self.old.down ≡ false }
         ensures { MatchOption result
             ((list_any (stands_as status number) self.old.rows ≡ false) × (self.new ≡ self.old))
             (λ reply. (list_any (stands_as status number) self.old.rows ≡ true) × (reply ≡ attempted self.old number Answer.Ignore)
             × ((operation : Operation) → self.new ≡ changed self.old operation reply)) }
     {
-        self.table.take_as(status, number)?;
+        self.table.take_as(status, number, place)?;
         if !self.note_attempt() {
             return Some(self.give_up());
         }
@@ -398,14 +434,20 @@ impl<A: Allocator + Copy> Sup<A> {
     }
 
     /// The restart failed with this code.
-    fn keep_waiting(&mut self, status: Status, number: u64, code: u32) -> Option<Reply>
+    fn keep_waiting(
+        &mut self,
+        status: Status,
+        number: u64,
+        code: u32,
+        place: usize,
+    ) -> Option<Reply>
         requires { self.old.down ≡ false }
         ensures { MatchOption result
             ((list_any (stands_as status number) self.old.rows ≡ false) × (self.new ≡ self.old))
             (λ reply. (list_any (stands_as status number) self.old.rows ≡ true) × (reply ≡ attempted self.old number (Answer.Failed code))
             × ((operation : Operation) → self.new ≡ changed self.old operation reply)) }
     {
-        if !self.table.wait_as(status, number) {
+        if !self.table.wait_as(status, number, place) {
             return None;
         }
         if !self.note_attempt() {
@@ -426,7 +468,7 @@ impl<A: Allocator + Copy> Sup<A> {
     /// Notes an attempt at the latest moment, and answers whether it is allowed.
     fn note_attempt(&mut self) -> bool
         ensures value { result ≡ bears self.old }
-        ensures next { self.new ≡ record self.old { attempts = keep_last (self.old.template.intensity + 1) (self.old.attempts ++ self.old.latest ∷ []) } }
+        ensures next { self.new ≡ record self.old { attempts = remembered self.old.template.intensity (self.old.attempts ++ self.old.latest ∷ []) } }
     {
         self.window.attempt(self.latest)
     }

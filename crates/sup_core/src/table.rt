@@ -5,17 +5,18 @@
 //! back as they come. Where all places are used, or clearly more than half of them are empty, the listed children move to the
 //! front in their order, and the places behind them are given back. That needs no memory, and leaves where they are those in
 //! front of the first empty place.
-ghost use Rattle.std.specs.Prelude.{true, false, ◌≡◌, ◌≤◌, ◌<◌, ◌+◌, ◌-◌, ◌*◌, ◌^◌, ℕ, List, [], ◌∷◌, ◌++◌, IfOk, None, Some, map, length, nat_eq, is_some, slice_index_or, take, MatchBool, MatchOption, IsOk, IsSome, if◌then◌else◌};
+ghost use Rattle.std.specs.Prelude.{true, false, ◌≡◌, ◌≤◌, ◌<◌, ◌+◌, ◌-◌, ◌*◌, ◌^◌, ℕ, List, [], ◌∷◌, ◌++◌, IfOk, None, Some, map, length, nat_eq, is_some, slice_index_or, take, MatchBool, MatchOption, IsOk, IsSome, IfSome, IfNone, slice_get, if◌then◌else◌};
 ghost use Rattle.std.specs.List.{list_any, cons_option};
 ghost use Rattle.std.specs.Option.{option_copied, option_map, option_map_or};
 ghost use Rattle.std.specs.Map.{set_value};
 ghost use Rattle.sup_types.specs.Status.{is_running};
 ghost use Rattle.std.specs.Vec.{vec_len, vec_capacity};
-ghost use Rattle.indexmap.specs.IndexMap.{get, index_map_len, spare, IsUnique};
+ghost use Rattle.indexmap.specs.IndexMap.{get, keys, index_map_len, spare, IsUnique};
 ghost use Rattle.sup_core.specs.Rows.{has_number, stands_as, row_at, argument_at, without, waiting_at};
 ghost use Rattle.sup_core.specs.Changes.{running};
 ghost use Rattle.sup_core.specs.Children.{Listed, listed, place_of, place_row, running_count, one_if, found, taken_of, left_of, waiting_of};
 
+use crate::asked::Asked;
 use crate::child::Child;
 use crate::near::Near;
 use indexmap::IndexMap;
@@ -96,13 +97,13 @@ impl<A: Allocator + Copy> Table<A> {
         }
     }
 
-    /// The argument of the row with this number, if it has this status.
-    pub(crate) fn argument_as(&self, status: Status, number: u64) -> Option<Text>
-        ensures { result ≡ if list_any (stands_as status number) self.now.rows then Some (argument_at number self.now.rows) else None }
+    /// The argument of the row with this number, if it has this status, and the place where it was found.
+    pub(crate) fn asked_of(&self, status: Status, number: u64) -> Asked
+        ensures { result.arg ≡ if list_any (stands_as status number) self.now.rows then Some (argument_at number self.now.rows) else None }
     {
-        match child_at(&self.places, number) {
-            Some(child) => child.argument_as(status),
-            None => None,
+        match found_at(&self.places, number) {
+            Some((place, child)) => Asked::new(child.argument_as(status), place),
+            None => Asked::nothing(),
         }
     }
 
@@ -146,28 +147,30 @@ impl<A: Allocator + Copy> Table<A> {
         true
     }
 
-    /// Takes the row with this number out, if it has this status, and answers its argument.
-    pub(crate) fn take_as(&mut self, status: Status, number: u64) -> Option<Text>
+    /// Takes the row with this number out, if it has this status, and answers its argument. `place` is where it may have been
+    /// found.
+    pub(crate) fn take_as(&mut self, status: Status, number: u64, place: usize) -> Option<Text>
         ensures taken { MatchOption result
             ((list_any (stands_as status number) self.old.rows ≡ false) × (self.new ≡ self.old))
             (λ arg. (list_any (stands_as status number) self.old.rows ≡ true) × (arg ≡ argument_at number self.old.rows)
             × (self.new ≡ record self.old { rows = without number self.old.rows })) }
         ensures room { IsSome result → length self.new.rows < self.old.max }
     {
-        let child = take_child_as(&mut self.places, number, status)?;
+        let child = take_child_as(&mut self.places, number, status, place)?;
         trim(&mut self.places, self.max as usize);
         self.live -= 1;
         self.running -= one_if(child.is_running());
         Some(child.arg)
     }
 
-    /// The row with this number waits for another try, if it has this status. The answer is whether it has.
-    pub(crate) fn wait_as(&mut self, status: Status, number: u64) -> bool
+    /// The row with this number waits for another try, if it has this status. The answer is whether it has. `place` is where
+    /// it may have been found.
+    pub(crate) fn wait_as(&mut self, status: Status, number: u64, place: usize) -> bool
         ensures { MatchBool result
             ((list_any (stands_as status number) self.old.rows ≡ true) × (self.new ≡ record self.old { rows = map (waiting_at number) self.old.rows }))
             ((list_any (stands_as status number) self.old.rows ≡ false) × (self.new ≡ self.old)) }
     {
-        if !let_wait(&mut self.places, number, status) {
+        if !let_wait(&mut self.places, number, status, place) {
             return false;
         }
         self.running -= one_if(status.is_running());
@@ -215,6 +218,40 @@ fn child_at<A: Allocator>(places: &Places<A>, number: u64) -> Option<&Child>
     }
 }
 
+/// The child of this number, and the index of its place.
+fn found_at<A: Allocator>(places: &Places<A>, number: u64) -> Option<(usize, &Child)>
+    ensures { option_map (λ p. p.1.now) result ≡ found (get nat_eq places.now number) }
+{
+    match places.get_full(&number) {
+        Some((index, _, Some(child))) => Some((index, child)),
+        _ => None,
+    }
+}
+
+/// The index of this number's place, if it has one. It is looked for by the number only where it does not stand at `place`.
+fn index_of<A: Allocator>(places: &Places<A>, number: u64, place: usize) -> Option<usize>
+    ensures absent { IfNone result (get nat_eq places.now number ≡ None) }
+    ensures there { IfSome result (λ i. slice_get (keys places.now) i ≡ Some number) }
+{
+    if stands_at(places, number, place) {
+        return Some(place);
+    }
+    match places.get_full(&number) {
+        Some((index, _, _)) => Some(index),
+        None => None,
+    }
+}
+
+/// Whether this number's place is at this index.
+fn stands_at<A: Allocator>(places: &Places<A>, number: u64, index: usize) -> bool
+    ensures { result ≡ true → slice_get (keys places.now) index ≡ Some number }
+{
+    match places.get_index(index) {
+        Some((there, _)) => *there == number,
+        None => false,
+    }
+}
+
 /// Empties the place of this number, and answers the child that was there.
 fn take_child<A: Allocator>(places: &mut Places<A>, number: u64) -> Option<Child>
     ensures value { result ≡ found (get nat_eq places.old number) }
@@ -231,7 +268,13 @@ fn take_child<A: Allocator>(places: &mut Places<A>, number: u64) -> Option<Child
 }
 
 /// Empties the place of this number, if a child of this status is there, and answers that child.
-fn take_child_as<A: Allocator>(places: &mut Places<A>, number: u64, status: Status) -> Option<Child>
+fn take_child_as<A: Allocator>(
+    places: &mut Places<A>,
+    number: u64,
+    status: Status,
+    place: usize,
+) -> Option<Child>
+    requires { IsUnique nat_eq places.old }
     ensures value { result ≡ taken_of status (found (get nat_eq places.old number)) }
     ensures entries { places.new.entries ≡ set_value (nat_eq number) places.old.entries (left_of status (found (get nat_eq places.old number))) }
     ensures absent { (other : ℕ) → get nat_eq places.old other ≡ None → get nat_eq places.new other ≡ None }
@@ -239,7 +282,29 @@ fn take_child_as<A: Allocator>(places: &mut Places<A>, number: u64, status: Stat
     ensures spare { spare places.new ≡ spare places.old }
     ensures unique { IsUnique nat_eq places.new }
 {
-    match places.get_mut(&number) {
+    match index_of(places, number, place) {
+        Some(index) => take_at(places, index, number, status),
+        None => None,
+    }
+}
+
+/// The same at an index where this number stands.
+fn take_at<A: Allocator>(
+    places: &mut Places<A>,
+    index: usize,
+    number: u64,
+    status: Status,
+) -> Option<Child>
+    requires unique { IsUnique nat_eq places.old }
+    requires there { slice_get (keys places.old) index ≡ Some number }
+    ensures value { result ≡ taken_of status (found (get nat_eq places.old number)) }
+    ensures entries { places.new.entries ≡ set_value (nat_eq number) places.old.entries (left_of status (found (get nat_eq places.old number))) }
+    ensures absent { (other : ℕ) → get nat_eq places.old other ≡ None → get nat_eq places.new other ≡ None }
+    ensures len { index_map_len places.new ≡ index_map_len places.old }
+    ensures spare { spare places.new ≡ spare places.old }
+    ensures unique { IsUnique nat_eq places.new }
+{
+    match places.get_index_mut(index) {
         Some(place) => place_gives(place, status),
         None => None,
     }
@@ -256,7 +321,8 @@ fn place_gives(place: &mut Option<Child>, status: Status) -> Option<Child>
 }
 
 /// Lets the child of this number wait for another try, if it has this status, and answers whether it has.
-fn let_wait<A: Allocator>(places: &mut Places<A>, number: u64, status: Status) -> bool
+fn let_wait<A: Allocator>(places: &mut Places<A>, number: u64, status: Status, place: usize) -> bool
+    requires { IsUnique nat_eq places.old }
     ensures value { result ≡ is_some (taken_of status (found (get nat_eq places.old number))) }
     ensures entries { places.new.entries ≡ set_value (nat_eq number) places.old.entries (waiting_of status (found (get nat_eq places.old number))) }
     ensures absent { (other : ℕ) → get nat_eq places.old other ≡ None → get nat_eq places.new other ≡ None }
@@ -264,7 +330,24 @@ fn let_wait<A: Allocator>(places: &mut Places<A>, number: u64, status: Status) -
     ensures spare { spare places.new ≡ spare places.old }
     ensures unique { IsUnique nat_eq places.new }
 {
-    match places.get_mut(&number) {
+    match index_of(places, number, place) {
+        Some(index) => wait_at(places, index, number, status),
+        None => false,
+    }
+}
+
+/// The same at an index where this number stands.
+fn wait_at<A: Allocator>(places: &mut Places<A>, index: usize, number: u64, status: Status) -> bool
+    requires unique { IsUnique nat_eq places.old }
+    requires there { slice_get (keys places.old) index ≡ Some number }
+    ensures value { result ≡ is_some (taken_of status (found (get nat_eq places.old number))) }
+    ensures entries { places.new.entries ≡ set_value (nat_eq number) places.old.entries (waiting_of status (found (get nat_eq places.old number))) }
+    ensures absent { (other : ℕ) → get nat_eq places.old other ≡ None → get nat_eq places.new other ≡ None }
+    ensures len { index_map_len places.new ≡ index_map_len places.old }
+    ensures spare { spare places.new ≡ spare places.old }
+    ensures unique { IsUnique nat_eq places.new }
+{
+    match places.get_index_mut(index) {
         Some(place) => place_waits(place, status),
         None => false,
     }

@@ -22,7 +22,12 @@ greatest moments = fold max 0 moments
 abbrev pub keep_last : {X : Type 0} → ℕ → List X → List X
 keep_last n xs = drop (length xs - n) xs
 
--- what a window keeps: its two numbers, the greatest moment of an attempt, and the moments of the last attempts
+-- the attempts that a window of this intensity still knows of, once it saw these. Which they are is the window's own affair:
+-- other crates know them by the laws of `Laws` alone
+unfoldable pub remembered : ℕ → List ℕ → List ℕ
+remembered intensity attempts = keep_last (intensity + 1) attempts
+
+-- what a window keeps: its two numbers, the greatest moment of an attempt, and the moments of those that it remembers
 pub record Recent : Type 0 where
   pub intensity : ℕ
   pub period : ℕ
@@ -33,7 +38,7 @@ pub record Recent : Type 0 where
 pub record HasSeen (window : Recent) (attempts : List ℕ) : Type 0 where
   pub rising : IsNonDecreasing attempts
   pub latest : window.latest ≡ greatest attempts
-  pub kept : window.moments ≡ keep_last (window.intensity + 1) attempts
+  pub kept : window.moments ≡ remembered window.intensity attempts
 
 -- the window once it has seen one more attempt
 abbrev pub with_attempt : Recent → ℕ → Recent
@@ -43,7 +48,7 @@ with_attempt window moment =
       intensity = window.intensity;
       period = window.period;
       latest = at;
-      moments = keep_last (window.intensity + 1) (window.moments ++ at ∷ []);
+      moments = remembered window.intensity (window.moments ++ at ∷ []);
     }
 
 -- whether a moment still counts; where there is none it is that of the attempt itself

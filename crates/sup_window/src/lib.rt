@@ -3,8 +3,9 @@
 //!
 //! What the layer above may rely on: an attempt is allowed exactly where the attempts that count at its moment, itself
 //! included, are at most the intensity. An attempt made at moment `m` counts at moment `t` where `t <= m + period`.
-//! The window decides as counting over all attempts ever made would, and keeps only the last of them, one more than
-//! are allowed. After it is made it takes no memory.
+//! The window decides as counting over all attempts ever made would (`HasSeen`), and keeps only the last of them, one more
+//! than are allowed. Which it keeps no other crate knows: `laws` says that those decide as all do (`remembered`). After it is
+//! made it takes no memory.
 //!
 //! ```text
 //! let mut window = Window::new(alloc, 1, 5)?;
@@ -18,6 +19,7 @@ ghost use Rattle.std.specs.Prelude.{◌≡◌, ◌≤◌, ℕ, ◌+◌, List, []
 ghost use Rattle.circular_buffer.specs.Buffer.{buffer};
 ghost use Rattle.sup_window.specs.Attempts.{HasSeen, is_borne, with_attempt, still_counts, greatest, keep_last, front_counts, counts_at};
 
+pub mod laws;
 #[cfg(test)]
 mod tests;
 
@@ -57,6 +59,7 @@ fn still_counts(period: u64, at: u64, made_at: u64) -> bool
 impl<A: Allocator> Window<A> {
     /// A window that has seen no attempt, and allows this many within this many seconds. The intensity is at most 1000.
     /// It makes room for all that it will keep, and is refused only for want of memory.
+    #[tactic(auto, unfolding(crate::specs::Attempts::remembered))]
     pub fn new(alloc: A, intensity: u64, period: u64) -> Result<Self, OutOfMemory>
         requires { intensity ≤ 1000 }
         ensures { IfOk result (λ w. HasSeen w [] × (w.intensity ≡ intensity) × (w.period ≡ period)) }
@@ -107,6 +110,7 @@ impl<A: Allocator> Window<A> {
     }
 
     // Once it is noted, an attempt is allowed where the ring is not full, or its oldest moment counts no more.
+    #[tactic(auto, unfolding(crate::specs::Attempts::remembered))]
     fn note(&mut self, moment: u64) -> bool
         ensures value { result ≡ is_borne self.old.intensity self.old.period self.old.moments (max self.old.latest moment) }
         ensures next { self.new ≡ with_attempt self.old moment }

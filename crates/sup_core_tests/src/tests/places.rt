@@ -1,11 +1,11 @@
 //! The rows in their order, and the memory that they take.
-use super::{Deed, enter, made, template};
+use super::{Deed, enter, made, operation, template, text};
 use linked_list_allocator::LocalHeap;
 use std::alloc::Allocator;
 use std::process::Abort;
 use std::test::Fail;
 use sup_core::Sup;
-use sup_types::{Answer, AutoShutdown, Kind, OutOfMemory, Reply, Restart, Seen};
+use sup_types::{Answer, AutoShutdown, Entry, Kind, OutOfMemory, Reply, Restart, Seen};
 
 /// The rows have these numbers.
 fn are_listed<A: Allocator + Copy>(
@@ -59,6 +59,48 @@ fn the_places_of_ended_children_are_given_back(rt: HostRuntime) -> Result<(), Fa
         }
     }
     are_listed(&rt, &sup, &[1])
+}
+
+/// The reply to the end of child 2 that is asked about, and then entered once these children ended and those began.
+fn restarted_late<A: Allocator + Copy>(
+    rt: &impl Abort,
+    sup: &mut Sup<A>,
+    comings: &[(u64, u8)],
+) -> Reply {
+    let crash = operation(rt, Deed::Crash(2));
+    let asked = sup.asks(&crash, 0);
+    assert!(rt; asked.arg == Some(text(rt, b"b")));
+    for (ended, arg) in comings {
+        enter(rt, sup, 0, Deed::Terminate(*ended), Answer::Ignore);
+        enter(rt, sup, 0, Deed::Start(*arg), Answer::Running);
+    }
+    assert!(rt; !sup.is_spent());
+    let entry = Entry {
+        handle: 0,
+        serial: sup.stamp(),
+        moment: 0,
+        operation: crash,
+        answer: Answer::Running,
+    };
+    sup.step_asked(&entry, &asked)
+}
+
+/// The child is where it was found, or in the last case in the place of another, which stands in its own.
+#[test]
+fn a_child_that_was_found_is_restarted_wherever_it_stands(rt: HostRuntime) -> Result<(), Fail> {
+    let moves = [(1, b'd'), (3, b'e'), (4, b'f'), (5, b'g')];
+    for (comings, rows) in [(0, [1, 3, 4].as_slice()), (2, &[4, 5, 6]), (4, &[6, 7, 8])] {
+        let mut sup = made(rt.alloc(), Restart::Permanent, (1, 5, 3))?;
+        for arg in [b'a', b'b', b'c'] {
+            enter(&rt, &mut sup, 0, Deed::Start(arg), Answer::Running);
+        }
+        let next = 4 + comings as u64;
+        let reply = restarted_late(&rt, &mut sup, &moves[..comings]);
+        assert!(rt; reply == Reply::Restarted(2, next));
+        are_listed(&rt, &sup, rows)?;
+        assert!(rt; matches!(sup.child(next), Seen::Up(Some(row)) if row.arg == text(&rt, b"b")));
+    }
+    Ok(())
 }
 
 /// Whether the rows were copied. A supervisor that is refused them is as before.

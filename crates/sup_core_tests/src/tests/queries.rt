@@ -76,14 +76,14 @@ fn children_are_counted(rt: HostRuntime) -> Result<(), Fail> {
 /// The start function is asked of these alone, and of the byte `a`.
 fn is_asked_of<A: Allocator + Copy>(rt: &impl Abort, sup: &Sup<A>, moment: u64, asked: &[Deed]) {
     for deed in asked {
-        let wanted = sup.wants_answer(&operation(rt, *deed), moment);
+        let wanted = sup.asks(&operation(rt, *deed), moment).arg;
         assert!(rt; wanted == Some(text(rt, b"a")));
     }
 }
 
 fn is_not_asked_of<A: Allocator + Copy>(rt: &impl Abort, sup: &Sup<A>, moment: u64, not: &[Deed]) {
     for deed in not {
-        let wanted = sup.wants_answer(&operation(rt, *deed), moment);
+        let wanted = sup.asks(&operation(rt, *deed), moment).arg;
         assert!(rt; wanted.is_none());
     }
 }

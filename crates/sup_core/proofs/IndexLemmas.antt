@@ -1,0 +1,73 @@
+-- A number that stands at an index of the places, and what a write there does.
+use Rattle.std.proofs.Common.{◌≡◌, ℕ, zero, suc, inl, inr, List, [], ◌∷◌, true, false, ◌∙◌, sym, ap}
+use Rattle.std.specs.Prelude.{◌==◌, nat_eq, Option, Some, None, slice_get, unwrap_or}
+use Rattle.std.specs.List.{IsDistinct, AllByRecursion}
+use Rattle.std.specs.Option.{option_map, option_map_or}
+use Rattle.std.specs.Map.{keys_of, values_of, lookup, lookup_key, set_value}
+use Rattle.indexmap.specs.IndexMap.{set_value_at}
+use Rattle.std.proofs.lemmas.Bool.{cases_Bool, cond-true, cond-false, eqb-true, eq-eqb}
+use Rattle.std.proofs.lemmas.Map.Keys.{IsDistinct-head, IsDistinct-tail}
+use Rattle.sup_core.specs.declared.child.Child.{Child}
+use Rattle.sup_core.specs.Children.{Place}
+use Rattle.sup_core.proofs.PlaceLemmas.{eqb-comm}
+
+-- the number at an index that is not the first
+other_at : (n k : ℕ) (ks : List ℕ) (i : ℕ) → AllByRecursion (λ m. (n == m) ≡ false) ks → slice_get ks i ≡ Some k → (n == k) ≡ false
+other_at n k [] i others at = absurd (cc)
+other_at n k (m ∷ ks) zero others at = ap (λ o. option_map_or (λ x. n == x) o false) (sym at) ∙ others.0
+other_at n k (m ∷ ks) (suc i) others at = other_at n k ks i others.1 at
+
+first_at : (n k : ℕ) → Some n ≡ Some k → (k == n) ≡ true
+first_at n k at = eq-eqb k n (ap (λ o. unwrap_or o k) (sym at))
+
+later_at : (n k : ℕ) (ks : List ℕ) (i : ℕ) → IsDistinct nat_eq (n ∷ ks) → slice_get ks i ≡ Some k → (k == n) ≡ false
+later_at n k ks i distinct at = eqb-comm k n ∙ other_at n k ks i (IsDistinct-head nat_eq n ks distinct) at
+
+-- its look-up finds the child there
+pub lookup-index : (k : ℕ) (places : List Place) (i : ℕ) → IsDistinct nat_eq (keys_of places) → slice_get (keys_of places) i ≡ Some k
+    → lookup (nat_eq k) places ≡ slice_get (values_of places) i
+lookup-index k [] i distinct at = absurd (cc)
+lookup-index k ((n, child) ∷ places) zero distinct at = cond-true (k == n) (Some child) (lookup (nat_eq k) places) (first_at n k at)
+lookup-index k ((n, child) ∷ places) (suc i) distinct at =
+    cond-false (k == n) (Some child) (lookup (nat_eq k) places) (later_at n k (keys_of places) i distinct at)
+    ∙ lookup-index k places i (IsDistinct-tail nat_eq n (keys_of places) distinct) at
+
+-- a write there is one under the number
+pub set_value-index : (k : ℕ) (places : List Place) (i : ℕ) (new : Option Child) → IsDistinct nat_eq (keys_of places) → slice_get (keys_of places) i ≡ Some k
+    → set_value_at places i new ≡ set_value (nat_eq k) places new
+set_value-index k [] i new distinct at = absurd (cc)
+set_value-index k ((n, child) ∷ places) zero new distinct at =
+    sym (cond-true (k == n) ((n, new) ∷ places) ((n, child) ∷ set_value (nat_eq k) places new) (first_at n k at))
+set_value-index k ((n, child) ∷ places) (suc i) new distinct at =
+    ap (λ l. (n, child) ∷ l) (set_value-index k places i new (IsDistinct-tail nat_eq n (keys_of places) distinct) at)
+    ∙ sym (cond-false (k == n) ((n, new) ∷ places) ((n, child) ∷ set_value (nat_eq k) places new) (later_at n k (keys_of places) i distinct at))
+
+absent_rest : (other n : ℕ) (child : Option Child) (places : List Place) → lookup (nat_eq other) ((n, child) ∷ places) ≡ None → ((other == n) ≡ false) × (lookup (nat_eq other) places ≡ None)
+absent_rest other n child places none = elim (cases_Bool (other == n)) [
+  | inl same ↦ let hit : lookup (nat_eq other) ((n, child) ∷ places) ≡ Some child = cond-true (other == n) (Some child) (lookup (nat_eq other) places) same in absurd (cc)
+  | inr apart ↦ (apart, sym (cond-false (other == n) (Some child) (lookup (nat_eq other) places) apart) ∙ none)
+]
+
+-- and a number at no place stays at none
+pub absent-index : (other : ℕ) (places : List Place) (i : ℕ) (new : Option Child) → lookup (nat_eq other) places ≡ None → lookup (nat_eq other) (set_value_at places i new) ≡ None
+absent-index other [] i new none = none
+absent-index other ((n, child) ∷ places) zero new none =
+    let (apart, rest) = absent_rest other n child places none in
+    cond-false (other == n) (Some new) (lookup (nat_eq other) places) apart ∙ rest
+absent-index other ((n, child) ∷ places) (suc i) new none =
+    let (apart, rest) = absent_rest other n child places none in
+    cond-false (other == n) (Some child) (lookup (nat_eq other) (set_value_at places i new)) apart ∙ absent-index other places i new rest
+
+-- the number of a place is the one at its index
+pub key-index : (places : List Place) (i n : ℕ) (child : Option Child) → slice_get places i ≡ Some (n, child) → slice_get (keys_of places) i ≡ Some n
+key-index [] i n child at = absurd (cc)
+key-index (place ∷ places) zero n child at = ap (option_map (λ (p : Place). p.0)) at
+key-index (place ∷ places) (suc i) n child at = key-index places i n child at
+
+-- what is found under a number has it
+pub key-found : (k n : ℕ) (places : List Place) → lookup_key (nat_eq k) places ≡ Some n → n ≡ k
+key-found k n [] at = absurd (cc)
+key-found k n ((m, child) ∷ places) at = elim (cases_Bool (k == m)) [
+  | inl same ↦ ap (λ o. unwrap_or o n) (sym at ∙ cond-true (k == m) (Some m) (lookup_key (nat_eq k) places) same) ∙ sym (eqb-true k m same)
+  | inr other ↦ key-found k n places (sym (cond-false (k == m) (Some m) (lookup_key (nat_eq k) places) other) ∙ at)
+]
