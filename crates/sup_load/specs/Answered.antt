@@ -1,9 +1,9 @@
 -- How the program answers: a script or a history text on standard input, a load, or words that are no order.
 use Rattle.std.specs.Prelude.{◌≡◌, ◌⊎◌, ℕ, Bool, true, List, Option, Result, Ok, Err, IfErr}
 use Rattle.std.specs.Io.KnownBytes.{Appends}
-use Rattle.sup_script.specs.Causes.{HasCause}
-use Rattle.sup_script.specs.Replays.{IsReplay}
-use Rattle.sup_script.specs.Runs.{IsRun}
+use Rattle.sup_script.specs.Running.Causes.{HasCause}
+use Rattle.sup_script.specs.Running.Replays.{IsReplay}
+use Rattle.sup_script.specs.Running.Runs.{IsRun}
 use Rattle.sup_script.specs.Starter.{script_answer}
 use Rattle.sup_script.specs.declared.fault.ScriptFault.{ScriptFault}
 use Rattle.sup_load.specs.Reports.{IsLoaded}

@@ -13,9 +13,9 @@ use Rattle.std.proofs.lemmas.List.{length-append, length-drop}
 use Rattle.std.proofs.lemmas.List.Sums.{position_or_len_is}
 use Rattle.std.proofs.lemmas.Slice.Eq.{bytes_eq-Decides}
 use Rattle.sup_script.specs.Starter.{is_number, is_within, is_gap_at}
-use Rattle.sup_script.specs.Words.{Lacks, IsSplit}
-use Rattle.sup_script.proofs.Numbers.{decimal_known}
-use Rattle.sup_script.proofs.Commands.{none_of_length}
+use Rattle.sup_script.specs.Reading.Words.{Lacks, IsSplit}
+use Rattle.sup_script.proofs.Reading.Numbers.{decimal_known}
+use Rattle.sup_script.proofs.Reading.Commands.{none_of_length}
 
 -- ---- numbers
 

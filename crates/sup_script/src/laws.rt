@@ -4,9 +4,9 @@ ghost use Rattle.std.specs.Prelude.{◌≡◌, ℕ, List};
 ghost use Rattle.sup_types.specs.declared.template.Template.{Template};
 ghost use Rattle.sup_types.specs.declared.history.Entry.{Entry};
 ghost use Rattle.sup_script.specs.declared.read.command.Command.{Command};
-ghost use Rattle.sup_script.specs.Headers.{AreHeaderWords, IsFirst};
-ghost use Rattle.sup_script.specs.History.{Spells, IsSameTemplate};
-ghost use Rattle.sup_script.specs.Lines.{LineMeans};
+ghost use Rattle.sup_script.specs.Reading.Headers.{AreHeaderWords, IsFirst};
+ghost use Rattle.sup_script.specs.Reading.History.{Spells, IsSameTemplate};
+ghost use Rattle.sup_script.specs.Reading.Lines.{LineMeans};
 
 /// No line spells two commands.
 pub fn one_command()

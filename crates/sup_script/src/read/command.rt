@@ -1,9 +1,9 @@
 //! Commands, and the lines that spell them.
 
 ghost use Rattle.std.specs.Prelude.{◌≡◌, ℕ, ◌<◌, List, [], ◌∷◌, ◌++◌, MatchOption, codes};
-ghost use Rattle.sup_script.specs.Words.{words_of, words_left};
-ghost use Rattle.sup_script.specs.Tokens.{verb_word};
-ghost use Rattle.sup_script.specs.Lines.{IsReading, is_identifier_word, IsIdentifierWord};
+ghost use Rattle.sup_script.specs.Reading.Words.{words_of, words_left};
+ghost use Rattle.sup_script.specs.Reading.Tokens.{verb_word};
+ghost use Rattle.sup_script.specs.Reading.Lines.{IsReading, is_identifier_word, IsIdentifierWord};
 
 use crate::read::tokens::{Verb, next_number, next_operation, read_verb};
 use crate::read::words::next_word;

@@ -1,9 +1,9 @@
 //! The first lines of texts.
 
 ghost use Rattle.std.specs.Prelude.{◌≡◌, List, ℕ, [], ◌∷◌, ◌++◌, ◌↔◌, IsOk, IfOk, MatchOption};
-ghost use Rattle.sup_script.specs.Words.{words_left};
-ghost use Rattle.sup_script.specs.Tokens.{mark_word, auto_word};
-ghost use Rattle.sup_script.specs.Headers.{AreHeaderWords, HasFirst, HasParts, GivesTemplate, IsPlain, FitsParts, CanStand, IsTemplateOf, limit_words, HasNoLimits, HasNoShutdown};
+ghost use Rattle.sup_script.specs.Reading.Words.{words_left};
+ghost use Rattle.sup_script.specs.Reading.Tokens.{mark_word, auto_word};
+ghost use Rattle.sup_script.specs.Reading.Headers.{AreHeaderWords, HasFirst, HasParts, GivesTemplate, IsPlain, FitsParts, CanStand, IsTemplateOf, limit_words, HasNoLimits, HasNoShutdown};
 
 use crate::fault::Fault;
 use crate::read::tokens::{after_word, next_number, read_auto, read_kind, read_mark, read_restart};

@@ -1,10 +1,10 @@
 //! History texts: a template, and the entries of a history.
 
 ghost use Rattle.std.specs.Prelude.{◌≡◌, MatchOption, MatchResult};
-ghost use Rattle.sup_script.specs.Words.{words_left};
-ghost use Rattle.sup_script.specs.Headers.{HasFirst, HasParts};
-ghost use Rattle.sup_script.specs.History.{AreFirstWords, EntryMeans, MeansNoEntry, Spells};
-ghost use Rattle.sup_script.specs.HistoryReading.{HistoryStops, HasPlain, HasMarked, HasDeed, HasAnswer, HasFailure, IsNextEntry};
+ghost use Rattle.sup_script.specs.Reading.Words.{words_left};
+ghost use Rattle.sup_script.specs.Reading.Headers.{HasFirst, HasParts};
+ghost use Rattle.sup_script.specs.Reading.History.{AreFirstWords, EntryMeans, MeansNoEntry, Spells};
+ghost use Rattle.sup_script.specs.Reading.HistoryReading.{HistoryStops, HasPlain, HasMarked, HasDeed, HasAnswer, HasFailure, IsNextEntry};
 
 use crate::fault::Fault;
 use crate::read::header::{Parts, next_limits, read_shutdown, template_of};

@@ -1,10 +1,10 @@
 //! Reading a whole text.
 
 ghost use Rattle.std.specs.Prelude.{◌≡◌, ◌==◌, ◌≤◌, ◌+◌, [], ℕ, List, length, count_by, IfErr};
-ghost use Rattle.sup_script.specs.Causes.{HasReadCause};
-ghost use Rattle.sup_script.specs.Replays.{IsRead};
-ghost use Rattle.sup_script.specs.Runs.{IsEndedPart};
-ghost use Rattle.sup_script.specs.Script.{lines_of};
+ghost use Rattle.sup_script.specs.Running.Causes.{HasReadCause};
+ghost use Rattle.sup_script.specs.Running.Replays.{IsRead};
+ghost use Rattle.sup_script.specs.Running.Runs.{IsEndedPart};
+ghost use Rattle.sup_script.specs.Running.Script.{lines_of};
 
 use crate::fault::Fault;
 use crate::read::lines::ended_part;

@@ -1,8 +1,8 @@
 //! The lines of a text.
 
 ghost use Rattle.std.specs.Prelude.{◌≡◌, ◌<◌, ◌∷◌, length};
-ghost use Rattle.sup_script.specs.Script.{lines_of};
-ghost use Rattle.sup_script.specs.Runs.{IsEndedPart};
+ghost use Rattle.sup_script.specs.Running.Script.{lines_of};
+ghost use Rattle.sup_script.specs.Running.Runs.{IsEndedPart};
 
 use crate::read::words::split_once;
 

@@ -3,8 +3,8 @@
 ghost use Rattle.std.specs.Prelude.{◌≡◌, ◌≢◌, ℕ, ◌<◌, ◌^◌, List, ◌∷◌, ◌++◌, MatchOption};
 ghost use Rattle.std.specs.Fmt.{decimal};
 ghost use Rattle.sup_types.specs.Text.{IsText};
-ghost use Rattle.sup_script.specs.Words.{words_left};
-ghost use Rattle.sup_script.specs.Tokens.{restart_word, kind_word, mark_word, auto_word, reason_word, verb_word, IsReason, IsOperation, operation_verb, argument_words, IsWordOf, HasNoNumber, HasNoText, HasNoReason, HasOtherWord, HasNoArguments};
+ghost use Rattle.sup_script.specs.Reading.Words.{words_left};
+ghost use Rattle.sup_script.specs.Reading.Tokens.{restart_word, kind_word, mark_word, auto_word, reason_word, verb_word, IsReason, IsOperation, operation_verb, argument_words, IsWordOf, HasNoNumber, HasNoText, HasNoReason, HasOtherWord, HasNoArguments};
 ghost use Rattle.sup_types.specs.declared.reason.Reason.{Reason as AReason};
 
 use crate::read::words::{next_word, read_number};

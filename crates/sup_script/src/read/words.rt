@@ -2,7 +2,7 @@
 
 ghost use Rattle.std.specs.Prelude.{◌≡◌, ◌≢◌, ℕ, ◌<◌, ◌^◌, List, [], ◌∷◌, Option, None, Some, MatchOption, ◌==◌, position};
 ghost use Rattle.std.specs.Fmt.{decimal};
-ghost use Rattle.sup_script.specs.Words.{words_of, words_left, Lacks, IsSplit};
+ghost use Rattle.sup_script.specs.Reading.Words.{words_of, words_left, Lacks, IsSplit};
 
 fn find_byte(bytes: &[u8], byte: u8) -> Option<usize>
     ensures { result ≡ position (λ b. b == byte) bytes.now }

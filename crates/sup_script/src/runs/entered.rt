@@ -3,8 +3,8 @@
 ghost use Rattle.std.specs.Prelude.{◌≡◌, ◌+◌, ◌<◌, ◌≤◌, ◌++◌, [], ◌∷◌, List, ℕ, length, OnOk, OnErr};
 ghost use Rattle.sup_types.specs.declared.history.Entry.{Entry as AnEntry};
 ghost use Rattle.sup_core.specs.Account.{IsAfter, reply_after, entry_of};
-ghost use Rattle.sup_script.specs.Replies.{Grows};
-ghost use Rattle.sup_script.specs.Script.{text_of, history_after};
+ghost use Rattle.sup_script.specs.Writing.Replies.{Grows};
+ghost use Rattle.sup_script.specs.Running.Script.{text_of, history_after};
 
 use crate::read::command::Command;
 use crate::write::reply::{append_counts, append_refusal, append_reply, append_rows};
@@ -54,8 +54,9 @@ fn enter<S: FixedStarter, A: Allocator + Copy>(
     ensures template { sup.new.template ≡ sup.old.template }
     ensures steps { sup.new.steps ≡ sup.old.steps + 1 }
 {
-    let answer = match sup.wants_answer(&operation, moment) {
-        Some(arg) => starter.start_fixed(&arg, moment),
+    let asked = sup.asks(&operation, moment);
+    let answer = match &asked.arg {
+        Some(arg) => starter.start_fixed(arg, moment),
         None => Answer::Ignore,
     };
     let entry = Entry {
@@ -65,5 +66,5 @@ fn enter<S: FixedStarter, A: Allocator + Copy>(
         operation,
         answer,
     };
-    sup.step(&entry)
+    sup.step_asked(&entry, &asked)
 }

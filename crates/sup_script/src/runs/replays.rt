@@ -3,11 +3,11 @@
 ghost use Rattle.std.specs.Prelude.{◌≡◌, ◌≤◌, ◌<◌, ◌+◌, ◌++◌, [], ◌∷◌, ℕ, List, length, false, IfErr, IfOk, OnOk, OnErr};
 ghost use Rattle.sup_types.specs.declared.history.Entry.{Entry as AnEntry};
 ghost use Rattle.sup_core.specs.Account.{IsAfter, reply_after};
-ghost use Rattle.sup_script.specs.Causes.{HasCause, HasLineCause};
-ghost use Rattle.sup_script.specs.Headers.{IsFirst};
-ghost use Rattle.sup_script.specs.History.{AreFirstWords, AreEntries};
-ghost use Rattle.sup_script.specs.Replays.{IsReplay, RepliesGive};
-ghost use Rattle.sup_script.specs.Replies.{reply_text};
+ghost use Rattle.sup_script.specs.Running.Causes.{HasCause, HasLineCause};
+ghost use Rattle.sup_script.specs.Reading.Headers.{IsFirst};
+ghost use Rattle.sup_script.specs.Reading.History.{AreFirstWords, AreEntries};
+ghost use Rattle.sup_script.specs.Running.Replays.{IsReplay, RepliesGive};
+ghost use Rattle.sup_script.specs.Writing.Replies.{reply_text};
 
 use crate::explain::FaultyLine;
 use crate::fault::{Fault, ScriptFault};
@@ -99,10 +99,7 @@ fn answer_entries<A: Allocator + Copy, W: Write>(
     ensures cause { IfErr result (λ e. HasLineCause writer.new.has_refused e.fault) }
 {
     match Sup::new(alloc, template) {
-        Ok(mut sup) => {
-            let mut outbox = Outbox::new(alloc);
-            answer_from(&mut sup, &mut outbox, entries, writer)
-        }
+        Ok(sup) => answer_by(alloc, sup, entries, writer),
         Err(OutOfMemory) => {
             let fault = Fault::OutOfMemory;
             Err(ScriptFault { fault, line: 1 })
@@ -110,39 +107,64 @@ fn answer_entries<A: Allocator + Copy, W: Write>(
     }
 }
 
+/// Writes the replies to the entries, from a supervisor that none was entered in.
+fn answer_by<A: Allocator + Copy, W: Write>(
+    alloc: A,
+    mut sup: Sup<A>,
+    entries: &[Entry],
+    writer: &mut WatchedWriter<W>,
+) -> Result<(), ScriptFault>
+    requires empty { IsAfter sup [] }
+    requires room { length entries.now ≤ sup.template.entries }
+    ensures given { (first : List ℕ) (body : List (List ℕ)) → IsFirst AreFirstWords first sup.template → AreEntries body entries.now →
+        RepliesGive (first ∷ body) sup.template entries.now (W.contents writer.old.writer) (W.contents writer.new.writer) result }
+    ensures cause { IfErr result (λ e. HasLineCause writer.new.has_refused e.fault) }
+{
+    let mut outbox = Outbox::new(alloc, writer);
+    let outcome = answer_from(&mut sup, &mut outbox, entries);
+    // Taken apart, the outbox gives the writer back, and with it what is known of it.
+    let Outbox {
+        bytes,
+        ends,
+        writer: _writer,
+    } = outbox;
+    drop((sup, bytes, ends));
+    outcome
+}
+
 /// Writes the replies to the entries, from a supervisor that none was entered in. Nothing waits before.
 fn answer_from<A: Allocator + Copy, W: Write>(
     sup: &mut Sup<A>,
-    outbox: &mut Outbox<A>,
+    outbox: &mut Outbox<'_, A, W>,
     entries: &[Entry],
-    writer: &mut WatchedWriter<W>,
 ) -> Result<(), ScriptFault>
     requires empty { IsAfter sup.old [] }
     requires room { length entries.now ≤ sup.old.template.entries }
     requires bytes { outbox.old.bytes.items ≡ [] }
     requires ends { outbox.old.ends.items ≡ [] }
     ensures given { (first : List ℕ) (body : List (List ℕ)) → IsFirst AreFirstWords first sup.old.template → AreEntries body entries.now →
-        RepliesGive (first ∷ body) sup.old.template entries.now (W.contents writer.old.writer) (W.contents writer.new.writer) result }
-    ensures cause { IfErr result (λ e. HasLineCause writer.new.has_refused e.fault) }
+        RepliesGive (first ∷ body) sup.old.template entries.now (W.contents outbox.old.writer.now.writer) (W.contents outbox.new.writer.now.writer) result }
+    ensures cause { IfErr result (λ e. HasLineCause outbox.new.writer.now.has_refused e.fault) }
+    ensures same { outbox.new.writer.ghost_name ≡ outbox.old.writer.ghost_name }
 {
     let mut next = 2;
     for entry in entries {
         if let Err(OutOfMemory) = answer_entry(entry, sup, outbox) {
-            outbox.flush(writer, next)?;
+            outbox.flush(next)?;
             let fault = Fault::OutOfMemory;
             return Err(ScriptFault { fault, line: next });
         }
         next += 1;
-        outbox.flush_if_full(writer, next)?;
+        outbox.flush_if_full(next)?;
     }
-    outbox.flush(writer, next)
+    outbox.flush(next)
 }
 
 /// Enters an entry, and puts its reply behind those that wait. After a refusal they wait as before.
-fn answer_entry<A: Allocator + Copy>(
+fn answer_entry<A: Allocator + Copy, W: Write>(
     entry: &Entry,
     sup: &mut Sup<A>,
-    outbox: &mut Outbox<A>,
+    outbox: &mut Outbox<'_, A, W>,
 ) -> Result<(), OutOfMemory>
     requires { sup.old.steps < sup.old.template.entries }
     ensures reply { (history : List AnEntry) → IsAfter sup.old history →
@@ -153,6 +175,8 @@ fn answer_entry<A: Allocator + Copy>(
     ensures steps { sup.new.steps ≡ sup.old.steps + 1 }
     ensures same_bytes { OnErr result (outbox.new.bytes.items ≡ outbox.old.bytes.items) }
     ensures same_ends { OnErr result (outbox.new.ends.items ≡ outbox.old.ends.items) }
+    ensures writer { outbox.new.writer.now ≡ outbox.old.writer.now }
+    ensures same { outbox.new.writer.ghost_name ≡ outbox.old.writer.ghost_name }
 {
     let reply = sup.step(entry);
     // Room for the mark comes first, so that nothing is to be undone where it is refused.

@@ -1,13 +1,14 @@
 //! Whole scripts.
 
 ghost use Rattle.std.specs.Prelude.{◌≡◌, ◌≤◌, [], false, None, IfErr};
-ghost use Rattle.sup_script.specs.Causes.{HasCause};
-ghost use Rattle.sup_script.specs.Runs.{IsRun};
+ghost use Rattle.sup_script.specs.Running.Causes.{HasCause};
+ghost use Rattle.sup_script.specs.Running.Runs.{IsRun};
 
 use crate::explain::FaultyLine;
 use crate::fault::{Fault, ScriptFault};
 use crate::runs::session::Session;
 use crate::runs::watch::{WatchedReader, WatchedWriter};
+use crate::write::outbox::Outbox;
 use std::alloc::Allocator;
 use std::io::{Read, Write};
 use sup_types::FixedStarter;
@@ -60,10 +61,25 @@ pub fn run_with_line<A: Allocator + Copy, R: Read, W: Write, S: FixedStarter>(
     ensures reads { reader.new.calls ≤ 16777217 }
     ensures cause { IfErr result (λ e. HasCause reader.new.has_failed reader.new.given writer.new.has_refused e.fault) }
 {
-    let mut session = Session::new(alloc);
+    let mut session = Session::new(alloc, starter, writer);
     let mut part = Vec::new(alloc);
-    let outcome = answer_pieces(&mut session, &mut part, reader, writer, starter);
-    *line = session.faulty;
+    let outcome = answer_pieces(&mut session, &mut part, reader);
+    // Taken apart, the session gives the writer back, and with it what is known of it.
+    let Session {
+        alloc: _alloc,
+        starter: _starter,
+        supervisor,
+        outbox,
+        next: _next,
+        faulty,
+    } = session;
+    let Outbox {
+        bytes,
+        ends,
+        writer: _writer,
+    } = outbox;
+    drop((supervisor, bytes, ends));
+    *line = faulty;
     outcome
 }
 
@@ -71,11 +87,9 @@ pub fn run_with_line<A: Allocator + Copy, R: Read, W: Write, S: FixedStarter>(
 ///
 /// `part` takes the part of a line that came before a piece.
 fn answer_pieces<A: Allocator + Copy, R: Read, W: Write, S: FixedStarter>(
-    session: &mut Session<A>,
+    session: &mut Session<'_, '_, A, W, S>,
     part: &mut Vec<u8, A>,
     reader: &mut WatchedReader<R>,
-    writer: &mut WatchedWriter<W>,
-    starter: &S,
 ) -> Result<(), ScriptFault>
     requires supervisor { session.old.supervisor ≡ None }
     requires bytes { session.old.outbox.bytes.items ≡ [] }
@@ -85,11 +99,12 @@ fn answer_pieces<A: Allocator + Copy, R: Read, W: Write, S: FixedStarter>(
     requires calls { reader.old.calls ≡ 0 }
     requires none { reader.old.given ≡ 0 }
     requires unfailed { reader.old.has_failed ≡ false }
-    requires unrefused { writer.old.has_refused ≡ false }
+    requires unrefused { session.old.outbox.writer.now.has_refused ≡ false }
     ensures run { IsRun S.answer (R.remaining reader.old.reader) (R.remaining reader.new.reader)
-        (W.contents writer.old.writer) (W.contents writer.new.writer) result }
+        (W.contents session.old.outbox.writer.now.writer) (W.contents session.new.outbox.writer.now.writer) result }
     ensures reads { reader.new.calls ≤ 16777217 }
-    ensures cause { IfErr result (λ e. HasCause reader.new.has_failed reader.new.given writer.new.has_refused e.fault) }
+    ensures cause { IfErr result (λ e. HasCause reader.new.has_failed reader.new.given session.new.outbox.writer.now.has_refused e.fault) }
+    ensures same { session.new.outbox.writer.ghost_name ≡ session.old.outbox.writer.ghost_name }
 {
     let mut piece = [0u8; PIECE];
     loop {
@@ -103,16 +118,16 @@ fn answer_pieces<A: Allocator + Copy, R: Read, W: Write, S: FixedStarter>(
             None => return Err(session.fault(Fault::ReadFault)),
         };
         if count == 0 {
-            session.answer_lines(part.as_slice(), starter, writer)?;
+            session.answer_lines(part.as_slice())?;
             if session.next == 1 {
                 return Err(session.fault(Fault::BadLine));
             }
             return Ok(());
         }
         if count > room {
-            session.answer_piece(&piece[..room], part, starter, writer)?;
+            session.answer_piece(&piece[..room], part)?;
             return Err(session.fault(Fault::TooLong));
         }
-        session.answer_piece(&piece[..count], part, starter, writer)?;
+        session.answer_piece(&piece[..count], part)?;
     }
 }

@@ -3,13 +3,13 @@
 ghost use Rattle.std.specs.Prelude.{◌≡◌, ◌<◌, ◌≤◌, ◌+◌, ◌^◌, ◌++◌, [], ◌⊎◌, ℕ, List, length, None, IfErr, OnOk, OnErr, vec_capacity, MatchResult};
 ghost use Rattle.sup_core.specs.Account.{IsAfter};
 ghost use Rattle.sup_script.specs.declared.fault.Fault.TheVariants.{OutOfMemory};
-ghost use Rattle.sup_script.specs.Answering.{IsAnsweredTo, IsWaiting, LineGives, NextGives, LinesGive, steps_left};
-ghost use Rattle.sup_script.specs.Causes.{IsLineFault, HasLineCause};
-ghost use Rattle.sup_script.specs.Headers.{AreHeaderWords, IsFirst, HasFirst};
-ghost use Rattle.sup_script.specs.Pieces.{IsPieceAnswered};
-ghost use Rattle.sup_script.specs.Replies.{Grows};
-ghost use Rattle.sup_script.specs.Script.{lines_of};
-ghost use Rattle.sup_script.specs.Words.{Lacks};
+ghost use Rattle.sup_script.specs.Running.Answering.{IsAnsweredTo, IsWaiting, LineGives, NextGives, LinesGive, steps_left};
+ghost use Rattle.sup_script.specs.Running.Causes.{IsLineFault, HasLineCause};
+ghost use Rattle.sup_script.specs.Reading.Headers.{AreHeaderWords, IsFirst, HasFirst};
+ghost use Rattle.sup_script.specs.Running.Pieces.{IsPieceAnswered};
+ghost use Rattle.sup_script.specs.Writing.Replies.{Grows};
+ghost use Rattle.sup_script.specs.Running.Script.{lines_of};
+ghost use Rattle.sup_script.specs.Reading.Words.{Lacks};
 
 use crate::explain::FaultyLine;
 use crate::fault::{Fault, ScriptFault};
@@ -24,32 +24,36 @@ use std::io::Write;
 use sup_core::Sup;
 use sup_types::FixedStarter;
 
-/// What a run over a script goes on with.
+/// What a run over a script goes on with, and the start function and the writer that it is lent.
 #[derive(Drop)]
-pub struct Session<A: Allocator> {
-    alloc: A,
+pub struct Session<'s, 'w, A: Allocator, W, S> {
+    pub alloc: A,
+    pub starter: &'s S,
     /// The supervisor, once the header was read.
     pub supervisor: Option<Sup<A>>,
-    /// The replies that wait.
-    pub outbox: Outbox<A>,
+    /// The replies that wait, and their writer.
+    pub outbox: Outbox<'w, A, W>,
     /// The number of the next line.
     pub next: u64,
     /// The line that has a fault, once there is one.
     pub faulty: FaultyLine,
 }
 
-impl<A: Allocator + Copy> Session<A> {
+impl<'s, 'w, A: Allocator + Copy, W: Write, S: FixedStarter> Session<'s, 'w, A, W, S> {
     /// No line was read.
-    pub fn new(alloc: A) -> Self
+    pub fn new(alloc: A, starter: &'s S, writer: &'w mut WatchedWriter<W>) -> Self
         ensures supervisor { result.supervisor ≡ None }
         ensures bytes { result.outbox.bytes.items ≡ [] }
         ensures ends { result.outbox.ends.items ≡ [] }
         ensures next { result.next ≡ 1 }
+        ensures writer { result.outbox.writer.now ≡ writer.old }
+        ensures same { result.outbox.writer.ghost_name ≡ writer.entry.ghost_name }
     {
         Session {
             alloc,
+            starter,
             supervisor: None,
-            outbox: Outbox::new(alloc),
+            outbox: Outbox::new(alloc, writer),
             next: 1,
             faulty: FaultyLine::new(),
         }
@@ -69,13 +73,7 @@ impl<A: Allocator + Copy> Session<A> {
     /// Answers the lines that a piece of the input ends, and writes their replies.
     ///
     /// `part` is the part of a line that came before the piece, and is then the part behind them.
-    pub fn answer_piece<W: Write, S: FixedStarter>(
-        &mut self,
-        piece: &[u8],
-        part: &mut Vec<u8, A>,
-        starter: &S,
-        writer: &mut WatchedWriter<W>,
-    ) -> Result<(), ScriptFault>
+    pub fn answer_piece(&mut self, piece: &[u8], part: &mut Vec<u8, A>) -> Result<(), ScriptFault>
         requires lacks { Lacks 10 part.old.items }
         requires room { length part.old.items + length piece.now ≤ vec_capacity part.old }
         requires first { 1 ≤ self.old.next }
@@ -84,20 +82,21 @@ impl<A: Allocator + Copy> Session<A> {
         requires bytes { self.old.outbox.bytes.items ≡ [] }
         requires ends { self.old.outbox.ends.items ≡ [] }
         ensures given { (front : List (List ℕ)) (text : List ℕ) → IsAnsweredTo S.answer front text self.old.supervisor self.old.next →
-            IsPieceAnswered S.answer front text part.old.items piece.now part.new.items self.new.supervisor self.new.next (W.contents writer.old.writer) (W.contents writer.new.writer) result }
+            IsPieceAnswered S.answer front text part.old.items piece.now part.new.items self.new.supervisor self.new.next (W.contents self.old.outbox.writer.now.writer) (W.contents self.new.outbox.writer.now.writer) result }
         ensures first { OnOk result (1 ≤ self.new.next) }
         ensures lines { OnOk result (self.new.next + length part.new.items ≤ self.old.next + length part.old.items + length piece.now) }
         ensures steps { OnOk result (steps_left self.old.supervisor + length part.new.items ≤ steps_left self.new.supervisor + length part.old.items + length piece.now) }
         ensures bytes { OnOk result (self.new.outbox.bytes.items ≡ []) }
         ensures ends { OnOk result (self.new.outbox.ends.items ≡ []) }
-        ensures cause { IfErr result (λ e. HasLineCause writer.new.has_refused e.fault) }
+        ensures cause { IfErr result (λ e. HasLineCause self.new.outbox.writer.now.has_refused e.fault) }
+        ensures same { self.new.outbox.writer.ghost_name ≡ self.old.outbox.writer.ghost_name }
     {
         let ended = ended_part(piece);
         if ended.is_empty() {
             part.extend_from_slice(piece).unwrap();
             return Ok(());
         }
-        self.answer_joined(part, ended, starter, writer)?;
+        self.answer_joined(part, ended)?;
         part.clear();
         part.extend_from_slice(&piece[ended.len()..]).unwrap();
         Ok(())
@@ -105,13 +104,7 @@ impl<A: Allocator + Copy> Session<A> {
 
     /// Answers the lines that a part and what ends it make, and writes their replies. Without a part they are answered where
     /// they stand, and no byte is copied.
-    fn answer_joined<W: Write, S: FixedStarter>(
-        &mut self,
-        part: &mut Vec<u8, A>,
-        ended: &[u8],
-        starter: &S,
-        writer: &mut WatchedWriter<W>,
-    ) -> Result<(), ScriptFault>
+    fn answer_joined(&mut self, part: &mut Vec<u8, A>, ended: &[u8]) -> Result<(), ScriptFault>
         requires room { length part.old.items + length ended.now ≤ vec_capacity part.old }
         requires first { 1 ≤ self.old.next }
         requires lines { self.old.next + length (part.old.items ++ ended.now) ≤ 16777217 }
@@ -119,62 +112,59 @@ impl<A: Allocator + Copy> Session<A> {
         requires bytes { self.old.outbox.bytes.items ≡ [] }
         requires ends { self.old.outbox.ends.items ≡ [] }
         ensures given { (front : List (List ℕ)) (text : List ℕ) → IsAnsweredTo S.answer front text self.old.supervisor self.old.next →
-            LinesGive S.answer front text (lines_of (part.old.items ++ ended.now)) self.new.supervisor self.new.next (W.contents writer.old.writer) (W.contents writer.new.writer) result }
+            LinesGive S.answer front text (lines_of (part.old.items ++ ended.now)) self.new.supervisor self.new.next (W.contents self.old.outbox.writer.now.writer) (W.contents self.new.outbox.writer.now.writer) result }
         ensures first { OnOk result (1 ≤ self.new.next) }
         ensures lines { OnOk result (self.new.next ≤ self.old.next + length (part.old.items ++ ended.now)) }
         ensures steps { steps_left self.old.supervisor ≤ steps_left self.new.supervisor + length (part.old.items ++ ended.now) }
         ensures bytes { OnOk result (self.new.outbox.bytes.items ≡ []) }
         ensures ends { OnOk result (self.new.outbox.ends.items ≡ []) }
-        ensures cause { IfErr result (λ e. HasLineCause writer.new.has_refused e.fault) }
+        ensures cause { IfErr result (λ e. HasLineCause self.new.outbox.writer.now.has_refused e.fault) }
+        ensures same { self.new.outbox.writer.ghost_name ≡ self.old.outbox.writer.ghost_name }
         ensures room { vec_capacity part.old ≤ vec_capacity part.new }
     {
         if part.is_empty() {
-            return self.answer_lines(ended, starter, writer);
+            return self.answer_lines(ended);
         }
         part.extend_from_slice(ended).unwrap();
-        self.answer_lines(part.as_slice(), starter, writer)
+        self.answer_lines(part.as_slice())
     }
 
     /// Answers the lines of a text in order, and writes their replies.
     ///
     /// On a fault in a line the replies of the lines before it are written.
-    pub fn answer_lines<W: Write, S: FixedStarter>(
-        &mut self,
-        input: &[u8],
-        starter: &S,
-        writer: &mut WatchedWriter<W>,
-    ) -> Result<(), ScriptFault>
+    pub fn answer_lines(&mut self, input: &[u8]) -> Result<(), ScriptFault>
         requires first { 1 ≤ self.old.next }
         requires lines { self.old.next + length input.now ≤ 16777217 }
         requires steps { length input.now ≤ steps_left self.old.supervisor }
         requires bytes { self.old.outbox.bytes.items ≡ [] }
         requires ends { self.old.outbox.ends.items ≡ [] }
         ensures given { (front : List (List ℕ)) (text : List ℕ) → IsAnsweredTo S.answer front text self.old.supervisor self.old.next →
-            LinesGive S.answer front text (lines_of input.now) self.new.supervisor self.new.next (W.contents writer.old.writer) (W.contents writer.new.writer) result }
+            LinesGive S.answer front text (lines_of input.now) self.new.supervisor self.new.next (W.contents self.old.outbox.writer.now.writer) (W.contents self.new.outbox.writer.now.writer) result }
         ensures first { OnOk result (1 ≤ self.new.next) }
         ensures lines { OnOk result (self.new.next ≤ self.old.next + length input.now) }
         ensures steps { steps_left self.old.supervisor ≤ steps_left self.new.supervisor + length input.now }
         ensures bytes { OnOk result (self.new.outbox.bytes.items ≡ []) }
         ensures ends { OnOk result (self.new.outbox.ends.items ≡ []) }
-        ensures cause { IfErr result (λ e. HasLineCause writer.new.has_refused e.fault) }
+        ensures cause { IfErr result (λ e. HasLineCause self.new.outbox.writer.now.has_refused e.fault) }
+        ensures same { self.new.outbox.writer.ghost_name ≡ self.old.outbox.writer.ghost_name }
     {
         let mut rest = input;
         while !rest.is_empty() {
             let (line, after) = first_line(rest);
-            if let Err(fault) = self.answer_next(line, starter) {
+            if let Err(fault) = self.answer_next(line) {
                 self.faulty.keep(line);
-                self.outbox.flush(writer, self.next)?;
+                self.outbox.flush(self.next)?;
                 return Err(self.fault(fault));
             }
             self.next += 1;
             rest = after;
-            self.outbox.flush_if_full(writer, self.next)?;
+            self.outbox.flush_if_full(self.next)?;
         }
-        self.outbox.flush(writer, self.next)
+        self.outbox.flush(self.next)
     }
 
     /// Answers the next line, and puts its reply behind those that wait. After a fault they wait as before.
-    fn answer_next<S: FixedStarter>(&mut self, line: &[u8], starter: &S) -> Result<(), Fault>
+    fn answer_next(&mut self, line: &[u8]) -> Result<(), Fault>
         requires { 1 ≤ steps_left self.old.supervisor }
         ensures given { (front : List (List ℕ)) (written : List ℕ) → IsWaiting S.answer front written self.old.outbox.bytes.items self.old.outbox.ends.items self.old.supervisor self.old.next →
             NextGives S.answer front written line.now self.new.supervisor self.old.next self.new.outbox.bytes.items self.new.outbox.ends.items result }
@@ -184,6 +174,8 @@ impl<A: Allocator + Copy> Session<A> {
         ensures ends { OnErr result (self.new.outbox.ends.items ≡ self.old.outbox.ends.items) }
         ensures fault { IfErr result (λ f. IsLineFault f) }
         ensures more { OnOk result (length self.new.outbox.ends.items ≡ length self.old.outbox.ends.items + 1) }
+        ensures writer { self.new.outbox.writer.now ≡ self.old.outbox.writer.now }
+        ensures same { self.new.outbox.writer.ghost_name ≡ self.old.outbox.writer.ghost_name }
     {
         // Room for the mark comes first, so that nothing is to be undone where it is refused.
         self.outbox.ends.reserve(1)?;
@@ -192,14 +184,15 @@ impl<A: Allocator + Copy> Session<A> {
             self.alloc,
             line,
             &mut self.supervisor,
-            starter,
+            self.starter,
             &mut self.outbox.bytes,
         );
         if let Err(fault) = answered {
             self.outbox.bytes.truncate(start);
             return Err(fault);
         }
-        self.outbox.ends.push(self.outbox.bytes.len()).unwrap();
+        let end = self.outbox.bytes.len();
+        self.outbox.ends.push(end).unwrap();
         Ok(())
     }
 }

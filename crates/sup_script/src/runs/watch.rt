@@ -5,7 +5,7 @@
 
 ghost use Rattle.std.specs.Prelude.{◌≡◌, ◌+◌, ◌<◌, ◌≤◌, ◌^◌, true, false, take, length, MatchOption, OnErr};
 ghost use Rattle.std.specs.Io.KnownBytes.{Appends, Consumes, IsAtEnd, Keeps};
-ghost use Rattle.sup_script.specs.Sent.{IsSent};
+ghost use Rattle.sup_script.specs.Writing.Sent.{IsSent};
 
 use std::io::{Read, Write};
 

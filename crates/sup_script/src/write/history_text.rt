@@ -2,9 +2,9 @@
 
 ghost use Rattle.std.specs.Prelude.{◌≡◌, ◌++◌, ◌∷◌, [], ◌<◌, ◌^◌, map, OnOk, IfOk};
 ghost use Rattle.std.specs.Fmt.{decimal};
-ghost use Rattle.sup_script.specs.History.{first_words, entry_words, answer_words, IsAnswer, IsEntry, SpellsAs};
-ghost use Rattle.sup_script.specs.Replies.{line_of, field_word, spaced};
-ghost use Rattle.sup_script.specs.Tokens.{restart_word, kind_word, mark_word, auto_word, reason_word, verb_word, operation_verb, argument_words, IsReason, IsOperation};
+ghost use Rattle.sup_script.specs.Reading.History.{first_words, entry_words, answer_words, IsAnswer, IsEntry, SpellsAs};
+ghost use Rattle.sup_script.specs.Writing.Replies.{line_of, field_word, spaced};
+ghost use Rattle.sup_script.specs.Reading.Tokens.{restart_word, kind_word, mark_word, auto_word, reason_word, verb_word, operation_verb, argument_words, IsReason, IsOperation};
 
 use crate::write::reply::{Field, append_line, append_spaced};
 use std::alloc::{AllocError, Allocator};

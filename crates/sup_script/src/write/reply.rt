@@ -4,7 +4,7 @@ ghost use Rattle.std.specs.Prelude.{◌≡◌, ◌++◌, [], ◌∷◌, map, OnO
 ghost use Rattle.std.specs.List.{join_with_byte};
 ghost use Rattle.std.specs.Fmt.{decimal};
 ghost use Rattle.sup_core.specs.State.{MatchSeen};
-ghost use Rattle.sup_script.specs.Replies.{line_of, reply_text, row_text, rows_text, which_text, count_text, refusal_text, status_word, field_word, spaced, Grows};
+ghost use Rattle.sup_script.specs.Writing.Replies.{line_of, reply_text, row_text, rows_text, which_text, count_text, refusal_text, status_word, field_word, spaced, Grows};
 
 use std::alloc::{AllocError, Allocator};
 use sup_types::{Counts, OutOfMemory, Refusal, Reply, Row, Seen, Status};

@@ -1,4 +1,4 @@
-use Rattle.sup_script.proofs.OneValue.{header_is_one}
+use Rattle.sup_script.proofs.Reading.OneValue.{header_is_one}
 use Rattle.sup_script.proofs.laws.one_header.Goals as goal
 
 pub returns : goal.returns

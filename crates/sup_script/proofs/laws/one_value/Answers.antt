@@ -1,4 +1,4 @@
-use Rattle.sup_script.proofs.OneValue.{value_is_one}
+use Rattle.sup_script.proofs.Reading.OneValue.{value_is_one}
 use Rattle.sup_script.proofs.laws.one_value.Goals as goal
 
 pub returns : goal.returns

@@ -1,6 +1,6 @@
 use Rattle.std.proofs.Common.{sym, ap, ◌∙◌}
-use Rattle.sup_script.specs.Words.{words_left}
-use Rattle.sup_script.proofs.Commands.{no_by_id, more_than_none, tail_is}
+use Rattle.sup_script.specs.Reading.Words.{words_left}
+use Rattle.sup_script.proofs.Reading.Commands.{no_by_id, more_than_none, tail_is}
 use Rattle.sup_script.proofs.read.command.read_identifier.Goals as goal
 
 pub returns-then-is_some : goal.returns-then-is_some

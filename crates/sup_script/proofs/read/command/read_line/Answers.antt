@@ -1,6 +1,6 @@
 use Rattle.std.proofs.Common.{sym}
-use Rattle.sup_script.specs.Words.{words_left}
-use Rattle.sup_script.proofs.Commands.{no_command, more_than_none}
+use Rattle.sup_script.specs.Reading.Words.{words_left}
+use Rattle.sup_script.proofs.Reading.Commands.{no_command, more_than_none}
 use Rattle.sup_script.proofs.read.command.read_line.Goals as goal
 
 pub returns-then-is_some : goal.returns-then-is_some

@@ -1,7 +1,7 @@
 use Rattle.std.proofs.Common.{[], sym, ◌∙◌, append-nil}
-use Rattle.sup_script.specs.Words.{words_left}
-use Rattle.sup_script.specs.Tokens.{argument_words}
-use Rattle.sup_script.proofs.Commands.{no_update, more_than_none, none_past, tail_is}
+use Rattle.sup_script.specs.Reading.Words.{words_left}
+use Rattle.sup_script.specs.Reading.Tokens.{argument_words}
+use Rattle.sup_script.proofs.Reading.Commands.{no_update, more_than_none, none_past, tail_is}
 use Rattle.sup_script.proofs.read.command.read_update.Goals as goal
 
 pub returns-in_default : goal.returns-in_default

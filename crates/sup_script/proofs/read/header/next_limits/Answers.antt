@@ -1,6 +1,6 @@
 use Rattle.std.proofs.Common.{ap, ◌∙◌}
-use Rattle.sup_script.specs.Words.{words_left}
-use Rattle.sup_script.proofs.Commands.{tail_is}
+use Rattle.sup_script.specs.Reading.Words.{words_left}
+use Rattle.sup_script.proofs.Reading.Commands.{tail_is}
 use Rattle.sup_script.proofs.read.header.next_limits.Goals as goal
 
 pub returns-in_err-intensity : goal.returns-in_err-intensity

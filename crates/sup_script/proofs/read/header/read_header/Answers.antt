@@ -1,5 +1,5 @@
-use Rattle.sup_script.specs.Headers.{AreHeaderWords}
-use Rattle.sup_script.proofs.Firsts.{first_of}
+use Rattle.sup_script.specs.Reading.Headers.{AreHeaderWords}
+use Rattle.sup_script.proofs.Reading.Firsts.{first_of}
 use Rattle.sup_script.proofs.read.header.read_header.Goals as goal
 
 pub returns : goal.returns

@@ -1,6 +1,6 @@
 use Rattle.std.proofs.Common.{[], inl, inr}
-use Rattle.sup_script.specs.Headers.{shutdown_words}
-use Rattle.sup_script.proofs.Commands.{tail_is, more_than_none, past_limits}
+use Rattle.sup_script.specs.Reading.Headers.{shutdown_words}
+use Rattle.sup_script.proofs.Reading.Commands.{tail_is, more_than_none, past_limits}
 use Rattle.sup_script.proofs.read.header.read_shape.Goals as goal
 
 pub returns-in_err-significant : goal.returns-in_err-significant

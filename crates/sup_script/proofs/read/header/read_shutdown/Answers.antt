@@ -1,6 +1,6 @@
 use Rattle.std.proofs.Common.{ap, sym, ◌∙◌}
-use Rattle.sup_script.specs.Words.{words_left}
-use Rattle.sup_script.proofs.Commands.{tail_is, more_than_none}
+use Rattle.sup_script.specs.Reading.Words.{words_left}
+use Rattle.sup_script.proofs.Reading.Commands.{tail_is, more_than_none}
 use Rattle.sup_script.proofs.read.header.read_shutdown.Goals as goal
 
 pub returns-then-is_some : goal.returns-then-is_some

@@ -1,4 +1,4 @@
-use Rattle.sup_script.proofs.Entries.{lacks_split, no_entry_in}
+use Rattle.sup_script.proofs.Reading.Entries.{lacks_split, no_entry_in}
 use Rattle.sup_script.proofs.read.history.next_entry.Goals as goal
 
 pub returns-in_err-line : goal.returns-in_err-line

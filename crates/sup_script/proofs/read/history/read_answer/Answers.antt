@@ -1,7 +1,7 @@
 use Rattle.std.proofs.Common.{codes, sym, ap, ◌∙◌}
-use Rattle.sup_script.specs.Words.{words_left}
-use Rattle.sup_script.proofs.Commands.{more_than_none, other_text}
-use Rattle.sup_script.proofs.Entries.{no_answer}
+use Rattle.sup_script.specs.Reading.Words.{words_left}
+use Rattle.sup_script.proofs.Reading.Commands.{more_than_none, other_text}
+use Rattle.sup_script.proofs.Reading.Entries.{no_answer}
 use Rattle.sup_script.proofs.read.history.read_answer.Goals as goal
 
 pub returns-then-is_some : goal.returns-then-is_some

@@ -1,4 +1,4 @@
-use Rattle.sup_script.proofs.Commands.{tail_is}
+use Rattle.sup_script.proofs.Reading.Commands.{tail_is}
 use Rattle.sup_script.proofs.read.history.read_entry.Goals as goal
 
 pub returns-in_err-serial : goal.returns-in_err-serial

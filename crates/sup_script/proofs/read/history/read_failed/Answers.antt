@@ -1,7 +1,7 @@
 use Rattle.std.proofs.Common.{sym, ap, ◌∙◌, arith}
-use Rattle.sup_script.specs.Words.{words_left}
-use Rattle.sup_script.proofs.Commands.{tail_is, first_same, more_than_none}
-use Rattle.sup_script.proofs.Entries.{too_large_a_code}
+use Rattle.sup_script.specs.Reading.Words.{words_left}
+use Rattle.sup_script.proofs.Reading.Commands.{tail_is, first_same, more_than_none}
+use Rattle.sup_script.proofs.Reading.Entries.{too_large_a_code}
 use Rattle.sup_script.proofs.read.history.read_failed.Goals as goal
 
 pub returns-then-is_some : goal.returns-then-is_some

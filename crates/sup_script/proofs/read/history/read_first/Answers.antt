@@ -1,5 +1,5 @@
-use Rattle.sup_script.specs.History.{AreFirstWords}
-use Rattle.sup_script.proofs.Firsts.{first_of}
+use Rattle.sup_script.specs.Reading.History.{AreFirstWords}
+use Rattle.sup_script.proofs.Reading.Firsts.{first_of}
 use Rattle.sup_script.proofs.read.history.read_first.Goals as goal
 
 pub returns : goal.returns

@@ -1,6 +1,6 @@
 use Rattle.std.proofs.Common.{◌≡◌, ◌++◌, ◌∷◌, [], arith}
 use Rattle.std.proofs.lemmas.Bool.Decides.{nat_tests}
-use Rattle.sup_script.proofs.Histories.{no_first_line, first_stops, read_first_line, read_more, no_room, bad_line, split_length}
+use Rattle.sup_script.proofs.Reading.Histories.{no_first_line, first_stops, read_first_line, read_more, no_room, bad_line, split_length}
 use Rattle.sup_script.proofs.read.history.read_history.Goals as goal
 
 pub returns-in-None : goal.returns-in-None

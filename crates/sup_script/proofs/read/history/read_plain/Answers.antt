@@ -1,5 +1,5 @@
 use Rattle.std.proofs.Common.{[], sym}
-use Rattle.sup_script.proofs.Commands.{more_than_none, past_limits}
+use Rattle.sup_script.proofs.Reading.Commands.{more_than_none, past_limits}
 use Rattle.sup_script.proofs.read.history.read_plain.Goals as goal
 
 pub returns-then-is_some : goal.returns-then-is_some

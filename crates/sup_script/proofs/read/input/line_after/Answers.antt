@@ -1,5 +1,5 @@
 use Rattle.std.proofs.Common.{◌+◌, sym, ap, ◌∙◌}
-use Rattle.sup_script.proofs.FeedCounts.{count_full}
+use Rattle.sup_script.proofs.Reading.FeedCounts.{count_full}
 use Rattle.sup_script.proofs.read.input.line_after.Goals as goal
 
 pub returns : goal.returns

@@ -1,7 +1,7 @@
 use Rattle.std.proofs.Common.{◌-◌, arith}
 use Rattle.std.proofs.lemmas.Result.{err_from_is_err_and}
-use Rattle.sup_script.proofs.Causing.{calls_more}
-use Rattle.sup_script.proofs.Reading.{read_too_long}
+use Rattle.sup_script.proofs.Running.Causing.{calls_more}
+use Rattle.sup_script.proofs.Reading.WholeTexts.{read_too_long}
 use Rattle.sup_script.proofs.read.input.read_whole.Goals as goal
 
 pub returns-then-count-room-clause-read : goal.returns-then-count-room-clause-read

@@ -1,5 +1,5 @@
 use Rattle.std.proofs.Common.{◌≤◌, length, drop}
-use Rattle.sup_script.specs.Words.{Lacks}
+use Rattle.sup_script.specs.Reading.Words.{Lacks}
 use Rattle.sup_script.proofs.read.lines.ended_part.Given as goal
 
 abbrev pub invariant-loop-end : goal.invariant-loop-end

@@ -1,4 +1,4 @@
-use Rattle.sup_script.proofs.LineCuts.{lines-split, lines-one}
+use Rattle.sup_script.proofs.Reading.LineCuts.{lines-split, lines-one}
 use Rattle.sup_script.proofs.read.lines.first_line.Goals as goal
 
 pub returns-in-Some-clause-lines : goal.returns-in-Some-clause-lines

@@ -1,5 +1,5 @@
-use Rattle.sup_script.specs.Words.{words_left}
-use Rattle.sup_script.proofs.Commands.{no_exit, tail_is}
+use Rattle.sup_script.specs.Reading.Words.{words_left}
+use Rattle.sup_script.proofs.Reading.Commands.{no_exit, tail_is}
 use Rattle.sup_script.proofs.read.tokens.next_operation.Goals as goal
 
 pub returns-in_default-next_reason : goal.returns-in_default-next_reason

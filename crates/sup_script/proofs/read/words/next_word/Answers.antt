@@ -1,4 +1,4 @@
-use Rattle.sup_script.proofs.Cuts.{words-split, words-one}
+use Rattle.sup_script.proofs.Reading.Cuts.{words-split, words-one}
 use Rattle.sup_script.proofs.read.words.next_word.Goals as goal
 
 pub returns-in-Some : goal.returns-in-Some

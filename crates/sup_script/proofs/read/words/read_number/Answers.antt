@@ -4,7 +4,7 @@ use Rattle.std.specs.Int.{IsInRange}
 use Rattle.std.specs.Str.Parse.{digits_value, AllDigits}
 use Rattle.std.proofs.lemmas.List.{take_all}
 use Rattle.std.proofs.lemmas.Bool.Decides.{nat_tests}
-use Rattle.sup_script.proofs.Numbers.{is_number, empty_is_none, leading_zero_is_none, other_byte_is_none, too_large_is_none, value_more, digits_and_one}
+use Rattle.sup_script.proofs.Reading.Numbers.{is_number, empty_is_none, leading_zero_is_none, other_byte_is_none, too_large_is_none, value_more, digits_and_one}
 use Rattle.sup_script.proofs.read.words.read_number.Goals as goal
 use Rattle.sup_script.proofs.read.words.read_number.Goals.{else-word-eq48-via-then-word-eq48+else-word-gt1, else-word-eq48-via-else-word-eq48}
 

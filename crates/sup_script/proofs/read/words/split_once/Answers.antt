@@ -1,6 +1,6 @@
 use Rattle.std.proofs.Common.{◌+◌, ◌-◌, drop, length, sym, arith}
 use Rattle.std.proofs.lemmas.List.{take_all, length-drop}
-use Rattle.sup_script.proofs.Cuts.{split_found, split_missing}
+use Rattle.sup_script.proofs.Reading.Cuts.{split_found, split_missing}
 use Rattle.sup_script.proofs.read.words.split_once.Goals as goal
 
 pub returns-in_err-at : goal.returns-in_err-at

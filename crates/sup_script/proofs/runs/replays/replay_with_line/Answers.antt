@@ -1,5 +1,5 @@
-use Rattle.sup_script.proofs.Causing.{lines_causes}
-use Rattle.sup_script.proofs.WholeReplays.{read_cause, text_cause, input_faulty, text_faulty, replied, room_for_all}
+use Rattle.sup_script.proofs.Running.Causing.{lines_causes}
+use Rattle.sup_script.proofs.Running.WholeReplays.{read_cause, text_cause, input_faulty, text_faulty, replied, room_for_all}
 use Rattle.sup_script.proofs.runs.replays.replay_with_line.Goals as goal
 
 pub answer_entries-requires : goal.answer_entries-requires

@@ -1,4 +1,4 @@
-use Rattle.sup_script.proofs.Running.{line_gives, line_bad}
+use Rattle.sup_script.proofs.Running.LineByLine.{line_gives, line_bad}
 use Rattle.sup_script.proofs.runs.session.answer_command.Goals as goal
 
 pub returns-clause-given : goal.returns-clause-given

@@ -1,5 +1,5 @@
 use Rattle.std.proofs.lemmas.Result.{err_from_is_err_and}
-use Rattle.sup_script.proofs.Running.{header_gives, header_fails}
+use Rattle.sup_script.proofs.Running.LineByLine.{header_gives, header_fails}
 use Rattle.sup_script.proofs.runs.session.answer_line.Goals as goal
 
 pub returns-in_ok-first_supervisor-in-None-clause-given : goal.returns-in_ok-first_supervisor-in-None-clause-given

@@ -1,4 +1,4 @@
-use Rattle.sup_script.proofs.HistoryLines.{entry_appended}
+use Rattle.sup_script.proofs.Reading.HistoryLines.{entry_appended}
 use Rattle.sup_script.proofs.write.history_text.append_entry.Goals as goal
 
 pub returns-clause-text : goal.returns-clause-text

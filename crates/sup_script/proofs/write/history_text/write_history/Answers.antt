@@ -1,6 +1,6 @@
-use Rattle.sup_script.specs.Replies.{line_of}
-use Rattle.sup_script.specs.History.{first_words}
-use Rattle.sup_script.proofs.HistoryLines.{written_more, all_more, written_all}
+use Rattle.sup_script.specs.Writing.Replies.{line_of}
+use Rattle.sup_script.specs.Reading.History.{first_words}
+use Rattle.sup_script.proofs.Reading.HistoryLines.{written_more, all_more, written_all}
 use Rattle.sup_script.proofs.write.history_text.write_history.Goals as goal
 
 pub loop-entry-preserved : goal.loop-entry-preserved

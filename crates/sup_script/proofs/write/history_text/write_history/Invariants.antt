@@ -1,8 +1,8 @@
 use Rattle.std.proofs.Common.{◌≡◌, ◌++◌, take}
 use Rattle.std.specs.List.{flat_map}
-use Rattle.sup_script.specs.Replies.{line_of}
-use Rattle.sup_script.specs.History.{first_words}
-use Rattle.sup_script.proofs.HistoryLines.{entry_line, AllEntries}
+use Rattle.sup_script.specs.Writing.Replies.{line_of}
+use Rattle.sup_script.specs.Reading.History.{first_words}
+use Rattle.sup_script.proofs.Reading.HistoryLines.{entry_line, AllEntries}
 use Rattle.sup_script.proofs.write.history_text.write_history.Given as goal
 
 abbrev pub invariant-loop-entry : goal.invariant-loop-entry

@@ -1,5 +1,5 @@
 use Rattle.std.proofs.Common.{ap, ◌∙◌}
-use Rattle.sup_script.proofs.Written.{digits_appended, digit_appended}
+use Rattle.sup_script.proofs.Writing.Written.{digits_appended, digit_appended}
 use Rattle.sup_script.proofs.write.reply.+append_number.Goals as goal
 use Rattle.sup_script.proofs.write.reply.+append_number.Goals.{then-number-ge10+in_ok-append_number, else-number-ge10}
 

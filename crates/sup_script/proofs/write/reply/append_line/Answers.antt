@@ -1,7 +1,7 @@
 use Rattle.std.proofs.Common.{◌++◌, ◌∷◌, [], List, ℕ, ap, sym, append-nil, ◌∙◌, arith}
 use Rattle.std.proofs.lemmas.Result.{err_from_is_err_and}
-use Rattle.sup_script.specs.Replies.{Grows}
-use Rattle.sup_script.proofs.Written.{word_appended, first_word_appended, Grows-more}
+use Rattle.sup_script.specs.Writing.Replies.{Grows}
+use Rattle.sup_script.proofs.Writing.Written.{word_appended, first_word_appended, Grows-more}
 use Rattle.sup_script.proofs.write.reply.append_line.Goals as goal
 use Rattle.sup_script.proofs.write.reply.append_line.Goals.{then-i-gt0+in_ok-push, else-i-gt0}
 

@@ -1,6 +1,6 @@
 use Rattle.std.proofs.Common.{◌≡◌, ◌++◌, take, map}
 use Rattle.std.specs.List.{join_with_byte}
-use Rattle.sup_script.specs.Replies.{field_word}
+use Rattle.sup_script.specs.Writing.Replies.{field_word}
 use Rattle.sup_script.proofs.write.reply.append_line.Given as goal
 
 abbrev pub invariant-loop-i : goal.invariant-loop-i

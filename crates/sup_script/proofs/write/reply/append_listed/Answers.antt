@@ -1,5 +1,5 @@
 use Rattle.std.proofs.lemmas.Result.{err_from_is_err_and}
-use Rattle.sup_script.proofs.Written.{Grows-more, grows_on_err}
+use Rattle.sup_script.proofs.Writing.Written.{Grows-more, grows_on_err}
 use Rattle.sup_script.proofs.write.reply.append_listed.Goals as goal
 
 pub returns-in_err-append_row-clause-err : goal.returns-in_err-append_row-clause-err

@@ -1,6 +1,6 @@
 use Rattle.std.proofs.Common.{◌≡◌, ◌++◌, take}
 use Rattle.std.specs.List.{flat_map}
-use Rattle.sup_script.specs.Replies.{row_text}
+use Rattle.sup_script.specs.Writing.Replies.{row_text}
 use Rattle.sup_script.proofs.write.reply.append_listed.Given as goal
 
 abbrev pub invariant-loop-row : goal.invariant-loop-row

@@ -1,5 +1,5 @@
 use Rattle.std.proofs.Common.{◌≡◌, ◌++◌, take, map}
-use Rattle.sup_script.specs.Replies.{field_word, spaced}
+use Rattle.sup_script.specs.Writing.Replies.{field_word, spaced}
 use Rattle.sup_script.proofs.write.reply.append_spaced.Given as goal
 
 abbrev pub invariant-loop-field : goal.invariant-loop-field

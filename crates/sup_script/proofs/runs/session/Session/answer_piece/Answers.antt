@@ -3,19 +3,19 @@ use Rattle.std.proofs.lemmas.Bool.Decides.{nat_tests}
 use Rattle.std.proofs.lemmas.List.{length-drop, take_all}
 use Rattle.std.proofs.lemmas.Result.{err_from_is_err_and}
 use Rattle.std.proofs.Math.Seq.{drop-append_seam}
-use Rattle.sup_script.proofs.Pieces.{piece_kept, piece_lines, joined_length, few_lines, few_steps, lines_counted}
+use Rattle.sup_script.proofs.Running.Pieces.{piece_kept, piece_lines, joined_length, few_lines, few_steps, lines_counted}
 use Rattle.sup_script.proofs.runs.session.Session.answer_piece.Goals as goal
 
 pub returns-then-is_empty-clause-given : goal.returns-then-is_empty-clause-given
 returns-then-is_empty-clause-given g c = λ front text s.
-    piece_kept g.S.FixedStarter.answer front text c.args.part.now.items c.args.piece.now c.extend_from_slice.new.self.items c.args.self.now.supervisor c.args.self.now.next (g.W.Write.contents c.args.writer.now.writer)
+    piece_kept g.S.FixedStarter.answer front text c.args.part.now.items c.args.piece.now c.extend_from_slice.new.self.items c.args.self.now.supervisor c.args.self.now.next (g.W.Write.contents c.args.self.now.outbox.writer.now.writer)
     c.ended_part-ended.result.now c.ended_part-ended.ensures (grind (arith, nat_tests)) (rw c.unwrap.ensures at c.extend_from_slice.ensures.items) c.requires.lacks s
 
 pub returns-in_err-answer_joined-clause-given : goal.returns-in_err-answer_joined-clause-given
 returns-in_err-answer_joined-clause-given g c = λ front text s.
     let p = err_from_is_err_and c.from_residual.result c.from_residual.ensures.1 in
     rw (p.1, p.2)
-    (piece_lines g.S.FixedStarter.answer front text c.args.part.now.items c.args.piece.now c.answer_joined.new.part.items c.answer_joined.new.self.supervisor c.answer_joined.new.self.next (g.W.Write.contents c.args.writer.now.writer) (g.W.Write.contents c.answer_joined.new.writer.writer) _
+    (piece_lines g.S.FixedStarter.answer front text c.args.part.now.items c.args.piece.now c.answer_joined.new.part.items c.answer_joined.new.self.supervisor c.answer_joined.new.self.next (g.W.Write.contents c.args.self.now.outbox.writer.now.writer) (g.W.Write.contents c.answer_joined.new.self.outbox.writer.now.writer) _
     c.ended_part-ended.result.now c.ended_part-ended.ensures (grind (arith, nat_tests)) tt (c.in_err-answer_joined.ensures.given front text s))
 
 pub returns-clause-given : goal.returns-clause-given
@@ -26,7 +26,7 @@ returns-clause-given g c = λ front text s.
     let all = take_all (length c.args.piece.now - length ended) (drop (length ended) c.args.piece.now) (omega (arith, length-drop (length ended) c.args.piece.now)) in
     let kept : c.extend_from_slice-2.new.self.items ≡ e.rest = (rw (c.unwrap-2.ensures, c.clear.ensures.items, all) at c.extend_from_slice-2.ensures.items) ∙ left in
     let some : 0 < length ended = grind (arith, nat_tests) in
-    piece_lines g.S.FixedStarter.answer front text c.args.part.now.items c.args.piece.now c.extend_from_slice-2.new.self.items c.answer_joined.new.self.supervisor c.answer_joined.new.self.next (g.W.Write.contents c.args.writer.now.writer) (g.W.Write.contents c.answer_joined.new.writer.writer) _
+    piece_lines g.S.FixedStarter.answer front text c.args.part.now.items c.args.piece.now c.extend_from_slice-2.new.self.items c.answer_joined.new.self.supervisor c.answer_joined.new.self.next (g.W.Write.contents c.args.self.now.outbox.writer.now.writer) (g.W.Write.contents c.answer_joined.new.self.outbox.writer.now.writer) _
     ended e some kept (c.in_ok-answer_joined.ensures.given front text s)
 
 pub returns-in_err-answer_joined-clause-cause : goal.returns-in_err-answer_joined-clause-cause

@@ -1,6 +1,6 @@
 use Rattle.std.proofs.Common.{◌-◌, length, drop, arith}
 use Rattle.std.proofs.lemmas.List.{take_all, length-drop}
-use Rattle.sup_script.proofs.Sending.{taken_more}
+use Rattle.sup_script.proofs.Writing.Sending.{taken_more}
 use Rattle.sup_script.proofs.runs.watch.WatchedWriter.send.Goals as goal
 
 pub loop-taken-preserved : goal.loop-taken-preserved

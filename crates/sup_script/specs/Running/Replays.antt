@@ -1,0 +1,104 @@
+-- What a whole replay does: what it reads, what it writes, and how it ends.
+use Rattle.std.specs.Prelude.{◌≡◌, ◌⊎◌, ℕ, ◌+◌, ◌≤◌, List, [], ◌∷◌, ◌++◌, length, Option, Result, Ok, Err}
+use Rattle.std.specs.Io.KnownBytes.{Appends, Consumes}
+use Rattle.sup_types.specs.declared.template.Template.{Template}
+use Rattle.sup_types.specs.declared.history.Entry.{Entry}
+use Rattle.sup_core.specs.Account.{reply_after}
+use Rattle.sup_script.specs.declared.fault.Fault.{Fault}
+use Rattle.sup_script.specs.declared.fault.Fault.TheVariants as fault
+use Rattle.sup_script.specs.declared.fault.ScriptFault.{ScriptFault}
+use Rattle.sup_script.specs.Reading.Headers.{IsFirst}
+use Rattle.sup_script.specs.Reading.History.{AreFirstWords, AreEntries, Spells}
+use Rattle.sup_script.specs.Reading.HistoryReading.{HistoryStops}
+use Rattle.sup_script.specs.Writing.Replies.{reply_text}
+use Rattle.sup_script.specs.Running.Runs.{EndsReading, IsEndedPart}
+use Rattle.sup_script.specs.Running.Script.{lines_of}
+use Rattle.sup_script.specs.Running.Stops.{IsAtLine, IsCutShort}
+
+-- the text was read so far, at most 2^24 bytes, and those past them
+pub record IsRead (remaining left : Option (List ℕ)) (given : List ℕ) (result : Result (Unit {0}) Fault) : Type 0 where
+  pub past : List ℕ
+  pub short : length given ≤ 16777216
+  pub took : Consumes remaining left (given ++ past)
+  pub ended : EndsReading left given past result
+
+-- ---- replies
+
+-- the text of the replies to entries after a history
+abbrev pub entries_text : Template → List Entry → List Entry → List ℕ
+entries_text template history [] = []
+entries_text template history (e ∷ es) = reply_text (reply_after template history e) ++ entries_text template (history ++ e ∷ []) es
+
+-- entries behind a first line, and the text of their replies from an empty supervisor
+pub record IsReplayed (first : List ℕ) (body : List (List ℕ)) (text : List ℕ) : Type 0 where
+  pub template : Template
+  pub entries : List Entry
+  pub first_is : IsFirst AreFirstWords first template
+  pub entries_are : AreEntries body entries
+  pub replies : text ≡ entries_text template [] entries
+
+-- lines with no fault, and the text of their replies; the first line has none
+abbrev pub Replays : List (List ℕ) → List ℕ → Type 0
+Replays [] text = text ≡ []
+Replays (first ∷ body) text = IsReplayed first body text
+
+-- the making or the writing of the replies stopped in a line
+abbrev pub ReplyStops : List (List ℕ) → ℕ → List ℕ → Fault → Type 0
+ReplyStops lines number written fault.OutOfMemory = IsAtLine Replays lines number written
+ReplyStops lines number written fault.BadTemplate = ⊥
+ReplyStops lines number written fault.BadLine = ⊥
+ReplyStops lines number written fault.ReadFault = ⊥
+ReplyStops lines number written fault.WriteFault = IsCutShort Replays lines number written
+ReplyStops lines number written fault.TooLong = ⊥
+
+-- all replies were written, or it stopped in a line
+abbrev pub RepliesGive : List (List ℕ) → Template → List Entry → Option (List ℕ) → Option (List ℕ) → Result (Unit {0}) ScriptFault → Type 0
+RepliesGive lines template entries old new (Ok u) = Appends old new (entries_text template [] entries)
+RepliesGive lines template entries old new (Err e) = (written : List ℕ) × Appends old new written × ReplyStops lines e.line written e.fault
+
+-- ---- a whole replay
+
+-- the input ended, it spells a template and entries, and their replies were written
+pub record IsWholeReplay (left : Option (List ℕ)) (given past written : List ℕ) : Type 0 where
+  pub ended : EndsReading left given past (Ok tt)
+  pub template : Template
+  pub entries : List Entry
+  pub spelled : Spells given template entries
+  pub written_is : written ≡ entries_text template [] entries
+
+-- the reading had this fault, which stands in the line after the last one that is ended, and nothing was written
+pub record HasFaultyInput (left : Option (List ℕ)) (given past written : List ℕ) (e : ScriptFault) : Type 0 where
+  pub ended : EndsReading left given past (Err e.fault)
+  pub front : List ℕ
+  pub lines : IsEndedPart given front
+  pub line_is : e.line ≡ length (lines_of front) + 1
+  pub none : written ≡ []
+
+-- the input ended, and the text has a fault, or there was no memory for what it spells; nothing was written
+pub record HasFaultyText (left : Option (List ℕ)) (given past written : List ℕ) (e : ScriptFault) : Type 0 where
+  pub ended : EndsReading left given past (Ok tt)
+  pub stops : HistoryStops given e.line e.fault
+  pub none : written ≡ []
+
+-- the input ended and the text has no fault, but the making or the writing of the replies stopped
+pub record HasStoppedReplying (left : Option (List ℕ)) (given past written : List ℕ) (e : ScriptFault) : Type 0 where
+  pub ended : EndsReading left given past (Ok tt)
+  pub template : Template
+  pub entries : List Entry
+  pub spelled : Spells given template entries
+  pub stops : ReplyStops (lines_of given) e.line written e.fault
+
+abbrev pub ReplayOutcome : Option (List ℕ) → List ℕ → List ℕ → List ℕ → Result (Unit {0}) ScriptFault → Type 0
+ReplayOutcome left given past written (Ok u) = IsWholeReplay left given past written
+ReplayOutcome left given past written (Err e) =
+    HasFaultyInput left given past written e ⊎ (HasFaultyText left given past written e ⊎ HasStoppedReplying left given past written e)
+
+-- the replay took the given bytes from the reader, at most 2^24, and those past them, and appended what was written to the writer
+pub record IsReplay (remaining left contents held : Option (List ℕ)) (result : Result (Unit {0}) ScriptFault) : Type 0 where
+  pub given : List ℕ
+  pub past : List ℕ
+  pub written : List ℕ
+  pub short : length given ≤ 16777216
+  pub took : Consumes remaining left (given ++ past)
+  pub wrote : Appends contents held written
+  pub outcome : ReplayOutcome left given past written result
