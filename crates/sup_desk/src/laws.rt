@@ -74,8 +74,9 @@ fn write<N: Name, S: Starter, R: Wait + Drop>(
     if leaf.is_full() {
         return Err(UpdateFault::HistoryFull);
     }
-    let answer = match leaf.wants_answer(&operation, moment) {
-        Some(arg) => starter.start(&arg, moment),
+    let asked = leaf.asks(&operation, moment);
+    let answer = match &asked.arg {
+        Some(arg) => starter.start(arg, moment),
         None => Answer::Ignore,
     };
     let entry = Entry {
@@ -85,7 +86,7 @@ fn write<N: Name, S: Starter, R: Wait + Drop>(
         operation,
         answer,
     };
-    match leaf.append(entry) {
+    match leaf.append(entry, &asked) {
         Ok(reply) => Ok(reply),
         Err(_) => Err(UpdateFault::OutOfMemory),
     }

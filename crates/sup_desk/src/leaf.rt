@@ -11,9 +11,9 @@ use crate::handle::HandleOf;
 use crate::name::Name;
 use std::marker::{Model, PhantomData};
 use std::sync::Wait;
-use sup_core::Sup;
+use sup_core::{Asked, Sup};
 use sup_log::{Lens, NoPlace, Press, Ticket};
-use sup_types::{Entry, Operation, OutOfMemory, Reply, Text};
+use sup_types::{Entry, Operation, OutOfMemory, Reply};
 
 /// A supervisor in the state after all that was written, the press, and how many entries each handle has made.
 #[derive(Drop)]
@@ -153,15 +153,15 @@ impl<N: Name, R: Wait + Drop> Leaf<N, R> {
         self.sup.is_spent()
     }
 
-    /// The argument whose start decides the reply to an entry with this operation and moment, if there is one.
-    pub fn wants_answer(&self, operation: &Operation, moment: u64) -> Option<Text>
-        ensures { result ≡ asked_argument (state_after N.template (self.now.published ++ self.now.pending)) operation.now moment }
+    /// What an entry with this operation and moment asks: the argument whose start decides the reply, if there is one.
+    pub fn asks(&self, operation: &Operation, moment: u64) -> Asked
+        ensures { result.arg ≡ asked_argument (state_after N.template (self.now.published ++ self.now.pending)) operation.now moment }
     {
-        self.sup.wants_answer(operation, moment)
+        self.sup.asks(operation, moment)
     }
 
-    /// Writes one entry, which is then pending. After a refusal nothing has changed.
-    pub fn append(&mut self, entry: Entry) -> Result<Reply, OutOfMemory>
+    /// Writes one entry, for which this was asked, and which is then pending. After a refusal nothing has changed.
+    pub fn append(&mut self, entry: Entry, asked: &Asked) -> Result<Reply, OutOfMemory>
         requires made { IsMade self.old.made entry.handle }
         requires room { length (self.old.published ++ self.old.pending) < N.template.entries }
         ensures ok { IfOk result (λ r. (r ≡ reply_after N.template (self.old.published ++ self.old.pending) entry) × (self.new ≡ record self.old { pending = self.old.pending ++ entry ∷ [] })) }
@@ -170,7 +170,7 @@ impl<N: Name, R: Wait + Drop> Leaf<N, R> {
         self.press.append(entry)?;
         let pending = self.press.pending();
         let entry = &pending[pending.len() - 1];
-        let reply = self.sup.step(entry);
+        let reply = self.sup.step_asked(entry, asked);
         count_one(&mut self.counts, entry.handle);
         Ok(reply)
     }

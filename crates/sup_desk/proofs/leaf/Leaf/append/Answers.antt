@@ -17,8 +17,8 @@ last_of : (before all : List Entry) (entry d : Entry) → all ≡ before ++ entr
 last_of before all entry d is =
     ap (λ n. get_or all n d) (omega (arith, ap length is, length-append before (entry ∷ []))) ∙ ap (λ (l : List Entry). get_or l (length before) d) is ∙ get_or-append_seam before entry [] d
 
-pub step-reply-requires : goal.step-reply-requires
-step-reply-requires g c =
+pub step_asked-reply-requires : goal.step_asked-reply-requires
+step_asked-reply-requires g c =
     let l = c.self.inside in
     let all : length (l.press.published ++ l.press.pending) ≡ length (c.args.self.now.published ++ c.args.self.now.pending) = ap (λ (w : Written). length (w.published ++ w.pending)) c.self.view_is in
     let steps = steps_is g.N.Name.template (l.press.published ++ l.press.pending) l.sup c.self.invariant.3 in
@@ -55,14 +55,14 @@ invariant_of-self-2 g c =
     let last = c.index-pending-pending.is
     ∙ last_of l.press.pending c.pending-pending.result.now entry c.index-pending-pending.result (c.pending-pending.ensures ∙ ap (λ (r : Record). r.pending) is) in
     let longer : all ++ entry ∷ [] ≡ l.press.published ++ (l.press.pending ++ entry ∷ []) = append_assoc l.press.published l.press.pending (entry ∷ []) in
-    let sup = c.step-reply.ensures.next ∙ ap (next_state l.sup) last ∙ next_is n.template all l.sup entry old.3 ∙ ap (λ k. standing n.template k) longer in
+    let sup = c.step_asked-reply.ensures.next ∙ ap (next_state l.sup) last ∙ next_is n.template all l.sup entry old.3 ∙ ap (λ k. standing n.template k) longer in
     let mine : (1 ≤ entry.handle) × (entry.handle ≤ made) = (c.requires.made.0, omega (arith, ap (λ (w : Written). w.made) c.self.view_is, c.requires.made.1)) in
     let more = counted_push made l.counts.items all entry place (sym l.counts.ok.0) old.4 mine (omega (arith, mine.0)) in
     let counted : IsCounted made' counts' (l.press.published ++ (l.press.pending ++ entry ∷ [])) =
     subst (λ (m : ℕ). IsCounted m counts' (l.press.published ++ (l.press.pending ++ entry ∷ []))) (sym c.count_one.ensures.len.0)
     (subst (λ (k : List ℕ). IsCounted made k (l.press.published ++ (l.press.pending ++ entry ∷ []))) (sym (c.count_one.ensures.items ∙ ap (λ (e : Entry). set l.counts.items (e.handle - 1) (get_or l.counts.items (e.handle - 1) 0 + 1)) last))
     (subst (λ (h : List Entry). IsCounted made (set l.counts.items place (get_or l.counts.items place 0 + 1)) h) longer more)) in
-    subst (λ (r : Record). (r.press ≡ n.press) × (r.template ≡ n.template) × (r.published ≡ history_of r.editions) × (c.step-reply.new.self ≡ standing n.template (r.published ++ r.pending))
+    subst (λ (r : Record). (r.press ≡ n.press) × (r.template ≡ n.template) × (r.published ≡ history_of r.editions) × (c.step_asked-reply.new.self ≡ standing n.template (r.published ++ r.pending))
     × IsCounted made' counts' (r.published ++ r.pending) × (made' ≤ l.handles) × (l.handles ≤ vec_capacity c.count_one.new.counts) × (l.handles ≤ 1024))
     (sym is)
     (old.0, old.1, old.2, sup, counted, omega (arith, c.count_one.ensures.len.0, old.5), omega (arith, c.count_one.ensures.len.1, old.6), old.7)
@@ -78,6 +78,6 @@ returns-clause-ok g c =
     let last = c.index-pending-pending.is
     ∙ last_of l.press.pending c.pending-pending.result.now entry c.index-pending-pending.result (c.pending-pending.ensures ∙ ap (λ (r : Record). r.pending) is) in
     let step = λ (w : Written). let next : Written = record { editions = w.editions; published = w.published; pending = w.pending ++ entry ∷ []; made = w.made; handles = w.handles } in next in (
-      c.step-reply.ensures.reply ∙ ap (reply_to l.sup) last ∙ reply_is n.template all l.sup entry c.self.invariant.3 ∙ ap (λ (w : Written). reply_after n.template (w.published ++ w.pending) entry) c.self.view_is,
+      c.step_asked-reply.ensures.reply ∙ ap (reply_to l.sup) last ∙ reply_is n.template all l.sup entry c.self.invariant.3 ∙ ap (λ (w : Written). reply_after n.template (w.published ++ w.pending) entry) c.self.view_is,
       (λ i. record { editions = (is i).editions; published = (is i).published; pending = (is i).pending; made = c.count_one.ensures.len.0 i; handles = l.handles }) ∙ ap step c.self.view_is,
     )
