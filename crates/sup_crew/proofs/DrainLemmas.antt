@@ -1,5 +1,5 @@
 -- What a drain entered, and what it holds.
-use Rattle.std.proofs.Common.{◌≡◌, ℕ, zero, suc, ◌+◌, ◌-◌, ◌<◌, ◌≤◌, List, [], ◌∷◌, ◌++◌, length, length-append, take, fold, get_or, refl, sym, ap, ◌∙◌, arith, append_assoc, subst, Option, Some, None, min, ◌⊎◌, inl, inr}
+use Rattle.std.proofs.Common.{◌≡◌, ℕ, zero, suc, ◌+◌, ◌-◌, ◌<◌, ◌≤◌, List, [], ◌∷◌, ◌++◌, length, length-append, take, get_or, refl, sym, ap, ◌∙◌, arith, append_assoc, subst, Option, Some, None, min, ◌⊎◌, inl, inr}
 use Rattle.std.specs.Prelude.{remove, IfSome, IfNone}
 use native.Mathlib.Decide.{dec_le}
 use mathlib.Core.Logic.{dite}
@@ -9,7 +9,6 @@ use Rattle.logbook.specs.Pages.{Book}
 use Rattle.sup_types.specs.declared.text.Text.{Text}
 use Rattle.sup_types.specs.declared.template.Template.{Template}
 use Rattle.sup_types.specs.declared.history.Answer.{Answer}
-use Rattle.sup_types.specs.declared.history.Entry.{Entry}
 use Rattle.sup_types.specs.declared.history.Operation.{Operation}
 use Rattle.sup_types.specs.declared.history.Operation.TheVariants.{Exit}
 use Rattle.sup_types.specs.declared.history.Reply.{Reply}

@@ -3,7 +3,7 @@ pub mod Born
 pub mod Called
 pub mod DrainLemmas
 mod Handed
-pub mod Led
+pub mod Driven
 pub mod Moves
 pub mod Reported
 pub mod Right

@@ -7,8 +7,8 @@ use Rattle.crossbeam_queue.proofs.Lists.{at_set, at_snoc}
 use Rattle.sup_desk.specs.declared.name.Name.{Ghosts}
 use Rattle.sup_crew.specs.declared.job.Job.{Job}
 use Rattle.sup_crew.specs.declared.job.Child.{Child}
-use Rattle.sup_crew.specs.declared.queue.Share.{Share}
-use Rattle.sup_crew.specs.Jobs.{share, weigh, total, IdleIsEmpty, child_of, children_of, Balanced}
+use Rattle.sup_crew.specs.declared.queue.Permission.{Permission}
+use Rattle.sup_crew.specs.Jobs.{permission, weigh, total, IdleIsEmpty, child_of, children_of, Balanced}
 
 pub weigh-append : (h : Child → ℕ) (xs ys : List Child) → weigh h (xs ++ ys) ≡ weigh h xs + weigh h ys
 weigh-append h [] ys = omega arith
@@ -27,40 +27,40 @@ module _ {N : Type 0} {G : Ghosts N} where
   weigh-job h [] x = omega arith
   weigh-job h (y ∷ xs) x = let r = weigh-job h xs x in omega (arith, r)
 
-total-append : (f : Share → ℕ) (vs ws : List Share) → total f (vs ++ ws) ≡ total f vs + total f ws
+total-append : (f : Permission → ℕ) (vs ws : List Permission) → total f (vs ++ ws) ≡ total f vs + total f ws
 total-append f [] ws = omega arith
 total-append f (v ∷ vs) ws = let r = total-append f vs ws in omega (arith, r)
 
 -- the total after a change of one share
-total-set : (f : Share → ℕ) (views : List Share) (port : ℕ) (v w : Share) → get_elem? views port ≡ some v → total f (set views port w) + f v ≡ total f views + f w
+total-set : (f : Permission → ℕ) (views : List Permission) (port : ℕ) (v w : Permission) → get_elem? views port ≡ some v → total f (set views port w) + f v ≡ total f views + f w
 total-set f [] port v w at = absurd (some-ne-none v (sym at))
 total-set f (x ∷ xs) zero v w at = let e = ap f (some-injective x v at) in omega (arith, e)
 total-set f (x ∷ xs) (suc port) v w at = let r = total-set f xs port v w at in omega (arith, r)
 
-some_part : (f : Share → ℕ) (views : List Share) (port : ℕ) (v : Share) → get_elem? views port ≡ some v → f v ≤ total f views
+some_part : (f : Permission → ℕ) (views : List Permission) (port : ℕ) (v : Permission) → get_elem? views port ≡ some v → f v ≤ total f views
 some_part f [] port v at = absurd (some-ne-none v (sym at))
 some_part f (x ∷ xs) zero v at = let e = ap f (some-injective x v at) in omega (arith, e)
 some_part f (x ∷ xs) (suc port) v at = let r = some_part f xs port v at in omega (arith, r)
 
-abbrev parts : Share → ℕ
+abbrev parts : Permission → ℕ
 parts v = v.parts
 
-idle_set : (views : List Share) (port : ℕ) (w : Share) → (w.parts ≡ 0 → (w.put ≡ []) × (w.taken ≡ [])) → IdleIsEmpty views → IdleIsEmpty (set views port w)
+idle_set : (views : List Permission) (port : ℕ) (w : Permission) → (w.parts ≡ 0 → (w.put ≡ []) × (w.taken ≡ [])) → IdleIsEmpty views → IdleIsEmpty (set views port w)
 idle_set views port w mine idle j u e none =
     ⊎_elim
-    (λ (x : (j ≡ port) × (w ≡ u)). subst (λ (y : Share). (y.put ≡ []) × (y.taken ≡ [])) x.1 (mine (ap parts x.1 ∙ none)))
+    (λ (x : (j ≡ port) × (w ≡ u)). subst (λ (y : Permission). (y.put ≡ []) × (y.taken ≡ [])) x.1 (mine (ap parts x.1 ∙ none)))
     (λ (x : (j ≢ port) × (get_elem? views j ≡ some u)). idle j u x.1 none)
     (at_set views port j w u e)
 
-idle_snoc : (views : List Share) (w : Share) → (w.parts ≡ 0 → (w.put ≡ []) × (w.taken ≡ [])) → IdleIsEmpty views → IdleIsEmpty (views ++ w ∷ [])
+idle_snoc : (views : List Permission) (w : Permission) → (w.parts ≡ 0 → (w.put ≡ []) × (w.taken ≡ [])) → IdleIsEmpty views → IdleIsEmpty (views ++ w ∷ [])
 idle_snoc views w mine idle j u e none =
     ⊎_elim
     (λ (x : get_elem? views j ≡ some u). idle j u x none)
-    (λ (x : w ≡ u). subst (λ (y : Share). (y.put ≡ []) × (y.taken ≡ [])) x (mine (ap parts x ∙ none)))
+    (λ (x : w ≡ u). subst (λ (y : Permission). (y.put ≡ []) × (y.taken ≡ [])) x (mine (ap parts x ∙ none)))
     (at_snoc views w u j e)
 
 -- where no share has a part, f is 0 of each
-none_left : (f : Share → ℕ) (views : List Share) → total parts views ≡ 0 → ((port : ℕ) (v : Share) → get_elem? views port ≡ some v → v.parts ≡ 0 → f v ≡ 0) → total f views ≡ 0
+none_left : (f : Permission → ℕ) (views : List Permission) → total parts views ≡ 0 → ((port : ℕ) (v : Permission) → get_elem? views port ≡ some v → v.parts ≡ 0 → f v ≡ 0) → total f views ≡ 0
 none_left f [] none idle = refl
 none_left f (x ∷ xs) none idle =
     let r = none_left f xs (omega (arith, none)) (λ port v at. idle (suc port) v at) in
@@ -68,7 +68,7 @@ none_left f (x ∷ xs) none idle =
     omega (arith, r, e)
 
 -- where one share has every part, f is 0 of each other
-only : (f : Share → ℕ) (views : List Share) (port : ℕ) (v : Share) → get_elem? views port ≡ some v → total parts views ≡ v.parts → ((j : ℕ) (u : Share) → get_elem? views j ≡ some u → u.parts ≡ 0 → f u ≡ 0) → total f views ≡ f v
+only : (f : Permission → ℕ) (views : List Permission) (port : ℕ) (v : Permission) → get_elem? views port ≡ some v → total parts views ≡ v.parts → ((j : ℕ) (u : Permission) → get_elem? views j ≡ some u → u.parts ≡ 0 → f u ≡ 0) → total f views ≡ f v
 only f [] port v at all idle = absurd (some-ne-none v (sym at))
 only f (x ∷ xs) zero v at all idle =
     let e = some-injective x v at in
@@ -84,9 +84,9 @@ only f (x ∷ xs) (suc port) v at all idle =
     omega (arith, r, e)
 
 module _ {N : Type 0} {G : Ghosts N} where
-  pub puts : (n port : ℕ) (v : Share) (x : Job N G) → 0 < v.parts → Pushes (Balanced {N = N} {G = G}) n port v x (λ w. w ≡ share v.parts (v.put ++ child_of x ∷ []) v.taken)
+  pub puts : (n port : ℕ) (v : Permission) (x : Job N G) → 0 < v.parts → Pushes (Balanced {N = N} {G = G}) n port v x (λ w. w ≡ permission v.parts (v.put ++ child_of x ∷ []) v.taken)
   puts n port v x some_part items views room b at =
-      let w = share v.parts (v.put ++ child_of x ∷ []) v.taken in (
+      let w = permission v.parts (v.put ++ child_of x ∷ []) v.taken in (
         w,
         (
           (let s = total-set parts views port v w at in let p = b.0 in omega (arith, s, p)),
@@ -102,9 +102,9 @@ module _ {N : Type 0} {G : Ghosts N} where
         refl,
       )
 
-  pub takes : (port : ℕ) (v : Share) → 0 < v.parts → Pops (Balanced {N = N} {G = G}) port v (λ x w. w ≡ share v.parts v.put (v.taken ++ child_of x ∷ []))
+  pub takes : (port : ℕ) (v : Permission) → 0 < v.parts → Pops (Balanced {N = N} {G = G}) port v (λ x w. w ≡ permission v.parts v.put (v.taken ++ child_of x ∷ []))
   takes port v some_part x items views b at =
-      let w = share v.parts v.put (v.taken ++ child_of x ∷ []) in (
+      let w = permission v.parts v.put (v.taken ++ child_of x ∷ []) in (
         w,
         (
           (let s = total-set parts views port v w at in let p = b.0 in omega (arith, s, p)),
@@ -119,10 +119,10 @@ module _ {N : Type 0} {G : Ghosts N} where
         refl,
       )
 
-  pub gives : (port : ℕ) (v : Share) → 1 < v.parts → Forks (Balanced {N = N} {G = G}) port v (share (v.parts - 1) v.put v.taken) (share 1 [] [])
+  pub gives : (port : ℕ) (v : Permission) → 1 < v.parts → Forks (Balanced {N = N} {G = G}) port v (permission (v.parts - 1) v.put v.taken) (permission 1 [] [])
   gives port v more items views b at =
-      let w = share (v.parts - 1) v.put v.taken in
-      let u = share 1 [] [] in
+      let w = permission (v.parts - 1) v.put v.taken in
+      let u = permission 1 [] [] in
       let vs = set views port w in (
         (let s = total-set parts views port v w at in let p = b.0 in let a = total-append parts vs (u ∷ []) in omega (arith, s, p, a)),
         (λ h.
@@ -135,10 +135,10 @@ module _ {N : Type 0} {G : Ghosts N} where
         idle_snoc vs u (λ none. absurd (omega (arith, none))) (idle_set views port w (λ none. absurd (omega (arith, none))) b.2),
       )
 
-  pub joins : (port : ℕ) (v : Share) (other : ℕ) (u : Share) → 0 < v.parts → Merges (Balanced {N = N} {G = G}) port v other u (share (v.parts + u.parts) (v.put ++ u.put) (v.taken ++ u.taken)) (share 0 [] [])
+  pub joins : (port : ℕ) (v : Permission) (other : ℕ) (u : Permission) → 0 < v.parts → Merges (Balanced {N = N} {G = G}) port v other u (permission (v.parts + u.parts) (v.put ++ u.put) (v.taken ++ u.taken)) (permission 0 [] [])
   joins port v other u some_part items views b at apart there =
-      let w = share (v.parts + u.parts) (v.put ++ u.put) (v.taken ++ u.taken) in
-      let z = share 0 [] [] in
+      let w = permission (v.parts + u.parts) (v.put ++ u.put) (v.taken ++ u.taken) in
+      let z = permission 0 [] [] in
       let vs = set views port w in (
         (let s = total-set parts views port v w at in let t = total-set parts vs other u z there in let p = b.0 in omega (arith, s, t, p)),
         (λ h.
@@ -153,7 +153,7 @@ module _ {N : Type 0} {G : Ghosts N} where
         idle_set vs other z (λ _. (refl, refl)) (idle_set views port w (λ none. absurd (omega (arith, none))) b.2),
       )
 
-  pub learns : (port : ℕ) (v : Share) → v.parts ≡ 1024 → Learns (Balanced {N = N} {G = G}) port v (λ items. (h : Child → ℕ) → weigh h v.put ≡ weigh h v.taken + weigh h (children_of items))
+  pub learns : (port : ℕ) (v : Permission) → v.parts ≡ 1024 → Learns (Balanced {N = N} {G = G}) port v (λ items. (h : Child → ℕ) → weigh h v.put ≡ weigh h v.taken + weigh h (children_of items))
   learns port v all items views b at h =
       let every = b.0 ∙ sym all in
       let p = only (λ u. weigh h u.put) views port v at every (λ j u there none. ap (weigh h) (b.2 j u there none).0) in
@@ -161,13 +161,13 @@ module _ {N : Type 0} {G : Ghosts N} where
       let e = b.1 h in
       omega (arith, p, t, e)
 
-  pub reads : (port : ℕ) (v : Share) → v.parts ≡ 1024 → Pops (Balanced {N = N} {G = G}) port v (λ x w. (w ≡ share v.parts v.put (v.taken ++ child_of x ∷ [])) × (length w.taken ≤ length w.put))
+  pub reads : (port : ℕ) (v : Permission) → v.parts ≡ 1024 → Pops (Balanced {N = N} {G = G}) port v (λ x w. (w ≡ permission v.parts v.put (v.taken ++ child_of x ∷ [])) × (length w.taken ≤ length w.put))
   reads port v all x items views b at =
       let step = takes port v (omega (arith, all)) x items views b at in
       let e = learns port v all (x ∷ items) views b at (λ _. 1) in
       let p = weigh-one v.put in
       let t = weigh-one v.taken in
       let l = length-append v.taken (child_of x ∷ []) in
-      let a = ap (λ (w : Share). length w.taken) step.2 in
-      let c = ap (λ (w : Share). length w.put) step.2 in
+      let a = ap (λ (w : Permission). length w.taken) step.2 in
+      let c = ap (λ (w : Permission). length w.put) step.2 in
       (step.0, step.1, (step.2, omega (arith, e, p, t, l, a, c)))

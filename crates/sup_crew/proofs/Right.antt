@@ -23,7 +23,7 @@ use Rattle.sup_core.proofs.HistoryLemmas.{IsApt, apt_reply, IsSound, sound-none,
 use Rattle.sup_log.specs.Tokens.{Told}
 use Rattle.sup_desk.specs.Knowledge.{Knowledge}
 use Rattle.sup_crew.specs.Calls.{Call, call_of, calls_of}
-use Rattle.sup_crew.specs.Leads.{front_of, calls_since}
+use Rattle.sup_crew.specs.Drivers.{front_of, calls_since}
 
 -- the reply to a start says no restart, and that to an exit no start, and no restart of another child
 abbrev pub NamesStart : Reply → Type 0

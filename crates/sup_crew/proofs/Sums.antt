@@ -6,7 +6,7 @@ use mathlib.Core.Logic.{dite}
 use Rattle.std.specs.Global.{Global}
 use Rattle.atomic_table.specs.Seated.{TableId}
 use Rattle.crossbeam_queue.specs.SegTies.{SegId}
-use Rattle.sup_inbox.specs.declared.inbox.InboxFull.{InboxFull}
+use Rattle.sup_crew.specs.declared.worker.Exit.{Exit}
 use Rattle.sup_inbox.specs.declared.note.Note.{Note}
 use Rattle.sup_types.specs.declared.reason.Reason.{Reason}
 use Rattle.sup_inbox.specs.Delivery.{from}
@@ -14,10 +14,10 @@ use Rattle.sup_inbox.specs.Ends.{Posting, AreFrom, IsBy}
 use Rattle.sup_inbox.proofs.Counts.{from-own, from-other}
 use Rattle.sup_types.specs.declared.text.Text.{Text}
 use Rattle.sup_crew.specs.declared.job.Child.{Child}
-use Rattle.sup_crew.specs.declared.finished.Finished.{Finished}
+use Rattle.sup_crew.specs.declared.worker.Finished.{Finished}
 use Rattle.sup_crew.specs.Jobs.{weigh}
 use Rattle.sup_crew.specs.Work.{AreWorked, ended_of, ended, untold, AreEnds, IsEnd}
-use Rattle.sup_crew.specs.Joins.{unposted_note, posters_of, taken_of, unposted_of, AreHands}
+use Rattle.sup_crew.specs.Joins.{unposted_note, posters_of, taken_of, unposted_of, AreEndpoints}
 use Rattle.sup_crew.proofs.Moves.{weigh-append, weigh-one}
 use Rattle.sup_crew.proofs.Worked.{ended-append}
 
@@ -85,18 +85,18 @@ module _ {N : Type 0} where
   taken-told h m q i first [] all = refl
   taken-told h m q i first (r ∷ rs) all =
       let rest = taken-told h m q i (suc first) rs all.1 in
-      let a = weigh-append h r.hand.share.taken (taken_of rs) in
+      let a = weigh-append h r.endpoint.permission.taken (taken_of rs) in
       let b = all.0.account h in
       let d = back-weigh h r.poster r.unposted (unposted_of rs) in
       omega (arith, rest, a, b, d)
     where
-      back-weigh : (h : Child → ℕ) (p : Posting) (o : Option InboxFull) (bs : List Note) → weigh h (ended (unposted_note p o ++ bs)) ≡ weigh h (untold o) + weigh h (ended bs)
+      back-weigh : (h : Child → ℕ) (p : Posting) (o : Option Exit) (bs : List Note) → weigh h (ended (unposted_note p o ++ bs)) ≡ weigh h (untold o) + weigh h (ended bs)
       back-weigh h p None bs = omega arith
       back-weigh h p (Some b) bs = omega arith
 
-  pub hands : (m : ℕ → Text → Reason → Type 0) (q : SegId Global) (i : TableId) (first : ℕ) (rs : List (Finished N)) → AreWorked m q i first rs → AreHands q rs
-  hands m q i first [] all = tt
-  hands m q i first (r ∷ rs) all = (all.0.of_queue, all.0.put.0, all.0.put.1, hands m q i (suc first) rs all.1)
+  pub endpoints : (m : ℕ → Text → Reason → Type 0) (q : SegId Global) (i : TableId) (first : ℕ) (rs : List (Finished N)) → AreWorked m q i first rs → AreEndpoints q rs
+  endpoints m q i first [] all = tt
+  endpoints m q i first (r ∷ rs) all = (all.0.of_queue, all.0.put.0, all.0.put.1, endpoints m q i (suc first) rs all.1)
 
   pub rows_of : (m : ℕ → Text → Reason → Type 0) (q : SegId Global) (i : TableId) (first : ℕ) (rs : List (Finished N)) → AreWorked m q i first rs → AreFrom i first (posters_of rs)
   rows_of m q i first [] all = tt
@@ -111,7 +111,7 @@ module _ {N : Type 0} where
   back_ends m q i first [] all = tt
   back_ends m q i first (r ∷ rs) all = add r.poster r.unposted all.0.unposted (back_ends m q i (suc first) rs all.1)
     where
-      add : (p : Posting) (o : Option InboxFull) → IsEnd m o → AreEnds m (unposted_of rs) → AreEnds m (unposted_note p o ++ unposted_of rs)
+      add : (p : Posting) (o : Option Exit) → IsEnd m o → AreEnds m (unposted_of rs) → AreEnds m (unposted_note p o ++ unposted_of rs)
       add p None e rest = rest
       add p (Some b) e rest = (e, rest)
 

@@ -1,7 +1,7 @@
 -- One job more of a worker.
 use Rattle.std.proofs.Common.{◌≡◌, ℕ, suc, ◌+◌, List, [], ◌∷◌, ◌++◌, length, Some, refl, ap, ◌∙◌, subst, arith}
 use Rattle.std.specs.Prelude.{Result, Ok, Err, OnErr}
-use Rattle.sup_inbox.specs.declared.inbox.InboxFull.{InboxFull}
+use Rattle.sup_crew.specs.declared.worker.Exit.{Exit}
 use Rattle.sup_inbox.specs.declared.note.Note.{Note}
 use Rattle.sup_types.specs.declared.reason.Reason.{Reason}
 use Rattle.sup_types.specs.declared.text.Text.{Text}
@@ -10,7 +10,7 @@ use Rattle.sup_crew.specs.Jobs.{weigh}
 use Rattle.std.specs.Global.{Global}
 use Rattle.atomic_table.specs.Seated.{TableId}
 use Rattle.crossbeam_queue.specs.SegTies.{SegId}
-use Rattle.sup_crew.specs.declared.finished.Finished.{Finished}
+use Rattle.sup_crew.specs.declared.worker.Finished.{Finished}
 use Rattle.sup_crew.specs.Work.{IsWorked, AreWorked, ended_of, ended, untold, AreEnds}
 use Rattle.sup_crew.proofs.Moves.{weigh-append}
 
@@ -42,7 +42,7 @@ account-posted taken taken' posted posted' child note t p same account h =
     omega (arith, a, b, c, d)
 
 -- the account, where it is handed back
-pub account-back : (taken taken' : List Child) (posted posted' : List Note) (child : Child) (back : InboxFull) → taken' ≡ taken ++ child ∷ [] → posted' ≡ posted → child ≡ record { number = back.number; arg = back.arg }
+pub account-back : (taken taken' : List Child) (posted posted' : List Note) (child : Child) (back : Exit) → taken' ≡ taken ++ child ∷ [] → posted' ≡ posted → child ≡ record { number = back.number; arg = back.arg }
     → ((h : Child → ℕ) → weigh h taken ≡ weigh h (ended posted)) → (h : Child → ℕ) → weigh h taken' ≡ weigh h (ended posted') + weigh h (untold (Some back))
 account-back taken taken' posted posted' child back t p same account h =
     let a = ap (weigh h) t ∙ weigh-append h taken (child ∷ []) in

@@ -13,7 +13,7 @@ use Rattle.sup_inbox.specs.declared.note.Note.{Note}
 use Rattle.sup_crew.specs.Calls.{exits}
 
 -- a drain: of which inbox, how many posters there are, and of the notes that it took those that it entered and those that it holds
-pub record Draining : Type 0 where
+pub record DrainModel : Type 0 where
   pub inbox : TableId
   pub posters : ℕ
   pub entered : List Note

@@ -5,24 +5,24 @@ use lib.ListN.{get_elem?}
 use Rattle.sup_desk.specs.declared.name.Name.{Ghosts}
 use Rattle.sup_crew.specs.declared.job.Job.{Job}
 use Rattle.sup_crew.specs.declared.job.Child.{Child}
-use Rattle.sup_crew.specs.declared.queue.Share.{Share}
+use Rattle.sup_crew.specs.declared.queue.Permission.{Permission}
 
-abbrev pub share : ℕ → List Child → List Child → Share
-share parts put taken = record { parts = parts; put = put; taken = taken }
+abbrev pub permission : ℕ → List Child → List Child → Permission
+permission parts put taken = record { parts = parts; put = put; taken = taken }
 
 -- the weights of the children, added up
 abbrev pub weigh : (Child → ℕ) → List Child → ℕ
 weigh h [] = 0
 weigh h (x ∷ xs) = h x + weigh h xs
 
--- f of each share, added up
-abbrev pub total : (Share → ℕ) → List Share → ℕ
+-- f of each permission, added up
+abbrev pub total : (Permission → ℕ) → List Permission → ℕ
 total f [] = 0
 total f (v ∷ vs) = f v + total f vs
 
--- a share with no part queued and took nothing
-abbrev pub IdleIsEmpty : List Share → Type 0
-IdleIsEmpty views = (port : ℕ) (v : Share) → get_elem? views port ≡ some v → v.parts ≡ 0 → (v.put ≡ []) × (v.taken ≡ [])
+-- a permission with no part queued and took nothing
+abbrev pub IdleIsEmpty : List Permission → Type 0
+IdleIsEmpty views = (port : ℕ) (v : Permission) → get_elem? views port ≡ some v → v.parts ≡ 0 → (v.put ≡ []) × (v.taken ≡ [])
 
 module _ {N : Type 0} {G : Ghosts N} where
   -- the child of the job
@@ -33,7 +33,7 @@ module _ {N : Type 0} {G : Ghosts N} where
   children_of [] = []
   children_of (j ∷ js) = child_of j ∷ children_of js
 
-  abbrev pub Balanced : List (Job N G) → List Share → Type 0
+  abbrev pub Balanced : List (Job N G) → List Permission → Type 0
   Balanced items views =
       (total (λ v. v.parts) views ≡ 1024)
       × ((h : Child → ℕ) → total (λ v. weigh h v.put) views ≡ total (λ v. weigh h v.taken) views + weigh h (children_of items))

@@ -1,11 +1,12 @@
 pub mod Births
 pub mod Calls
+pub mod Dispatchers
 pub mod Drains
+pub mod Drivers
+pub mod Endpoints
 pub mod Faults
-pub mod Hands
 pub mod Jobs
 pub mod Joins
-pub mod Leads
 pub mod Reports
 pub mod Runs
 pub mod Tallies

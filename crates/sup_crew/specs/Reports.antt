@@ -9,12 +9,12 @@ use Rattle.sup_core.specs.Account.{Item, account, argument_of}
 use Rattle.sup_desk.specs.declared.name.Name.{Ghosts}
 use Rattle.sup_inbox.specs.declared.note.Note.{Note}
 use Rattle.sup_crew.specs.declared.job.Child.{Child}
-use Rattle.sup_crew.specs.declared.report.Report.{Report}
-use Rattle.sup_crew.specs.declared.tally.Tally.{Tally}
+use Rattle.sup_crew.specs.declared.plan.Report.{Report}
+use Rattle.sup_crew.specs.declared.driver.Tally.{Tally}
 use Rattle.sup_crew.specs.Calls.{Call, children_made, starts_in, AreDriven}
 use Rattle.sup_crew.specs.Jobs.{weigh, children_of}
 use Rattle.sup_desk.specs.Knowledge.{Knowledge}
-use Rattle.sup_crew.specs.Leads.{front_of, calls_since, HasCalled, HasAll, IsCause, Run, run_of}
+use Rattle.sup_crew.specs.Drivers.{front_of, calls_since, HasCalled, HasAll, IsCause, Run, run_of}
 use Rattle.logbook.specs.Pages.{Book}
 use Rattle.sup_crew.specs.Tallies.{tally_of}
 use Rattle.sup_crew.specs.Work.{ended, AreEnds}

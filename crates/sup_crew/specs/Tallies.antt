@@ -5,7 +5,7 @@ use Rattle.sup_types.specs.declared.history.Operation.TheVariants.{Start, Exit}
 use Rattle.sup_types.specs.declared.history.Reply.{Reply}
 use Rattle.sup_types.specs.declared.history.Reply.TheVariants.{Stray, Down, Restarted, GaveUp}
 use Rattle.sup_core.specs.Changes.{makes_child}
-use Rattle.sup_crew.specs.declared.tally.Tally.{Tally}
+use Rattle.sup_crew.specs.declared.driver.Tally.{Tally}
 use Rattle.sup_crew.specs.Calls.{Call}
 
 abbrev pub is_start : Operation → Bool

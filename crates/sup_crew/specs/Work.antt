@@ -5,10 +5,10 @@ use Rattle.atomic_table.specs.Seated.{TableId}
 use Rattle.crossbeam_queue.specs.SegTies.{SegId}
 use Rattle.sup_types.specs.declared.text.Text.{Text}
 use Rattle.sup_types.specs.declared.reason.Reason.{Reason}
-use Rattle.sup_inbox.specs.declared.inbox.InboxFull.{InboxFull}
+use Rattle.sup_crew.specs.declared.worker.Exit.{Exit}
 use Rattle.sup_inbox.specs.declared.note.Note.{Note}
 use Rattle.sup_crew.specs.declared.job.Child.{Child}
-use Rattle.sup_crew.specs.declared.finished.Finished.{Finished}
+use Rattle.sup_crew.specs.declared.worker.Finished.{Finished}
 use Rattle.sup_crew.specs.Jobs.{weigh}
 
 -- the child whose end the note tells
@@ -20,7 +20,7 @@ ended [] = []
 ended (n ∷ ns) = ended_of n ∷ ended ns
 
 -- the child whose end is not told
-abbrev pub untold : Option InboxFull → List Child
+abbrev pub untold : Option Exit → List Child
 untold None = []
 untold (Some b) = record { number = b.number; arg = b.arg } ∷ []
 
@@ -29,17 +29,17 @@ abbrev pub AreEnds : (ℕ → Text → Reason → Type 0) → List Note → Type
 AreEnds may_end [] = Unit {0}
 AreEnds may_end (n ∷ ns) = may_end n.number n.arg n.reason × AreEnds may_end ns
 
-abbrev pub IsEnd : (ℕ → Text → Reason → Type 0) → Option InboxFull → Type 0
+abbrev pub IsEnd : (ℕ → Text → Reason → Type 0) → Option Exit → Type 0
 IsEnd may_end None = Unit {0}
 IsEnd may_end (Some b) = may_end b.number b.arg b.reason
 
 module _ {N : Type 0} where
   pub record IsWorked (may_end : ℕ → Text → Reason → Type 0) (queue : SegId Global) (inbox : TableId) (number : ℕ) (r : Finished N) : Type 0 where
-    pub of_queue : r.hand.queue ≡ queue
+    pub of_queue : r.endpoint.queue ≡ queue
     pub of_inbox : r.poster.inbox ≡ inbox
     pub number_is : r.poster.number ≡ number
-    pub put : (r.hand.share.parts ≡ 1) × (r.hand.share.put ≡ [])
-    pub account : (h : Child → ℕ) → weigh h r.hand.share.taken ≡ weigh h (ended r.poster.posted) + weigh h (untold r.unposted)
+    pub put : (r.endpoint.permission.parts ≡ 1) × (r.endpoint.permission.put ≡ [])
+    pub account : (h : Child → ℕ) → weigh h r.endpoint.permission.taken ≡ weigh h (ended r.poster.posted) + weigh h (untold r.unposted)
     pub posted : AreEnds may_end r.poster.posted
     pub unposted : IsEnd may_end r.unposted
 

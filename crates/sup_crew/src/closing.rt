@@ -1,25 +1,27 @@
-//! The end of a run: its lists are filled, and what was counted is told.
-ghost use Rattle.std.specs.Prelude.{◌≡◌, ◌<◌, ◌≤◌, [], drop, IfOk, vec_len, vec_capacity};
-ghost use Rattle.sup_crew.specs.Leads.{IsReady};
+//! The end of a run: what the workers had and the jobs that nobody took are collected, and what was counted is told.
+ghost use Rattle.std.specs.Prelude.{◌≡◌, ◌<◌, ◌≤◌, [], drop, IfOk, vec_len, vec_capacity, ◌+◌, ◌++◌, length};
 ghost use Rattle.sup_crew.specs.Reports.{IsRun};
-ghost use Rattle.sup_crew.specs.Runs.{IsJoined};
+ghost use Rattle.sup_crew.specs.Runs.{IsRunOutcome};
+ghost use Rattle.sup_crew.specs.Jobs.{weigh, children_of};
+ghost use Rattle.sup_crew.specs.Joins.{AreEndpoints, unposted_note, posters_of, taken_of, unposted_of};
 
-use crate::account::{collect, read_all};
-use crate::body::Body;
-use crate::crew::Joined;
+use crate::crew::Crew;
 use crate::drain::HELD;
-use crate::queue::Jobs;
-use crate::report::Report;
+use crate::job::{Body, Job};
+use crate::plan::Report;
+use crate::queue::{Endpoint, Jobs};
+use crate::run::RunOutcome;
+use crate::worker::{Exit, Finished};
 use arrayvec::ArrayVec;
 use std::alloc::Global;
 use std::sync::Wait;
 use sup_desk::Name;
-use sup_inbox::{Inbox, Note, Poster, settle};
+use sup_inbox::{Note, Poster, settle};
 use sup_types::{OutOfMemory, Text};
 
 /// Room for what the end of a run hands over, made before the run, so that its end takes no memory.
 #[derive(Drop)]
-pub struct Room {
+pub struct Buffers {
     /// For the posters that the workers hand back.
     pub posters: Vec<Poster>,
     /// For the notes that they could not post.
@@ -30,13 +32,13 @@ pub struct Room {
     pub held: Vec<Note>,
 }
 
-impl Room {
+impl Buffers {
     /// Room for a run of so many workers over an inbox of this capacity.
-    pub fn new(alloc: Global, workers: usize, inbox: usize) -> Result<Room, OutOfMemory>
+    pub fn new(alloc: Global, workers: usize, inbox: usize) -> Result<Buffers, OutOfMemory>
         ensures empty { IfOk result (λ r. (r.posters.items ≡ []) × (r.unposted.items ≡ []) × (r.inbox.items ≡ []) × (r.held.items ≡ [])) }
         ensures room { IfOk result (λ r. (workers ≤ vec_capacity r.posters) × (workers ≤ vec_capacity r.unposted) × (inbox ≤ vec_capacity r.inbox) × (64 ≤ vec_capacity r.held)) }
     {
-        Ok(Room {
+        Ok(Buffers {
             posters: Vec::with_capacity(alloc, workers)?,
             unposted: Vec::with_capacity(alloc, workers)?,
             inbox: Vec::with_capacity(alloc, inbox)?,
@@ -50,10 +52,8 @@ fn list_held(held: ArrayVec<Note, HELD>, room: Vec<Note>) -> Vec<Note>
     requires { (room.items ≡ []) × (64 ≤ vec_capacity room) }
     ensures { result.items ≡ held.items }
 {
-    let mut held = held;
     let mut list = room;
-    while !held.is_empty() {
-        let note = held.remove(0);
+    for note in held {
         // Names the reason: the borrow checker of this kit asks where its type is declared.
         let reason = note.reason;
         list.push_reserved(Note { reason, ..note });
@@ -74,48 +74,132 @@ fn without_first(children: Vec<Text>, started: usize) -> Vec<Text>
 /// Settles the inbox, reads the queue of jobs out, and tells what the run did.
 pub fn close<N: Name, B: Body, R: Wait>(
     rt: &R,
+    crew: Crew<N>,
     body: &B,
-    jobs: &Jobs<N>,
-    inbox: Inbox,
     workers: usize,
-    children: Vec<Text>,
-    joined: Joined<N>,
-    room: Room,
+    outcome: RunOutcome<N>,
+    buffers: Buffers,
 ) -> Report<N>
-    requires joined { (run : _) × (after : _) × IsJoined (B.may_end body.now) run jobs.now inbox.id workers children.items after joined }
-    requires ready { IsReady joined.hand joined.queued (vec_len joined.left) (vec_capacity joined.left) }
+    requires outcome { (run : _) × (after : _) × IsRunOutcome (B.may_end body.now) run crew.jobs crew.inbox.id workers crew.children.items after outcome }
     requires workers { workers < 1024 }
-    requires empty { (room.posters.items ≡ []) × (room.unposted.items ≡ []) × (room.inbox.items ≡ []) × (room.held.items ≡ []) }
-    requires room { (workers ≤ vec_capacity room.posters) × (workers ≤ vec_capacity room.unposted) × (inbox.capacity ≤ vec_capacity room.inbox) × (64 ≤ vec_capacity room.held) }
-    ensures { (run : _) (after : _) → IsJoined (B.may_end body.now) run jobs.now inbox.id workers children.items after joined → IsRun (B.may_end body.now) run children.items after result }
+    requires empty { (buffers.posters.items ≡ []) × (buffers.unposted.items ≡ []) × (buffers.inbox.items ≡ []) × (buffers.held.items ≡ []) }
+    requires room { (workers ≤ vec_capacity buffers.posters) × (workers ≤ vec_capacity buffers.unposted) × (crew.inbox.capacity ≤ vec_capacity buffers.inbox) × (64 ≤ vec_capacity buffers.held) }
+    ensures { (run : _) (after : _) → IsRunOutcome (B.may_end body.now) run crew.jobs crew.inbox.id workers crew.children.items after outcome → IsRun (B.may_end body.now) run crew.children.items after result }
 {
-    let (taker, held) = joined.drain.end();
-    let (hand, posters, unposted) = collect(
+    let Crew {
         jobs,
-        joined.hand,
-        joined.finished,
-        room.posters,
-        room.unposted,
+        inbox,
+        signals: _,
+        children,
+        turns: _,
+        moment: _,
+    } = crew;
+    let (taker, held) = outcome.drain.end();
+    let (endpoint, left) = outcome.jobs.end();
+    let (endpoint, posters, unposted) = collect(
+        &jobs,
+        endpoint,
+        outcome.finished,
+        buffers.posters,
+        buffers.unposted,
     );
-    let Ok(settled) = settle(rt, posters, taker, inbox, room.inbox) else {
+    let Ok(settled) = settle(rt, posters, taker, inbox, buffers.inbox) else {
         unreachable!()
     };
-    let left = read_all(rt, jobs, hand, joined.left);
+    let left = read_all(rt, &jobs, endpoint, left);
     Report {
-        driver: joined.driver,
-        ticket: joined.ticket,
-        made: joined.tally.made,
-        exits: joined.tally.exits,
-        strays: joined.tally.strays,
-        downs: joined.tally.downs,
-        restarts: joined.tally.restarts,
-        given_up: joined.tally.given_up,
-        refused: joined.tally.refused,
-        unstarted: without_first(children, joined.started),
-        held: list_held(held, room.held),
+        driver: outcome.driver,
+        ticket: outcome.ticket,
+        made: outcome.tally.made,
+        exits: outcome.tally.exits,
+        strays: outcome.tally.strays,
+        downs: outcome.tally.downs,
+        restarts: outcome.tally.restarts,
+        given_up: outcome.tally.given_up,
+        refused: outcome.tally.refused,
+        unstarted: without_first(children, outcome.started),
+        held: list_held(held, buffers.held),
         inbox: settled.left,
         unposted,
         left,
-        fault: joined.fault,
+        fault: outcome.fault,
     }
+}
+
+/// Takes back what the workers had: their endpoints, their posters and the notes that they could not post.
+pub fn collect<N: Name>(
+    jobs: &Jobs<N>,
+    endpoint: Endpoint<N>,
+    finished: Vec<Finished<N>>,
+    posters: Vec<Poster>,
+    unposted: Vec<Note>,
+) -> (Endpoint<N>, Vec<Poster>, Vec<Note>)
+    requires endpoint { (endpoint.queue ≡ jobs.now) × (0 < endpoint.permission.parts) }
+    requires endpoints { AreEndpoints jobs.now finished.items }
+    requires empty { (posters.items ≡ []) × (unposted.items ≡ []) }
+    requires room { (vec_len finished ≤ vec_capacity posters) × (vec_len finished ≤ vec_capacity unposted) }
+    ensures endpoint { (result.0.queue ≡ jobs.now) × (result.0.permission.parts ≡ endpoint.permission.parts + vec_len finished) × (result.0.permission.put ≡ endpoint.permission.put) × (result.0.permission.taken ≡ endpoint.permission.taken ++ taken_of finished.items) }
+    ensures posters { result.1.items ≡ posters_of finished.items }
+    ensures unposted { result.2.items ≡ unposted_of finished.items }
+{
+    let mut endpoint = endpoint;
+    let mut posters = posters;
+    let mut unposted = unposted;
+    for one in finished {
+        let Finished {
+            endpoint: theirs,
+            poster,
+            unposted: back,
+        } = one;
+        endpoint.join(jobs, theirs);
+        keep(&mut unposted, &poster, back);
+        posters.push_reserved(poster);
+    }
+    (endpoint, posters, unposted)
+}
+
+/// Keeps what the poster could not post.
+fn keep(unposted: &mut Vec<Note>, poster: &Poster, back: Option<Exit>)
+    requires { vec_len unposted.old < vec_capacity unposted.old }
+    ensures items { unposted.new.items ≡ unposted.old.items ++ unposted_note poster.now back }
+    ensures room { (vec_capacity unposted.new ≡ vec_capacity unposted.old) × (vec_len unposted.new ≤ vec_len unposted.old + 1) }
+{
+    if let Some(
+        Exit {
+            number,
+            arg,
+            reason,
+        },
+    ) = back
+    {
+        unposted.push_reserved(Note {
+            poster: poster.number(),
+            serial: poster.serial(),
+            number,
+            arg,
+            reason,
+        });
+    }
+}
+
+/// Reads out the jobs that nobody took.
+pub fn read_all<N: Name, R: Wait>(
+    rt: &R,
+    jobs: &Jobs<N>,
+    endpoint: Endpoint<N>,
+    left: Vec<Job<N>>,
+) -> Vec<Job<N>>
+    requires endpoint { (endpoint.queue ≡ jobs.now) × (endpoint.permission.parts ≡ 1024) }
+    requires room { vec_len left + length endpoint.permission.put ≤ vec_capacity left }
+    ensures { (h : _) → weigh h endpoint.permission.put + weigh h (children_of left.items) ≡ weigh h endpoint.permission.taken + weigh h (children_of result.items) }
+{
+    let mut endpoint = endpoint;
+    let mut left = left;
+    for _ in rt.forever() {
+        match endpoint.read(rt, jobs) {
+            Some(job) => left.push_reserved(job),
+            None => return left,
+        }
+    }
+    unreachable!()
 }

@@ -1,192 +1,96 @@
-//! A run: the workers in their threads, and the driver.
-ghost use Rattle.std.specs.Prelude.{◌≡◌, ◌+◌, ◌<◌, ◌≤◌, [], IfOk, OnErr, length, vec_len, vec_capacity};
-ghost use Rattle.sup_crew.specs.Jobs.{share, children_of};
-ghost use Rattle.sup_crew.specs.Leads.{IsReady, run_of};
-ghost use Rattle.sup_crew.specs.Runs.{IsJoined};
-ghost use Rattle.sup_inbox.specs.Ends.{AreFrom, AreNew};
+//! What the driver and the workers of a run share, and how they wake each other.
+use crate::queue::Jobs;
+use std::sync::atomic::{AtomicBool, Ordering};
+use std::sync::{Condvar, Wait};
+use std::time::Duration;
+use sup_desk::Name;
+use sup_inbox::Inbox;
+use sup_types::Text;
 
-use crate::body::Body;
-use crate::drain::Drain;
-use crate::finished::Finished;
-use crate::job::Job;
-use crate::lead::Lead;
-use crate::plan::CrewFault;
-use crate::queue::{Hand, Jobs};
-use crate::tally::Tally;
-use crate::threads::{join_all, start};
-use std::alloc::Global;
-use std::sync::Wait;
-use std::thread::{Scope, Threads};
-use sup_desk::{Asker, Caller, Desk, Name, UpdateFault};
-use sup_inbox::{Inbox, Poster, Taker};
-use sup_log::Ticket;
-use sup_types::{Starter, Text};
-
-/// A run whose workers were joined.
+/// What the driver and the workers of a run share. It is made before the first thread, and taken apart once all were joined.
 #[derive(Drop)]
-pub struct Joined<N: Name> {
-    /// The number of the driver's handle.
-    pub driver: u64,
-    /// The ticket of its last update.
-    pub ticket: Option<Ticket>,
-    /// How many updates of each kind it made.
-    pub tally: Tally,
-    /// Its hand at the queue of jobs.
-    pub hand: Hand<N>,
-    /// How many jobs it queued.
-    pub queued: usize,
-    /// The jobs that could not be queued. There is room for those that were, too.
-    pub left: Vec<Job<N>>,
-    /// What it took of the inbox.
-    pub drain: Drain,
-    /// How many of the plan's children it started.
-    pub started: usize,
-    /// The fault that stopped it.
-    pub fault: Option<UpdateFault>,
-    /// What each worker handed back.
-    pub finished: Vec<Finished<N>>,
+pub struct Crew<N: Name> {
+    /// The queue of jobs.
+    pub jobs: Jobs<N>,
+    /// The inbox, to which the workers post.
+    pub inbox: Inbox,
+    /// How they wake each other, and whether the run is over.
+    pub signals: Signals,
+    /// The arguments of the children that are to be started, in order.
+    pub children: Vec<Text>,
+    /// How often a post is tried, and how many turns in a row the driver finds nothing before it gives up.
+    pub turns: u64,
+    /// The moment of all updates.
+    pub moment: u64,
 }
 
-/// What the driver does inside the scope of the threads.
-fn drive<'s, 'd: 's, E, N, S, P, B, R>(
-    scope: &Scope<'s, E>,
-    rt: &'s R,
-    alloc: Global,
-    jobs: &'s Jobs<N>,
-    inbox: &'s Inbox,
-    body: &'s B,
-    turns: u64,
-    moment: u64,
-    children: &[Text],
-    desk: &'d Desk<N, S, P>,
-    caller: Caller<N>,
-    hand: Hand<N>,
-    posters: Vec<Poster>,
-    askers: Vec<Asker<N>>,
-    taker: Taker,
-    finished: Vec<Finished<N>>,
-) -> (Caller<N>, Result<Joined<N>, CrewFault>)
-where
-    N: Name + Send + Sync + 's,
-    S: Starter + Drop + Send + Sync + 's,
-    P: Wait + Drop + Send + Sync + 's,
-    B: Body + Sync,
-    R: Threads + Wait + Sync,
-    requires hand { hand ≡ record { queue = jobs.now; share = share 1024 [] [] } }
-    requires posters { AreFrom inbox.now.id 1 posters.items × AreNew posters.items × (vec_len posters < 1024) }
-    requires taker { taker ≡ record { inbox = inbox.now.id; posters = vec_len posters; taken = [] } }
-    requires lists { (finished.items ≡ []) × (vec_len posters ≤ vec_capacity finished) }
-    ensures joined { IfOk result.1 (λ j. IsJoined (B.may_end body.now) (run_of N.template N.press moment caller) jobs.now inbox.now.id (vec_len posters) children.now result.0 j) }
-    ensures kept { OnErr result.1 ((result.0.calls ≡ caller.calls) × (result.0.number ≡ caller.number)) }
-    ensures ready { IfOk result.1 (λ j. IsReady j.hand j.queued (vec_len j.left) (vec_capacity j.left)) }
-{
-    let Ok((hand, workers)) = start(
-        scope, rt, alloc, jobs, inbox, body, turns, hand, posters, askers,
-    ) else {
-        return (caller, Err(CrewFault::OutOfMemory));
-    };
-    let mut lead = Lead {
-        handle: desk.bind(caller),
-        hand,
-        queued: 0,
-        left: Vec::new(alloc),
-        ticket: None,
-        tally: Tally::new(),
-    };
-    let mut drain = Drain::new(taker);
-    let (started, fault) = lead.start_and_drain(
-        rt, alloc, jobs, inbox, &mut drain, moment, turns, children,
-    );
-    jobs.signals.end();
-    let finished = join_all(rt, jobs, inbox, body, workers, finished);
-    let fault = lead.drain_rest(rt, alloc, jobs, inbox, &mut drain, moment, fault);
-    let Lead {
-        handle,
-        hand,
-        queued,
-        left,
-        ticket,
-        tally,
-    } = lead;
-    let (caller, _) = handle.unbind();
-    let joined = Joined {
-        driver: caller.number(),
-        ticket,
-        tally,
-        hand,
-        queued,
-        left,
-        drain,
-        started,
-        fault,
-        finished,
-    };
-    (caller, Ok(joined))
+/// A signal that threads sleep for. They take note of what was given, look for what they need, and wait if it is not
+/// there: a signal that is given after the note ends the wait, so none is missed.
+#[derive(Drop)]
+pub struct Signal {
+    given: Condvar,
 }
 
-/// An asker for each of so many workers.
-fn lend<N, S, P, R>(
-    rt: &R,
-    alloc: Global,
-    desk: &Desk<N, S, P>,
-    workers: usize,
-) -> Result<Vec<Asker<N>>, CrewFault>
-where
-    N: Name,
-    S: Starter + Drop,
-    P: Wait + Drop,
-    R: Wait,
-    ensures { IfOk result (λ askers. vec_len askers ≡ workers) }
-{
-    let Ok(mut askers) = Vec::with_capacity(alloc, workers) else {
-        return Err(CrewFault::OutOfMemory);
-    };
-    while askers.len() < workers {
-        match desk.asker(rt) {
-            Ok(asker) => askers.push_reserved(asker),
-            Err(_) => return Err(CrewFault::NoHandle),
+impl Signal {
+    fn new() -> Signal {
+        Signal {
+            given: Condvar::new(),
         }
     }
-    Ok(askers)
+
+    /// A note of what was given so far.
+    pub fn noted(&self) -> u64 {
+        self.given.notifications()
+    }
+
+    /// Wakes one thread that waits.
+    pub fn give(&self) {
+        self.given.notify_one();
+    }
+
+    /// Wakes all threads that wait.
+    pub fn give_to_all(&self) {
+        self.given.notify_all();
+    }
+
+    /// Sleeps until a signal is given after this note, or a tenth of a second has gone by: one turn of a plan.
+    pub fn wait<R: Wait>(&self, rt: &R, noted: u64) {
+        self.given.sleep(rt, noted, Duration::from_millis(100));
+    }
 }
 
-/// Makes an asker for each worker, and runs.
-pub fn run_in<'s, E, N, S, P, B, R>(
-    scope: &Scope<'s, E>,
-    rt: &'s R,
-    alloc: Global,
-    desk: &'s Desk<N, S, P>,
-    jobs: &'s Jobs<N>,
-    inbox: &'s Inbox,
-    body: &'s B,
-    turns: u64,
-    moment: u64,
-    children: &[Text],
-    caller: Caller<N>,
-    hand: Hand<N>,
-    posters: Vec<Poster>,
-    taker: Taker,
-    finished: Vec<Finished<N>>,
-) -> (Caller<N>, Result<Joined<N>, CrewFault>)
-where
-    N: Name + Send + Sync + 's,
-    S: Starter + Drop + Send + Sync + 's,
-    P: Wait + Drop + Send + Sync + 's,
-    B: Body + Sync,
-    R: Threads + Wait + Sync,
-    requires hand { hand ≡ record { queue = jobs.now; share = share 1024 [] [] } }
-    requires posters { AreFrom inbox.now.id 1 posters.items × AreNew posters.items × (vec_len posters < 1024) }
-    requires taker { taker ≡ record { inbox = inbox.now.id; posters = vec_len posters; taken = [] } }
-    requires lists { (finished.items ≡ []) × (vec_len posters ≤ vec_capacity finished) }
-    ensures joined { IfOk result.1 (λ j. IsJoined (B.may_end body.now) (run_of N.template N.press moment caller) jobs.now inbox.now.id (vec_len posters) children.now result.0 j) }
-    ensures kept { OnErr result.1 ((result.0.calls ≡ caller.calls) × (result.0.number ≡ caller.number)) }
-    ensures ready { IfOk result.1 (λ j. IsReady j.hand j.queued (vec_len j.left) (vec_capacity j.left)) }
-{
-    match lend(rt, alloc, desk, posters.len()) {
-        Ok(askers) => drive(
-            scope, rt, alloc, jobs, inbox, body, turns, moment, children, desk, caller, hand,
-            posters, askers, taker, finished,
-        ),
-        Err(fault) => (caller, Err(fault)),
+/// The signals of a run, and whether it is over.
+#[derive(Drop)]
+pub struct Signals {
+    /// A job was queued, or the run is over.
+    pub queued: Signal,
+    /// An exit was posted.
+    pub posted: Signal,
+    /// The inbox was drained, or the run is over.
+    pub drained: Signal,
+    over: AtomicBool,
+}
+
+impl Signals {
+    /// Those of a run that begins.
+    pub fn new() -> Signals {
+        Signals {
+            queued: Signal::new(),
+            posted: Signal::new(),
+            drained: Signal::new(),
+            over: AtomicBool::new(false),
+        }
+    }
+
+    /// Whether the run is over.
+    pub fn is_over(&self) -> bool {
+        self.over.load(Ordering::SeqCst)
+    }
+
+    /// Says that the run is over, and wakes the workers.
+    pub fn end(&self) {
+        self.over.store(true, Ordering::SeqCst);
+        self.queued.give_to_all();
+        self.drained.give_to_all();
     }
 }

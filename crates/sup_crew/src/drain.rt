@@ -3,7 +3,7 @@ ghost use Rattle.std.specs.Prelude.{◌≡◌, List, ◌+◌, ◌<◌, ◌≤◌
 ghost use Rattle.arrayvec.specs.ArrayVec.{array_vec_len};
 ghost use mathlib.Core.List.{IsPrefix};
 ghost use Rattle.sup_crew.specs.Calls.{exits};
-ghost use Rattle.sup_crew.specs.Drains.{Draining, entered_of, notes_of, replies_of, IsEntered};
+ghost use Rattle.sup_crew.specs.Drains.{DrainModel, entered_of, notes_of, replies_of, IsEntered};
 
 use arrayvec::ArrayVec;
 use std::alloc::Global;
@@ -26,7 +26,7 @@ pub struct Drain {
 }
 
 impl Model for Drain {
-    ghost Value = { Draining };
+    ghost Value = { DrainModel };
 
     ghost view = { λ d. record { inbox = d.taker.inbox; posters = d.taker.posters; entered = entered_of d.taker.taken d.held.items; held = d.held.items } };
 

@@ -1,11 +1,13 @@
-//! Jobs: children to run.
-ghost use Rattle.std.specs.Prelude.{◌≡◌};
+//! Jobs, which are children to run, and bodies, which are what a child does.
+ghost use Rattle.std.specs.Prelude.{◌≡◌, ℕ};
 ghost use Rattle.sup_crew.specs.Births.{IsBorn};
+ghost use Rattle.sup_types.specs.declared.text.Text.{Text};
+ghost use Rattle.sup_types.specs.declared.reason.Reason.{Reason};
 
 use std::marker::PhantomData;
-use sup_desk::Name;
+use sup_desk::{Asker, Name};
 use sup_log::Ticket;
-use sup_types::Text;
+use sup_types::{Reason, Text};
 
 /// A child that was made and is to run, of the desk that N names: its number, the argument with which it was started, and a
 /// ticket of the update that made it. It can't be copied, and is used up by the one run of its body.
@@ -45,4 +47,16 @@ pub struct Child {
     pub number: u64,
     /// Its argument.
     pub arg: Text,
+}
+
+/// The work of a child, shared among the workers.
+pub trait Body {
+    /// The reasons for which a child with this number and argument may end.
+    ghost may_end: { Self → ℕ → Text → Reason → Type 0 };
+
+    /// Runs the child of this job to its end, and says why it ended. It may ask about the children, and so see that its own
+    /// was ended. Its own was made in what the asker has seen.
+    fn run<N: Name>(&self, job: Job<N>, asker: &mut Asker<N>) -> Reason
+        requires { IsBorn N.template asker.old.front job.number }
+        ensures { may_end self.now job.number job.arg result };
 }

@@ -23,28 +23,19 @@
 //! run, that a run ends, and that workers run at the same time is promised by no contract.
 #![tactic(auto)]
 
-mod account;
-mod body;
 mod closing;
 mod crew;
 mod drain;
-mod finished;
+mod driver;
 mod job;
-mod lead;
 mod plan;
 mod queue;
-mod report;
 mod run;
-mod signals;
-mod tally;
-mod threads;
 mod turns;
 mod worker;
 
-pub use body::Body;
 pub use drain::{Drain, DrainFault, Drained, HELD};
-pub use job::Job;
-pub use plan::{CrewFault, Plan};
-pub use report::Report;
+pub use job::{Body, Job};
+pub use plan::{CrewFault, Plan, Report};
 pub use run::{run_crew, run_crew_with};
 pub use turns::{Reads, read_turns};

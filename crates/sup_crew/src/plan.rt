@@ -1,8 +1,11 @@
-//! What a run is asked to do, and why it could not begin.
+//! What a run is asked to do, why it could not begin, and what it hands back.
 ghost use Rattle.std.specs.Prelude.{◌≡◌};
 ghost use Rattle.sup_crew.specs.Faults.{crew_fault_number};
 
-use sup_desk::HandleFault;
+use crate::job::Job;
+use sup_desk::{HandleFault, Name, UpdateFault};
+use sup_inbox::Note;
+use sup_log::Ticket;
 use sup_types::{OutOfMemory, Text};
 use thiserror::Error;
 
@@ -62,4 +65,39 @@ impl From<HandleFault> for CrewFault {
             HandleFault::NoPlace => CrewFault::NoPlace,
         }
     }
+}
+
+/// A run of a crew.
+#[derive(Drop)]
+pub struct Report<N: Name> {
+    /// The number of the driver's handle, by which all updates were made.
+    pub driver: u64,
+    /// The ticket of its last update.
+    pub ticket: Option<Ticket>,
+    /// How many children its updates made.
+    pub made: u64,
+    /// How many exits it entered.
+    pub exits: u64,
+    /// How many exits were answered Stray.
+    pub strays: u64,
+    /// How many exits were answered Down.
+    pub downs: u64,
+    /// How many exits were answered Restarted.
+    pub restarts: u64,
+    /// How many exits were answered GaveUp.
+    pub given_up: u64,
+    /// How many starts made no child.
+    pub refused: u64,
+    /// The arguments that were not started.
+    pub unstarted: Vec<Text>,
+    /// The notes that were taken and not entered.
+    pub held: Vec<Note>,
+    /// The notes that were left in the inbox.
+    pub inbox: Vec<Note>,
+    /// The notes that the workers could not post.
+    pub unposted: Vec<Note>,
+    /// The jobs that were not run.
+    pub left: Vec<Job<N>>,
+    /// The fault that stopped the run.
+    pub fault: Option<UpdateFault>,
 }

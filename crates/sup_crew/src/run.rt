@@ -1,175 +1,259 @@
-//! Runs.
-ghost use Rattle.std.specs.Prelude.{◌≡◌, ◌<◌, ◌≤◌, ◌^◌, [], IfOk, OnErr, vec_len, vec_capacity};
-ghost use Rattle.sup_crew.specs.Jobs.{share};
-ghost use Rattle.sup_crew.specs.Leads.{IsReady, run_of};
+//! Runs: the workers in their threads, and the driver.
+ghost use Rattle.std.specs.Prelude.{◌≡◌, ◌<◌, ◌≤◌, ◌^◌, IfOk, OnErr, vec_len, MatchResult};
+ghost use Rattle.sup_crew.specs.Drivers.{run_of, HasNotCalled};
 ghost use Rattle.sup_crew.specs.Reports.{IsRun, IsRunOfItsOwn};
-ghost use Rattle.sup_crew.specs.Runs.{IsJoined};
-ghost use Rattle.sup_inbox.specs.Ends.{AreFrom, AreNew};
+ghost use Rattle.sup_crew.specs.Runs.{IsRunOutcome, AreParts};
 ghost use denote.Param.Send.{IsSend};
 
-use crate::body::Body;
-use crate::closing::{Room, close};
-use crate::crew::{Joined, run_in};
-use crate::finished::Finished;
-use crate::plan::{CrewFault, Plan};
-use crate::queue::{Hand, Jobs};
-use crate::report::Report;
+use crate::closing::{Buffers, close};
+use crate::crew::{Crew, Signals};
+use crate::drain::Drain;
+use crate::driver::{Driver, Tally};
+use crate::job::Body;
+use crate::plan::{CrewFault, Plan, Report};
+use crate::queue::{Dispatcher, Endpoint, Jobs};
+use crate::worker::{Finished, join_all, start};
 use core::mem::replace_with;
 use std::alloc::Global;
 use std::sync::Wait;
 use std::thread;
-use std::thread::Threads;
-use sup_desk::{Caller, Desk, Handle, Name};
+use std::thread::{Scope, Threads};
+use sup_desk::{Asker, Caller, Desk, Handle, Name, UpdateFault};
 use sup_inbox::{Inbox, Poster, Taker};
-use sup_types::{Starter, Text};
+use sup_log::Ticket;
+use sup_types::Starter;
+
+/// What a run is given beside its crew and its driver: an endpoint that knows all of the queue, the ends of the inbox, and room.
+#[derive(Drop)]
+pub struct Parts<N: Name> {
+    /// The endpoint at the queue of jobs.
+    pub endpoint: Endpoint<N>,
+    /// A poster for each worker.
+    pub posters: Vec<Poster>,
+    /// The taker.
+    pub taker: Taker,
+    /// Room for what the workers hand back.
+    pub finished: Vec<Finished<N>>,
+}
+
+/// A run whose workers were joined.
+#[derive(Drop)]
+pub struct RunOutcome<N: Name> {
+    /// The number of the driver's handle.
+    pub driver: u64,
+    /// What it did with its jobs.
+    pub jobs: Dispatcher<N>,
+    /// What it took of the inbox.
+    pub drain: Drain,
+    /// The ticket of its last update.
+    pub ticket: Option<Ticket>,
+    /// How many updates of each kind it made.
+    pub tally: Tally,
+    /// How many of the plan's children it started.
+    pub started: usize,
+    /// The fault that stopped it.
+    pub fault: Option<UpdateFault>,
+    /// What each worker handed back.
+    pub finished: Vec<Finished<N>>,
+}
+
+/// What the driver does inside the scope of the threads.
+fn drive<'s, 'd: 's, E, N, S, P, B, R>(
+    scope: &Scope<'s, E>,
+    rt: &'s R,
+    alloc: Global,
+    crew: &'s Crew<N>,
+    body: &'s B,
+    desk: &'d Desk<N, S, P>,
+    caller: Caller<N>,
+    parts: Parts<N>,
+    askers: Vec<Asker<N>>,
+) -> (Caller<N>, Result<RunOutcome<N>, CrewFault>)
+where
+    N: Name + Send + Sync + 's,
+    S: Starter + Drop + Send + Sync + 's,
+    P: Wait + Drop + Send + Sync + 's,
+    B: Body + Sync,
+    R: Threads + Wait + Sync,
+    requires { AreParts crew.now.jobs crew.now.inbox.id parts }
+    ensures { MatchResult result.1 (λ j. IsRunOutcome (B.may_end body.now) (run_of N.template N.press crew.now.moment caller) crew.now.jobs crew.now.inbox.id (vec_len parts.posters) crew.now.children.items result.0 j) (λ _. HasNotCalled caller result.0) }
+{
+    let Parts {
+        endpoint,
+        posters,
+        taker,
+        finished,
+    } = parts;
+    let Ok((endpoint, workers)) = start(scope, rt, alloc, crew, body, endpoint, posters, askers)
+    else {
+        return (caller, Err(CrewFault::OutOfMemory));
+    };
+    let mut driver = Driver::new(
+        desk.bind(caller),
+        Dispatcher::new(alloc, endpoint),
+        Drain::new(taker),
+    );
+    let (started, fault) = driver.start_and_drain(rt, alloc, crew);
+    crew.signals.end();
+    let finished = join_all(rt, crew, body, workers, finished);
+    let fault = driver.drain_rest(rt, alloc, crew, fault);
+    let Driver {
+        handle,
+        jobs,
+        drain,
+        ticket,
+        tally,
+    } = driver;
+    let (caller, _) = handle.unbind();
+    let outcome = RunOutcome {
+        driver: caller.number(),
+        jobs,
+        drain,
+        ticket,
+        tally,
+        started,
+        fault,
+        finished,
+    };
+    (caller, Ok(outcome))
+}
+
+/// An asker for each of so many workers.
+fn lend<N, S, P, R>(
+    rt: &R,
+    alloc: Global,
+    desk: &Desk<N, S, P>,
+    workers: usize,
+) -> Result<Vec<Asker<N>>, CrewFault>
+where
+    N: Name,
+    S: Starter + Drop,
+    P: Wait + Drop,
+    R: Wait,
+    ensures { IfOk result (λ askers. vec_len askers ≡ workers) }
+{
+    let Ok(mut askers) = Vec::with_capacity(alloc, workers) else {
+        return Err(CrewFault::OutOfMemory);
+    };
+    while askers.len() < workers {
+        match desk.asker(rt) {
+            Ok(asker) => askers.push_reserved(asker),
+            Err(_) => return Err(CrewFault::NoHandle),
+        }
+    }
+    Ok(askers)
+}
+
+/// Makes an asker for each worker, and runs.
+fn run_in<'s, E, N, S, P, B, R>(
+    scope: &Scope<'s, E>,
+    rt: &'s R,
+    alloc: Global,
+    crew: &'s Crew<N>,
+    body: &'s B,
+    desk: &'s Desk<N, S, P>,
+    caller: Caller<N>,
+    parts: Parts<N>,
+) -> (Caller<N>, Result<RunOutcome<N>, CrewFault>)
+where
+    N: Name + Send + Sync + 's,
+    S: Starter + Drop + Send + Sync + 's,
+    P: Wait + Drop + Send + Sync + 's,
+    B: Body + Sync,
+    R: Threads + Wait + Sync,
+    requires { AreParts crew.now.jobs crew.now.inbox.id parts }
+    ensures { MatchResult result.1 (λ j. IsRunOutcome (B.may_end body.now) (run_of N.template N.press crew.now.moment caller) crew.now.jobs crew.now.inbox.id (vec_len parts.posters) crew.now.children.items result.0 j) (λ _. HasNotCalled caller result.0) }
+{
+    match lend(rt, alloc, desk, parts.posters.len()) {
+        Ok(askers) => drive(scope, rt, alloc, crew, body, desk, caller, parts, askers),
+        Err(fault) => (caller, Err(fault)),
+    }
+}
 
 /// Starts the threads, and joins them all.
 fn run_threads<N, S, P, B, R>(
     rt: &R,
     alloc: Global,
-    desk: &Desk<N, S, P>,
-    jobs: &Jobs<N>,
-    inbox: &Inbox,
+    crew: &Crew<N>,
     body: &B,
-    turns: u64,
-    moment: u64,
-    children: &[Text],
+    desk: &Desk<N, S, P>,
     caller: Caller<N>,
-    hand: Hand<N>,
-    posters: Vec<Poster>,
-    taker: Taker,
-    finished: Vec<Finished<N>>,
-) -> (Caller<N>, Result<Joined<N>, CrewFault>)
+    parts: Parts<N>,
+) -> (Caller<N>, Result<RunOutcome<N>, CrewFault>)
 where
     N: Name + Send + Sync,
     S: Starter + Drop + Send + Sync,
     P: Wait + Drop + Send + Sync,
     B: Body + Sync,
     R: Threads + Wait + Sync,
-    requires hand { hand ≡ record { queue = jobs.now; share = share 1024 [] [] } }
-    requires posters { AreFrom inbox.now.id 1 posters.items × AreNew posters.items × (vec_len posters < 1024) }
-    requires taker { taker ≡ record { inbox = inbox.now.id; posters = vec_len posters; taken = [] } }
-    requires lists { (finished.items ≡ []) × (vec_len posters ≤ vec_capacity finished) }
-    ensures joined { IfOk result.1 (λ j. IsJoined (B.may_end body.now) (run_of N.template N.press moment caller) jobs.now inbox.now.id (vec_len posters) children.now result.0 j) }
-    ensures kept { OnErr result.1 ((result.0.calls ≡ caller.calls) × (result.0.number ≡ caller.number)) }
-    ensures ready { IfOk result.1 (λ j. IsReady j.hand j.queued (vec_len j.left) (vec_capacity j.left)) }
+    requires { AreParts crew.now.jobs crew.now.inbox.id parts }
+    ensures { MatchResult result.1 (λ j. IsRunOutcome (B.may_end body.now) (run_of N.template N.press crew.now.moment caller) crew.now.jobs crew.now.inbox.id (vec_len parts.posters) crew.now.children.items result.0 j) (λ _. HasNotCalled caller result.0) }
 {
     thread::scope(
         thread::scope_env(),
         rt,
-        move |scope| -> (Caller<N>, Result<Joined<N>, CrewFault>)
-            requires hand { hand ≡ record { queue = jobs.now; share = share 1024 [] [] } }
-            requires posters { AreFrom inbox.now.id 1 posters.items × AreNew posters.items × (vec_len posters < 1024) }
-            requires taker { taker ≡ record { inbox = inbox.now.id; posters = vec_len posters; taken = [] } }
-            requires lists { (finished.items ≡ []) × (vec_len posters ≤ vec_capacity finished) }
-            ensures joined { IfOk result.1 (λ j. IsJoined (B.may_end body.entry.now) (run_of N.template N.press moment caller) jobs.entry.now inbox.entry.now.id (vec_len posters) children.entry.now result.0 j) }
-            ensures kept { OnErr result.1 ((result.0.calls ≡ caller.calls) × (result.0.number ≡ caller.number)) }
-            ensures ready { IfOk result.1 (λ j. IsReady j.hand j.queued (vec_len j.left) (vec_capacity j.left)) }
-        {
-            run_in(
-                scope, rt, alloc, desk, jobs, inbox, body, turns, moment, children, caller, hand,
-                posters, taker, finished,
-            )
-        },
+        move |scope| -> (Caller<N>, Result<RunOutcome<N>, CrewFault>)
+            requires { AreParts crew.now.jobs crew.now.inbox.id parts }
+            ensures { MatchResult result.1 (λ j. IsRunOutcome (B.may_end body.entry.now) (run_of N.template N.press crew.entry.now.moment caller) crew.entry.now.jobs crew.entry.now.inbox.id (vec_len parts.posters) crew.entry.now.children.items result.0 j) (λ _. HasNotCalled caller result.0) }
+        { run_in(scope, rt, alloc, crew, body, desk, caller, parts) },
     )
-}
-
-/// What a run is given beside its driver: a hand that knows all of the queue, the ends of the inbox, and room.
-struct Parts<N: Name> {
-    hand: Hand<N>,
-    posters: Vec<Poster>,
-    taker: Taker,
-    finished: Vec<Finished<N>>,
 }
 
 /// The same for a driver's handle.
 fn run_bound<'d, N, S, P, B, R>(
     rt: &R,
     alloc: Global,
-    jobs: &Jobs<N>,
-    inbox: &Inbox,
+    crew: &Crew<N>,
     body: &B,
-    turns: u64,
-    moment: u64,
-    children: &[Text],
     handle: Handle<'d, N, S, P>,
     parts: Parts<N>,
-) -> (Handle<'d, N, S, P>, Result<Joined<N>, CrewFault>)
+) -> (Handle<'d, N, S, P>, Result<RunOutcome<N>, CrewFault>)
 where
     N: Name + Send + Sync,
     S: Starter + Drop + Send + Sync,
     P: Wait + Drop + Send + Sync,
     B: Body + Sync,
     R: Threads + Wait + Sync,
-    requires hand { parts.hand ≡ record { queue = jobs.now; share = share 1024 [] [] } }
-    requires posters { AreFrom inbox.now.id 1 parts.posters.items × AreNew parts.posters.items × (vec_len parts.posters < 1024) }
-    requires taker { parts.taker ≡ record { inbox = inbox.now.id; posters = vec_len parts.posters; taken = [] } }
-    requires lists { (parts.finished.items ≡ []) × (vec_len parts.posters ≤ vec_capacity parts.finished) }
-    ensures joined { IfOk result.1 (λ j. IsJoined (B.may_end body.now) (run_of N.template N.press moment handle.entry) jobs.now inbox.now.id (vec_len parts.posters) children.now result.0 j) }
-    ensures kept { OnErr result.1 ((result.0.calls ≡ handle.entry.calls) × (result.0.number ≡ handle.entry.number)) }
-    ensures ready { IfOk result.1 (λ j. IsReady j.hand j.queued (vec_len j.left) (vec_capacity j.left)) }
+    requires { AreParts crew.now.jobs crew.now.inbox.id parts }
+    ensures outcome { IfOk result.1 (λ j. IsRunOutcome (B.may_end body.now) (run_of N.template N.press crew.now.moment handle.entry) crew.now.jobs crew.now.inbox.id (vec_len parts.posters) crew.now.children.items result.0 j) }
+    ensures kept { OnErr result.1 (HasNotCalled handle.entry result.0) }
 {
-    let Parts {
-        hand,
-        posters,
-        taker,
-        finished,
-    } = parts;
     let (caller, desk) = handle.unbind();
-    let (caller, joined) = run_threads(
-        rt, alloc, desk, jobs, inbox, body, turns, moment, children, caller, hand, posters, taker,
-        finished,
-    );
-    (desk.bind(caller), joined)
+    let (caller, outcome) = run_threads(rt, alloc, crew, body, desk, caller, parts);
+    (desk.bind(caller), outcome)
 }
 
 /// The same for a driver's handle that is lent.
 fn run_lent<'d, N, S, P, B, R>(
     rt: &R,
     alloc: Global,
-    driver: &mut Handle<'d, N, S, P>,
-    jobs: &Jobs<N>,
-    inbox: &Inbox,
+    crew: &Crew<N>,
     body: &B,
-    turns: u64,
-    moment: u64,
-    children: &[Text],
+    driver: &mut Handle<'d, N, S, P>,
     parts: Parts<N>,
-) -> Result<Joined<N>, CrewFault>
+) -> Result<RunOutcome<N>, CrewFault>
 where
     N: Name + Send + Sync,
     S: Starter + Drop + Send + Sync,
     P: Wait + Drop + Send + Sync,
     B: Body + Sync,
     R: Threads + Wait + Sync,
-    requires hand { parts.hand ≡ record { queue = jobs.now; share = share 1024 [] [] } }
-    requires posters { AreFrom inbox.now.id 1 parts.posters.items × AreNew parts.posters.items × (vec_len parts.posters < 1024) }
-    requires taker { parts.taker ≡ record { inbox = inbox.now.id; posters = vec_len parts.posters; taken = [] } }
-    requires lists { (parts.finished.items ≡ []) × (vec_len parts.posters ≤ vec_capacity parts.finished) }
-    ensures joined { IfOk result (λ j. IsJoined (B.may_end body.now) (run_of N.template N.press moment driver.old) jobs.now inbox.now.id (vec_len parts.posters) children.now driver.new j) }
-    ensures kept { OnErr result ((driver.new.calls ≡ driver.old.calls) × (driver.new.number ≡ driver.old.number)) }
-    ensures ready { IfOk result (λ j. IsReady j.hand j.queued (vec_len j.left) (vec_capacity j.left)) }
+    requires { AreParts crew.now.jobs crew.now.inbox.id parts }
+    ensures outcome { IfOk result (λ j. IsRunOutcome (B.may_end body.now) (run_of N.template N.press crew.now.moment driver.old) crew.now.jobs crew.now.inbox.id (vec_len parts.posters) crew.now.children.items driver.new j) }
+    ensures kept { OnErr result (HasNotCalled driver.old driver.new) }
 {
     replace_with(
         driver,
         parts,
         |handle: Handle<'_, N, S, P>, parts: Parts<N>| -> (
             Handle<'_, N, S, P>,
-            Result<Joined<N>, CrewFault>,
+            Result<RunOutcome<N>, CrewFault>,
         )
             requires threads { IsSend N.row × IsSend S.row × IsSend P.row }
-            requires hand { parts.hand ≡ record { queue = jobs.now; share = share 1024 [] [] } }
-            requires posters { AreFrom inbox.now.id 1 parts.posters.items × AreNew parts.posters.items × (vec_len parts.posters < 1024) }
-            requires taker { parts.taker ≡ record { inbox = inbox.now.id; posters = vec_len parts.posters; taken = [] } }
-            requires lists { (parts.finished.items ≡ []) × (vec_len parts.posters ≤ vec_capacity parts.finished) }
-            ensures joined { IfOk result.1 (λ j. IsJoined (B.may_end body.entry.now) (run_of N.template N.press moment handle.entry) jobs.entry.now inbox.entry.now.id (vec_len parts.posters) children.entry.now result.0 j) }
-            ensures kept { OnErr result.1 ((result.0.calls ≡ handle.entry.calls) × (result.0.number ≡ handle.entry.number)) }
-            ensures ready { IfOk result.1 (λ j. IsReady j.hand j.queued (vec_len j.left) (vec_capacity j.left)) }
-        {
-            run_bound(
-                rt, alloc, jobs, inbox, body, turns, moment, children, handle, parts,
-            )
-        },
+            requires parts { AreParts crew.now.jobs crew.now.inbox.id parts }
+            ensures outcome { IfOk result.1 (λ j. IsRunOutcome (B.may_end body.entry.now) (run_of N.template N.press crew.entry.now.moment handle.entry) crew.entry.now.jobs crew.entry.now.inbox.id (vec_len parts.posters) crew.entry.now.children.items result.0 j) }
+            ensures kept { OnErr result.1 (HasNotCalled handle.entry result.0) }
+        { run_bound(rt, alloc, crew, body, handle, parts) },
     )
 }
 
@@ -206,34 +290,31 @@ where
         turns,
         moment,
     } = plan;
-    let room = Room::new(alloc, workers, capacity)?;
+    let buffers = Buffers::new(alloc, workers, capacity)?;
     let Ok(finished) = Vec::with_capacity(alloc, workers) else {
         return Err(CrewFault::OutOfMemory);
     };
-    let (jobs, hand) = Jobs::new(alloc)?;
+    let (jobs, endpoint) = Jobs::new(alloc)?;
     let (inbox, root) = Inbox::new(alloc, capacity)?;
     let Ok((posters, taker)) = root.split(alloc, &inbox, workers) else {
         return Err(CrewFault::OutOfMemory);
     };
+    let crew = Crew {
+        jobs,
+        inbox,
+        signals: Signals::new(),
+        children,
+        turns,
+        moment,
+    };
     let parts = Parts {
-        hand,
+        endpoint,
         posters,
         taker,
         finished,
     };
-    let joined = run_lent(
-        rt,
-        alloc,
-        driver,
-        &jobs,
-        &inbox,
-        body,
-        turns,
-        moment,
-        children.as_slice(),
-        parts,
-    )?;
-    Ok(close(rt, body, &jobs, inbox, workers, children, joined, room))
+    let outcome = run_lent(rt, alloc, &crew, body, driver, parts)?;
+    Ok(close(rt, crew, body, workers, outcome, buffers))
 }
 
 /// The same with a handle that is made for the run, and is not given back: an audit then lacks it.

@@ -1,46 +1,81 @@
-//! What a worker does.
-ghost use Rattle.std.specs.Prelude.{◌≡◌, [], ◌++◌, ◌∷◌, length, MatchResult};
+//! Workers: what one does, and its thread.
+ghost use Rattle.std.specs.Prelude.{◌≡◌, [], ◌++◌, ◌∷◌, length, MatchResult, ℕ, ◌+◌, ◌<◌, ◌≤◌, IfOk, vec_len, vec_capacity, slice_index_or};
 ghost use Rattle.sup_crew.specs.Births.{IsBorn};
-ghost use Rattle.sup_crew.specs.Jobs.{share};
-ghost use Rattle.sup_crew.specs.Work.{IsWorked};
+ghost use Rattle.sup_crew.specs.Jobs.{permission};
+ghost use Rattle.sup_crew.specs.Work.{IsWorked, AreWorked};
+ghost use Rattle.sup_inbox.specs.Ends.{AreFrom, AreNew};
 
-use crate::body::Body;
-use crate::finished::Finished;
-use crate::job::Job;
-use crate::queue::{Hand, Jobs};
-use crate::signals::Signals;
+use crate::crew::Crew;
+use crate::job::{Body, Job};
+use crate::queue::Endpoint;
+use std::alloc::Global;
 use std::sync::Wait;
+use std::thread::{Promise, PromisedHandle, Scope, Threads};
 use sup_desk::{Asker, Name};
-use sup_inbox::{Inbox, InboxFull, Poster};
+use sup_inbox::{InboxFull, Poster};
+use sup_types::{OutOfMemory, Reason, Text};
+
+/// How a body ended.
+#[derive(Drop)]
+pub struct Exit {
+    /// The number of its child.
+    pub number: u64,
+    /// The argument of its child.
+    pub arg: Text,
+    /// Why it ended.
+    pub reason: Reason,
+}
+
+/// A worker's endpoint and poster, and what it could not post.
+#[derive(Drop)]
+pub struct Finished<N: Name> {
+    /// Its endpoint, which knows the jobs that it took.
+    pub endpoint: Endpoint<N>,
+    /// Its poster, which knows the notes that it posted.
+    pub poster: Poster,
+    /// The exit that it could not post.
+    pub unposted: Option<Exit>,
+}
 
 /// Posts an exit, and tries again where the inbox is full: at most `turns` times, each after a drain or a tenth of a second, and
 /// not once the run is over.
-fn post_until<R: Wait>(
+fn post_until<N: Name, R: Wait>(
     rt: &R,
-    inbox: &Inbox,
-    signals: &Signals,
-    turns: u64,
+    crew: &Crew<N>,
     poster: &mut Poster,
-    exit: InboxFull,
-) -> Result<(), InboxFull>
-    requires { poster.old.inbox ≡ inbox.now.id }
+    exit: Exit,
+) -> Result<(), Exit>
+    requires { poster.old.inbox ≡ crew.now.inbox.id }
     ensures same { (poster.new.inbox ≡ poster.old.inbox) × (poster.new.number ≡ poster.old.number) }
     ensures posted { MatchResult result (λ _. poster.new.posted ≡ poster.old.posted ++ record { poster = poster.old.number; serial = length poster.old.posted; number = exit.number; arg = exit.arg; reason = exit.reason } ∷ []) (λ back. (back ≡ exit) × (poster.new.posted ≡ poster.old.posted)) }
 {
+    let signals = &crew.signals;
     let mut exit = exit;
-    for _ in 0..turns {
+    for _ in 0..crew.turns {
         let noted = signals.drained.noted();
-        let InboxFull {
+        let Exit {
             number,
             arg,
             reason,
         } = exit;
-        match poster.post(rt, inbox, number, arg, reason) {
+        match poster.post(rt, &crew.inbox, number, arg, reason) {
             Ok(()) => {
                 signals.posted.give();
                 return Ok(());
             }
-            Err(back) => exit = back,
+            Err(
+                InboxFull {
+                    number,
+                    arg,
+                    reason,
+                },
+            ) => {
+                exit = Exit {
+                    number,
+                    arg,
+                    reason,
+                }
+            }
         }
         if signals.is_over() {
             break;
@@ -54,38 +89,36 @@ fn post_until<R: Wait>(
 /// learnt a job's ticket before its body runs.
 pub fn work<N: Name, B: Body, R: Wait>(
     rt: &R,
-    jobs: &Jobs<N>,
-    inbox: &Inbox,
+    crew: &Crew<N>,
     body: &B,
-    turns: u64,
-    hand: Hand<N>,
+    endpoint: Endpoint<N>,
     poster: Poster,
     asker: Asker<N>,
 ) -> Finished<N>
-    requires hand { hand ≡ record { queue = jobs.now; share = share 1 [] [] } }
-    requires poster { (poster.inbox ≡ inbox.now.id) × (poster.posted ≡ []) }
-    ensures { IsWorked (B.may_end body.now) jobs.now inbox.now.id poster.number result }
+    requires endpoint { endpoint ≡ record { queue = crew.now.jobs; permission = permission 1 [] [] } }
+    requires poster { (poster.inbox ≡ crew.now.inbox.id) × (poster.posted ≡ []) }
+    ensures { IsWorked (B.may_end body.now) crew.now.jobs crew.now.inbox.id poster.number result }
 {
-    let mut hand = hand;
+    let mut endpoint = endpoint;
     let mut poster = poster;
     let mut asker = asker;
     for _ in rt.forever() {
-        let noted = jobs.signals.queued.noted();
-        let Some(job) = hand.take(rt, jobs) else {
-            if jobs.signals.is_over() {
+        let noted = crew.signals.queued.noted();
+        let Some(job) = endpoint.take(rt, &crew.jobs) else {
+            if crew.signals.is_over() {
                 return Finished {
-                    hand,
+                    endpoint,
                     poster,
                     unposted: None,
                 };
             }
-            jobs.signals.queued.wait(rt, noted);
+            crew.signals.queued.wait(rt, noted);
             continue;
         };
         let exit = run_job(body, job, &mut asker);
-        if let Err(back) = post_until(rt, inbox, &jobs.signals, turns, &mut poster, exit) {
+        if let Err(back) = post_until(rt, crew, &mut poster, exit) {
             return Finished {
-                hand,
+                endpoint,
                 poster,
                 unposted: Some(back),
             };
@@ -102,7 +135,7 @@ fn see_birth<N: Name>(asker: &mut Asker<N>, job: &Job<N>)
 }
 
 /// Learns the job's ticket, and runs the body.
-fn run_job<N: Name, B: Body>(body: &B, job: Job<N>, asker: &mut Asker<N>) -> InboxFull
+fn run_job<N: Name, B: Body>(body: &B, job: Job<N>, asker: &mut Asker<N>) -> Exit
     ensures child { (result.number ≡ job.number) × (result.arg ≡ job.arg) }
     ensures reason { B.may_end body.now job.number job.arg result.reason }
 {
@@ -110,9 +143,106 @@ fn run_job<N: Name, B: Body>(body: &B, job: Job<N>, asker: &mut Asker<N>) -> Inb
     let arg = job.arg;
     see_birth(asker, &job);
     let reason = body.run(job, asker);
-    InboxFull {
+    Exit {
         number,
         arg,
         reason,
     }
+}
+
+/// That the worker with this number hands back all that it took.
+pub struct Works<'a, N: Name, B> {
+    crew: &'a Crew<N>,
+    body: &'a B,
+    number: u64,
+}
+
+impl<'a, N: Name, B> Drop for Works<'a, N, B> {
+    fn drop(self) {
+        let Works {
+            crew: _,
+            body: _,
+            number: _,
+        } = self;
+    }
+}
+
+impl<'a, N: Name, B: Body> Promise<Finished<N>> for Works<'a, N, B> {
+    ghost kept_by = { λ p r. IsWorked (B.may_end p.body.now) p.crew.now.jobs p.crew.now.inbox.id p.number r };
+}
+
+/// A worker that was started.
+pub type Worker<'a, N, B> = PromisedHandle<Finished<N>, Works<'a, N, B>>;
+
+/// Starts a worker for each poster, with an asker each. Where one can't be started, the run is over, and the started ones
+/// are joined.
+pub fn start<'s, E, N, B, R>(
+    scope: &Scope<'s, E>,
+    rt: &'s R,
+    alloc: Global,
+    crew: &'s Crew<N>,
+    body: &'s B,
+    endpoint: Endpoint<N>,
+    posters: Vec<Poster>,
+    askers: Vec<Asker<N>>,
+) -> Result<(Endpoint<N>, Vec<Worker<'s, N, B>>), OutOfMemory>
+where
+    N: Name + Send + Sync + 's,
+    B: Body + Sync,
+    R: Threads + Wait + Sync,
+    requires endpoint { endpoint ≡ record { queue = crew.now.jobs; permission = permission 1024 [] [] } }
+    requires posters { AreFrom crew.now.inbox.id 1 posters.items × AreNew posters.items × (vec_len posters < 1024) }
+    ensures endpoint { IfOk result (λ r. (r.0 ≡ record { queue = crew.now.jobs; permission = permission r.0.permission.parts [] [] }) × (r.0.permission.parts + vec_len posters ≡ 1024)) }
+    ensures len { IfOk result (λ r. vec_len r.1 ≡ vec_len posters) }
+    ensures each { IfOk result (λ r. (k : ℕ) (d : _) → k < vec_len posters → ((slice_index_or r.1.items k d).promise.crew.now ≡ crew.now) × ((slice_index_or r.1.items k d).promise.body.now ≡ body.now) × ((slice_index_or r.1.items k d).promise.number ≡ k + 1)) }
+{
+    let mut endpoint = endpoint;
+    let mut askers = askers;
+    let mut workers = Vec::with_capacity(alloc, posters.len())?;
+    for poster in posters {
+        let number = poster.number();
+        let promise = Works { crew, body, number };
+        let Some(asker) = askers.pop() else {
+            stop(rt, crew, workers);
+            return Err(OutOfMemory);
+        };
+        let theirs = endpoint.give(&crew.jobs);
+        let Ok(worker) = scope.spawn_with(
+            promise,
+            move || work(rt, crew, body, theirs, poster, asker),
+        ) else {
+            stop(rt, crew, workers);
+            return Err(OutOfMemory);
+        };
+        workers.push_reserved(worker);
+    }
+    Ok((endpoint, workers))
+}
+
+/// Says that the run is over, and joins the workers.
+fn stop<'s, N: Name, B: Body, R: Threads>(rt: &R, crew: &Crew<N>, workers: Vec<Worker<'s, N, B>>) {
+    crew.signals.end();
+    for worker in workers {
+        drop(worker.join(rt));
+    }
+}
+
+/// Joins the workers.
+pub fn join_all<'s, N: Name, B: Body, R: Threads>(
+    rt: &R,
+    crew: &Crew<N>,
+    body: &B,
+    workers: Vec<Worker<'s, N, B>>,
+    finished: Vec<Finished<N>>,
+) -> Vec<Finished<N>>
+    requires workers { (k : ℕ) (d : _) → k < vec_len workers → ((slice_index_or workers.items k d).promise.crew.now ≡ crew.now) × ((slice_index_or workers.items k d).promise.body.now ≡ body.now) × ((slice_index_or workers.items k d).promise.number ≡ k + 1) }
+    requires finished { (finished.items ≡ []) × (vec_len workers ≤ vec_capacity finished) }
+    ensures len { vec_len result ≡ vec_len workers.entry }
+    ensures each { AreWorked (B.may_end body.now) crew.now.jobs crew.now.inbox.id 1 result.items }
+{
+    let mut finished = finished;
+    for worker in workers {
+        finished.push_reserved(worker.join(rt));
+    }
+    finished
 }

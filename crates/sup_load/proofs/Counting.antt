@@ -6,10 +6,10 @@ use Rattle.sup_types.specs.declared.history.Entry.{Entry}
 use Rattle.sup_log.specs.Tokens.{Told}
 use Rattle.sup_desk.specs.Knowledge.{Knowledge}
 use Rattle.sup_desk.specs.declared.name.Name.{Ghosts}
-use Rattle.sup_crew.specs.declared.report.Report.{Report}
-use Rattle.sup_crew.specs.declared.tally.Tally.{Tally}
+use Rattle.sup_crew.specs.declared.plan.Report.{Report}
+use Rattle.sup_crew.specs.declared.driver.Tally.{Tally}
 use Rattle.sup_crew.specs.Calls.{calls_of}
-use Rattle.sup_crew.specs.Leads.{front_of, calls_since}
+use Rattle.sup_crew.specs.Drivers.{front_of, calls_since}
 use Rattle.sup_crew.specs.Reports.{counts_of_run, calls_of_run}
 use Rattle.sup_crew.specs.Tallies.{tally_of}
 use Rattle.sup_load.specs.declared.fault.StopFault.{StopFault}

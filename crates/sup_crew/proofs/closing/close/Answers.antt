@@ -7,46 +7,47 @@ use Rattle.sup_core.specs.Account.{account}
 use Rattle.sup_crew.specs.Calls.{jobs_made}
 use Rattle.sup_crew.specs.Jobs.{weigh, children_of}
 use Rattle.sup_crew.specs.Joins.{taken_of}
-use Rattle.sup_crew.specs.Leads.{front_of, calls_since}
+use Rattle.sup_crew.specs.Drivers.{front_of, calls_since}
 use Rattle.sup_crew.specs.Work.{ended, AreEnds}
 use Rattle.sup_crew.proofs.Moves.{weigh-append}
 use Rattle.sup_crew.proofs.Right.{since-right}
 use Rattle.sup_crew.proofs.Reported.{own-others, own-left, named-entered, agree, none_unstarted}
-use Rattle.sup_crew.proofs.Sums.{hands, rows_of, posters-length, back_ends, taken-told, run_told, run_ends}
+use Rattle.sup_crew.proofs.Sums.{endpoints, rows_of, posters-length, back_ends, taken-told, run_told, run_ends}
 use Rattle.sup_crew.proofs.Worked.{ended-append, are_ends-append, are_ends-split}
 use Rattle.sup_crew.proofs.closing.close.Goals as goal
 
-pub collect-hand-requires-clause-hands : goal.collect-hand-requires-clause-hands
-collect-hand-requires-clause-hands g c = hands _ _ _ _ _ c.requires.joined.2.worked
+pub collect-endpoint-requires-clause-endpoints : goal.collect-endpoint-requires-clause-endpoints
+collect-endpoint-requires-clause-endpoints g c = endpoints _ _ _ _ _ c.requires.outcome.2.worked
 
 pub settle-requires-clause-posters : goal.settle-requires-clause-posters
 settle-requires-clause-posters g c =
-    let j = c.requires.joined.2 in
-    let e = c.collect-hand.ensures.posters in
-    let n = ap (λ l. length l) e ∙ posters-length c.args.joined.finished.items in
-    let a = c.collect-hand.result.1.ok.0 in
+    let j = c.requires.outcome.2 in
+    let e = c.collect-endpoint.ensures.posters in
+    let n = ap (λ l. length l) e ∙ posters-length c.args.outcome.finished.items in
+    let a = c.collect-endpoint.result.1.ok.0 in
     let b = j.count in
     let t = j.of_inbox.1 in
     let k = ap (λ t. t.posters) c.end-taker.ensures.taker in
-    (subst (AreOf c.args.inbox.id) (sym e) (are_of _ 1 _ (rows_of _ _ _ 1 _ j.worked)), omega (arith, n, a, b, t, k))
+    (subst (AreOf c.args.crew.inbox.id) (sym e) (are_of _ 1 _ (rows_of _ _ _ 1 _ j.worked)), omega (arith, n, a, b, t, k))
 
 pub returns : goal.returns
 returns g c run after j =
-    let l = j.led in
-    let e = c.collect-hand.ensures in
+    let l = j.driven in
+    let e = c.collect-endpoint.ensures in
     let took = c.end-taker.ensures in
-    let rs = c.args.joined.finished.items in
-    let entered = c.args.joined.drain.entered in
-    let held = c.args.joined.drain.held in
+    let ends_of = c.end-endpoint.ensures in
+    let rs = c.args.outcome.finished.items in
+    let entered = c.args.outcome.drain.entered in
+    let held = c.args.outcome.drain.held in
     let inbox = c.in-Ok.settled.left.items in
-    let unposted = c.collect-hand.result.2.items in
+    let unposted = c.collect-endpoint.result.2.items in
     let left = children_of c.read_all-left.result.items in
     let may_end = g.B.Body.may_end c.args.body.now in
-    let ticket = c.args.joined.ticket in
+    let ticket = c.args.outcome.ticket in
     let items = account run.template (front_of ticket) in
     let cs = calls_since run.template run.before ticket in
     let right = since-right run.template run.before ticket in
-    let n = c.collect-hand.result.1.ok.0 ∙ ap (λ l. length l) e.posters ∙ posters-length rs in
+    let n = c.collect-endpoint.result.1.ok.0 ∙ ap (λ l. length l) e.posters ∙ posters-length rs in
     let tk = ap (λ t. t.taken) took.taker in
     let is_held : c.list_held.result.items ≡ held = c.list_held.ensures ∙ took.held in
     let ends = run_ends may_end _ _ rs _ _ (entered ++ held) inbox _ j.worked e.posters tk n c.in-Ok.ensures.each c.in-Ok.ensures.others in
@@ -57,8 +58,9 @@ returns g c run after j =
     let jobs : (h : Child → ℕ) → weigh h (jobs_made cs entered) ≡ weigh h (ended entered) + (weigh h (ended others) + weigh h left) = λ h.
     let a = l.jobs h in
     let r = c.read_all-left.ensures h in
-    let p = ap (weigh h) e.hand.2 in
-    let t = ap (weigh h) (e.hand.3 ∙ ap (λ l. l ++ taken_of rs) j.of_queue.2) in
+    let p = ap (weigh h) (e.endpoint.2 ∙ ap (λ v. v.permission.put) ends_of.endpoint.0) in
+    let t = ap (weigh h) (e.endpoint.3 ∙ ap (λ v. v.permission.taken ++ taken_of rs) ends_of.endpoint.0) in
+    let k = ap (weigh h) ends_of.kept in
     let w = taken-told h may_end _ _ 1 rs j.worked in
     let u = ap (λ l. weigh h (ended l)) e.unposted in
     let s = run_told h may_end _ _ rs _ _ (entered ++ held) inbox _ j.worked e.posters tk n c.in-Ok.ensures.each c.in-Ok.ensures.others in
@@ -66,7 +68,7 @@ returns g c run after j =
     let f = ap (λ l. weigh h (ended l)) is_held in
     let x = ap (weigh h) (ended-append (c.list_held.result.items ++ inbox) unposted) ∙ weigh-append h (ended (c.list_held.result.items ++ inbox)) (ended unposted) in
     let y = ap (weigh h) (ended-append c.list_held.result.items inbox) ∙ weigh-append h (ended c.list_held.result.items) (ended inbox) in
-    omega (arith, a, r, p, t, w, u, s, d, f, x, y)
+    omega (arith, a, r, p, t, k, w, u, s, d, f, x, y)
     in
     record {
       of_press = l.of_press;
@@ -74,8 +76,8 @@ returns g c run after j =
       called = l.called;
       whole = l.whole;
       driven = l.driven;
-      starts = (λ i. l.starts i ++ c.without_first.ensures i) ∙ take-append-drop c.args.joined.started c.args.children.items;
-      all = none_unstarted c.args.joined.fault c.args.joined.started c.args.children.items c.without_first.result.items c.without_first.ensures j.all;
+      starts = (λ i. l.starts i ++ c.without_first.ensures i) ∙ take-append-drop c.args.outcome.started c.args.crew.children.items;
+      all = none_unstarted c.args.outcome.fault c.args.outcome.started c.args.crew.children.items c.without_first.result.items c.without_first.ensures j.all;
       cause = j.cause;
       named = named-entered items cs right entered others left l.driven l.exits_are jobs may_end first.0;
       agree = agree items cs right entered others left l.driven l.exits_are jobs;

@@ -1,5 +1,5 @@
 use Rattle.std.proofs.Common.{refl, ◌∙◌}
-use Rattle.sup_log.proofs.Prefixes.{prefix_trans}
+use Rattle.sup_crew.proofs.Called.{trans}
 use Rattle.sup_crew.proofs.turns.read_turns.Goals as goal
 
 pub loop-turn-preserved : goal.loop-turn-preserved
@@ -8,6 +8,6 @@ loop-turn-preserved g c =
     let e = c.in_ok-count_children.ensures in
     record {
       count = refl;
-      front = prefix_trans c.args.handle.now.front c.loop-turn.handle.front c.count_children.new.self.front i.front e.front;
+      front = trans c.args.handle.now.front c.loop-turn.handle.front c.count_children.new.self.front i.front e.front;
       calls = (e.calls.0 ∙ i.calls.0, e.calls.1 ∙ i.calls.1);
     }

@@ -1,0 +1,333 @@
+//! The driver of a run: what it entered, and the jobs that it queued or kept.
+ghost use Rattle.std.specs.Prelude.{◌≡◌, List, ◌+◌, ◌<◌, ◌≤◌, [], ◌∷◌, ◌++◌, length, take, IfOk, IfErr, OnErr, IfNone, IsSome, IfSome, MatchOption, None, Some, vec_len};
+ghost use Rattle.std.specs.Option.{option_or};
+ghost use Rattle.sup_crew.specs.Drains.{replies_of};
+ghost use Rattle.sup_crew.specs.Dispatchers.{IsSameQueue, HasDispatched};
+ghost use Rattle.sup_crew.specs.Births.{IsBornBy, AreBornBy};
+ghost use Rattle.sup_crew.specs.Drivers.{DriverModel, IsAtWork, IsSameDriver, Starts, GoesOn, IsCause, started_job, restarted_jobs};
+ghost use Rattle.sup_crew.specs.Tallies.{tally_of, with_start, with_exits, bit, with_exit};
+ghost use Rattle.sup_core.specs.Changes.{makes_child};
+
+use crate::crew::Crew;
+use crate::drain::{Drain, DrainFault, Drained, HELD};
+use crate::job::Job;
+use crate::queue::Dispatcher;
+use std::alloc::Global;
+use std::marker::Model;
+use std::sync::Wait;
+use sup_desk::{Done, Handle, Name, UpdateFault};
+use sup_inbox::Note;
+use sup_log::Ticket;
+use sup_types::{Reply, Starter, Text};
+
+/// The driver of a run: it makes all updates.
+#[derive(Drop)]
+pub struct Driver<'d, N: Name, S: Starter + Drop, P: Wait + Drop> {
+    /// The handle by which it makes its updates.
+    pub handle: Handle<'d, N, S, P>,
+    /// What it does with the jobs for the children that it made.
+    pub jobs: Dispatcher<N>,
+    /// What it takes of the inbox.
+    pub drain: Drain,
+    /// The ticket of its last update.
+    pub ticket: Option<Ticket>,
+    /// How many updates of each kind it made.
+    pub tally: Tally,
+}
+
+impl<'d, N: Name, S: Starter + Drop, P: Wait + Drop> Model for Driver<'d, N, S, P> {
+    ghost Value = { DriverModel };
+
+    ghost view = { λ d. record { knows = d.handle; jobs = d.jobs; drain = d.drain; ticket = d.ticket; tally = d.tally } };
+}
+
+impl<'d, N: Name, S: Starter + Drop, P: Wait + Drop> Driver<'d, N, S, P> {
+    /// A driver that did nothing yet.
+    pub fn new(handle: Handle<'d, N, S, P>, jobs: Dispatcher<N>, drain: Drain) -> Self
+        ensures { result ≡ record { knows = handle.entry; jobs = jobs; drain = drain; ticket = None; tally = tally_of [] } }
+    {
+        Driver {
+            handle,
+            jobs,
+            drain,
+            ticket: None,
+            tally: Tally::new(),
+        }
+    }
+
+    /// Starts the children in order, and then drains until the note of each queued job was taken or the crew's number of turns
+    /// in a row took none. How many children were started, and the fault that stopped it.
+    pub fn start_and_drain<R: Wait>(
+        &mut self,
+        rt: &R,
+        alloc: Global,
+        crew: &Crew<N>,
+    ) -> (usize, Option<UpdateFault>)
+        requires { IsAtWork crew.now.jobs crew.now.inbox.id self.old }
+        ensures same { IsSameDriver self.old self.new }
+        ensures cause { IfSome result.1 (λ e. IsCause N.template self.new.knows e) }
+        ensures started { Starts N.template N.press crew.now.moment (take result.0 crew.now.children.items) self.old self.new }
+        ensures all { IfNone result.1 (result.0 ≡ length crew.now.children.items) }
+        ensures few { result.0 ≤ length crew.now.children.items }
+    {
+        let (started, fault) = self.start_all(rt, crew);
+        if fault.is_some() {
+            return (started, fault);
+        }
+        let fault = self.drain_all(rt, alloc, crew);
+        (started, fault)
+    }
+
+    /// Starts the children in order. How many were started, and the fault that stopped it.
+    fn start_all<R: Wait>(&mut self, rt: &R, crew: &Crew<N>) -> (usize, Option<UpdateFault>)
+        requires { self.old.jobs.queue ≡ crew.now.jobs }
+        ensures same { IsSameDriver self.old self.new }
+        ensures cause { IfSome result.1 (λ e. IsCause N.template self.new.knows e) }
+        ensures started { Starts N.template N.press crew.now.moment (take result.0 crew.now.children.items) self.old self.new }
+        ensures all { IfNone result.1 (result.0 ≡ length crew.now.children.items) }
+        ensures few { result.0 ≤ length crew.now.children.items }
+    {
+        let children = crew.children.as_slice();
+        for place in 0..children.len() {
+            if let Err(fault) = self.start_one(rt, crew, &children[place]) {
+                return (place, Some(fault));
+            }
+        }
+        (children.len(), None)
+    }
+
+    /// Starts a child, and queues a job for it.
+    fn start_one<R: Wait>(&mut self, rt: &R, crew: &Crew<N>, arg: &Text) -> Result<(), UpdateFault>
+        requires { self.old.jobs.queue ≡ crew.now.jobs }
+        ensures same { IsSameDriver self.old self.new }
+        ensures cause { IfErr result (λ e. IsCause N.template self.new.knows e) }
+        ensures ok { IfOk result (λ _. Starts N.template N.press crew.now.moment (arg.now ∷ []) self.old self.new) }
+        ensures err { OnErr result (GoesOn N.template N.press crew.now.moment self.old self.new) }
+    {
+        if self.jobs.make_room(1).is_err() {
+            return Err(UpdateFault::OutOfMemory);
+        }
+        let done = self.handle.start_child(rt, crew.moment, *arg)?;
+        self.note_start(rt, crew, arg, done);
+        Ok(())
+    }
+
+    /// Counts a start, and queues the job for its child, if there is one.
+    fn note_start<R: Wait>(&mut self, rt: &R, crew: &Crew<N>, arg: &Text, done: Done)
+        requires room { (self.old.jobs.queue ≡ crew.now.jobs) × (0 < self.old.jobs.room) }
+        requires press { done.ticket.press ≡ N.press }
+        requires born { IsBornBy N.template done.ticket.front done.reply }
+        ensures same { (self.new.knows ≡ self.old.knows) × (self.new.drain ≡ self.old.drain) × IsSameQueue self.old.jobs self.new.jobs }
+        ensures ticket { self.new.ticket ≡ Some done.ticket }
+        ensures tally { self.new.tally ≡ with_start self.old.tally done.reply }
+        ensures account { HasDispatched self.old.jobs self.new.jobs (started_job arg.now done.reply) }
+    {
+        let Done { reply, ticket } = done;
+        self.tally = self.tally.started(rt, &reply);
+        if let Reply::Started(number) = reply {
+            self.jobs
+                .dispatch(rt, crew, Job::new(number, *arg, ticket.copied()));
+        }
+        self.ticket = Some(ticket);
+    }
+
+    /// Drains until the note of each queued job was taken, a fault comes, or the crew's number of turns in a row took none.
+    fn drain_all<R: Wait>(&mut self, rt: &R, alloc: Global, crew: &Crew<N>) -> Option<UpdateFault>
+        requires { IsAtWork crew.now.jobs crew.now.inbox.id self.old }
+        ensures same { IsSameDriver self.old self.new }
+        ensures cause { IfSome result (λ e. IsCause N.template self.new.knows e) }
+        ensures drained { GoesOn N.template N.press crew.now.moment self.old self.new }
+    {
+        let signals = &crew.signals;
+        let mut taken = 0usize;
+        let mut idle = 0u64;
+        for _ in rt.forever() {
+            if taken >= self.jobs.queued() || idle >= crew.turns {
+                return None;
+            }
+            let noted = signals.posted.noted();
+            let (count, fault) = self.drain_once(rt, alloc, crew);
+            if fault.is_some() {
+                return fault;
+            }
+            if count == 0 {
+                idle += 1;
+                signals.posted.wait(rt, noted);
+            } else {
+                idle = 0;
+                taken = taken.saturating_add(count);
+                signals.drained.give_to_all();
+            }
+        }
+        unreachable!()
+    }
+
+    /// Drains until no note is left or a fault comes, unless there is a fault already.
+    pub fn drain_rest<R: Wait>(
+        &mut self,
+        rt: &R,
+        alloc: Global,
+        crew: &Crew<N>,
+        fault: Option<UpdateFault>,
+    ) -> Option<UpdateFault>
+        requires at_work { IsAtWork crew.now.jobs crew.now.inbox.id self.old }
+        requires cause { IfSome fault (λ e. IsCause N.template self.old.knows e) }
+        ensures same { IsSameDriver self.old self.new }
+        ensures stays { IsSome fault → IsSome result }
+        ensures cause { IfSome result (λ e. IsCause N.template self.new.knows e) }
+        ensures drained { GoesOn N.template N.press crew.now.moment self.old self.new }
+    {
+        if fault.is_some() {
+            return fault;
+        }
+        for _ in rt.forever() {
+            let (count, fault) = self.drain_once(rt, alloc, crew);
+            if count == 0 || fault.is_some() {
+                return fault;
+            }
+        }
+        unreachable!()
+    }
+
+    /// Drains once. How many exits were entered, and the fault that stopped it.
+    fn drain_once<R: Wait>(
+        &mut self,
+        rt: &R,
+        alloc: Global,
+        crew: &Crew<N>,
+    ) -> (usize, Option<UpdateFault>)
+        requires { IsAtWork crew.now.jobs crew.now.inbox.id self.old }
+        ensures same { IsSameDriver self.old self.new }
+        ensures cause { IfSome result.1 (λ e. IsCause N.template self.new.knows e) }
+        ensures drained { GoesOn N.template N.press crew.now.moment self.old self.new }
+    {
+        if self.jobs.make_room(HELD).is_err() {
+            return (0, Some(UpdateFault::OutOfMemory));
+        }
+        match self.drain.drain(rt, alloc, &crew.inbox, &mut self.handle, crew.moment, HELD) {
+            Ok(done) => (self.note_exits(rt, crew, done), None),
+            Err(DrainFault { done, fault }) => (self.note_exits(rt, crew, done), Some(fault)),
+        }
+    }
+
+    /// Counts exits, and queues the jobs for the children that restarts made. How many exits there are.
+    fn note_exits<R: Wait>(&mut self, rt: &R, crew: &Crew<N>, done: Drained) -> usize
+        requires room { (self.old.jobs.queue ≡ crew.now.jobs) × (vec_len done.pairs ≤ self.old.jobs.room) }
+        requires press { MatchOption done.ticket (done.pairs.items ≡ []) (λ t. t.press ≡ N.press) }
+        requires born { IfSome done.ticket (λ t. AreBornBy N.template t.front done.pairs.items) }
+        ensures same { (self.new.knows ≡ self.old.knows) × (self.new.drain ≡ self.old.drain) × IsSameQueue self.old.jobs self.new.jobs }
+        ensures ticket { self.new.ticket ≡ option_or done.ticket self.old.ticket }
+        ensures tally { self.new.tally ≡ with_exits self.old.tally (replies_of done.pairs.items) }
+        ensures account { HasDispatched self.old.jobs self.new.jobs (restarted_jobs done.pairs.items) }
+    {
+        let Drained { pairs, ticket } = done;
+        let count = pairs.len();
+        self.tally = self.tally.drained(rt, &pairs);
+        let Some(ticket) = ticket else {
+            return count;
+        };
+        for (note, reply) in pairs {
+            if let Reply::Restarted(_, number) = reply {
+                self.jobs
+                    .dispatch(rt, crew, Job::new(number, note.arg, ticket.copied()));
+            }
+        }
+        self.ticket = Some(ticket);
+        count
+    }
+}
+
+/// How many updates there were, by what was asked for and what was replied.
+#[derive(Clone, Copy)]
+pub struct Tally {
+    /// How many made a child.
+    pub made: u64,
+    /// How many were exits.
+    pub exits: u64,
+    /// How many were exits that were answered Stray.
+    pub strays: u64,
+    /// How many were exits that were answered Down.
+    pub downs: u64,
+    /// How many were exits that were answered Restarted.
+    pub restarts: u64,
+    /// How many were exits that were answered GaveUp.
+    pub given_up: u64,
+    /// How many were starts that made no child.
+    pub refused: u64,
+}
+
+/// The count, and one more where there is one. A count that would not fit waits for ever: no history is as long.
+fn more<R: Wait>(rt: &R, count: u64, one: bool) -> u64
+    ensures { result ≡ count + bit one }
+{
+    if !one {
+        return count;
+    }
+    if let Some(next) = count.checked_add(1) {
+        return next;
+    }
+    for _ in rt.forever() {}
+    unreachable!()
+}
+
+/// Whether the reply says that a child was made.
+fn makes(reply: &Reply) -> bool
+    ensures { result ≡ makes_child reply.now }
+{
+    matches!(reply, Reply::Started(_) | Reply::Restarted(_, _))
+}
+
+impl Tally {
+    /// No update.
+    pub fn new() -> Tally
+        ensures { result ≡ tally_of [] }
+    {
+        Tally {
+            made: 0,
+            exits: 0,
+            strays: 0,
+            downs: 0,
+            restarts: 0,
+            given_up: 0,
+            refused: 0,
+        }
+    }
+
+    /// A start more, with this reply.
+    pub fn started<R: Wait>(self, rt: &R, reply: &Reply) -> Tally
+        ensures { result ≡ with_start self reply.now }
+    {
+        let made = makes(reply);
+        Tally {
+            made: more(rt, self.made, made),
+            refused: more(rt, self.refused, !made),
+            ..self
+        }
+    }
+
+    /// An exit more, with this reply.
+    fn exited<R: Wait>(self, rt: &R, reply: &Reply) -> Tally
+        ensures { result ≡ with_exit self reply.now }
+    {
+        Tally {
+            made: more(rt, self.made, makes(reply)),
+            exits: more(rt, self.exits, true),
+            strays: more(rt, self.strays, matches!(reply, Reply::Stray(_))),
+            downs: more(rt, self.downs, matches!(reply, Reply::Down)),
+            restarts: more(rt, self.restarts, matches!(reply, Reply::Restarted(_, _))),
+            given_up: more(rt, self.given_up, matches!(reply, Reply::GaveUp)),
+            refused: self.refused,
+        }
+    }
+
+    /// Exits more, with these replies.
+    pub fn drained<R: Wait>(self, rt: &R, pairs: &[(Note, Reply)]) -> Tally
+        ensures { result ≡ with_exits self (replies_of pairs.now) }
+    {
+        let mut tally = self;
+        for pair in pairs {
+            tally = tally.exited(rt, &pair.1);
+        }
+        tally
+    }
+}
