@@ -15,10 +15,10 @@ use std::alloc::{AllocError, Global};
 use std::collections::VecDeque;
 use std::process::Abort;
 use std::sync::Wait;
-use sup_desk::{Desk, Done, Ground, Handle, HandleFault, Name, QueryFault, UpdateFault};
+use sup_desk::{Desk, DeskFault, Done, Ground, Handle, HandleFault, Name, QueryFault, UpdateFault};
 use sup_log::Gone;
 use sup_types::{
-    Answer, Counts, Kind, Operation, Reason, Reply, Restart, Seen, Starter, Template, Text,
+    Answer, Counts, Kind, Operation, Reason, Reply, Restart, Row, Seen, Starter, Template, Text,
 };
 
 /// Each start is answered `Running`.
@@ -48,11 +48,17 @@ fn template(rt: &impl Abort, restart: Restart, max: u64, entries: u64) -> Templa
     }
 }
 
-/// A ground on which so many handles can be made.
+/// A ground on which so many handles can be made. Where memory is refused, it is made a second time.
 fn ground<R: Wait + Abort>(rt: &R, alloc: Global, template: Template, handles: u64) -> Ground<&R> {
     match Ground::new(alloc, rt, template, handles) {
         Ok(ground) => ground,
-        Err(_) => panic!(rt; "a ground"),
+        Err(fault) => {
+            assert!(rt; fault == DeskFault::OutOfMemory);
+            match Ground::new(alloc, rt, template, handles) {
+                Ok(ground) => ground,
+                Err(_) => panic!(rt; "a ground"),
+            }
+        }
     }
 }
 
@@ -90,29 +96,41 @@ fn start<N: Name, R: Wait + Abort>(rt: &R, handle: &mut Handle<'_, N, Always, &R
     replied(rt, done, Reply::Started(number));
 }
 
-/// A child is started and ends by itself, the one in its place is ended, and another is started. There is room for one
-/// operation more.
-fn four(rt: &impl Abort, alloc: Global) -> Result<VecDeque<Operation>, AllocError> {
-    let mut operations = VecDeque::with_capacity(alloc, 5)?;
-    for operation in [
-        Operation::Start(text(rt, "a")),
-        Operation::Exit(1, Reason::Normal),
-        Operation::Terminate(2),
-        Operation::Start(text(rt, "b")),
-    ] {
-        if operations.push_back(operation).is_err() {
+/// The operation at this place of a batch: a child is started and ends by itself, the one in its place is ended, another is
+/// started, and a child that there is not ends.
+fn batched(rt: &impl Abort, place: usize) -> Operation {
+    match place {
+        0 => Operation::Start(text(rt, "a")),
+        1 => Operation::Exit(1, Reason::Normal),
+        2 => Operation::Terminate(2),
+        3 => Operation::Start(text(rt, "b")),
+        _ => Operation::Exit(9, Reason::Normal),
+    }
+}
+
+/// The first operations of the batch, so many.
+fn first_of_batch(
+    rt: &impl Abort,
+    alloc: Global,
+    count: usize,
+) -> Result<VecDeque<Operation>, AllocError> {
+    let mut operations = VecDeque::with_capacity(alloc, count)?;
+    for place in 0..count {
+        if operations.push_back(batched(rt, place)).is_err() {
             return Err(AllocError);
         }
     }
     Ok(operations)
 }
 
-/// As `four`, with memory for them.
-fn queue(rt: &impl Abort, alloc: Global) -> VecDeque<Operation> {
-    match four(rt, alloc) {
-        Ok(operations) => operations,
-        Err(_) => panic!(rt; "memory"),
+/// The same. Where memory is refused, they are made a second time.
+fn queue(rt: &impl Abort, alloc: Global, count: usize) -> VecDeque<Operation> {
+    for _ in 0..2 {
+        if let Ok(operations) = first_of_batch(rt, alloc, count) {
+            return operations;
+        }
     }
+    panic!(rt; "memory")
 }
 
 /// A handle. Where it is refused nothing has changed, and the next one is made.
@@ -176,6 +194,21 @@ fn learns<N: Name, S: Starter + Drop, R: Wait + Abort>(
     };
     assert!(rt; handle.learn(&done.ticket).is_ok());
     done.reply
+}
+
+/// The children 1 to `count` are listed, in this order.
+fn lists<N: Name, R: Wait + Abort>(rt: &R, handle: &mut Handle<'_, N, Always, &R>, count: usize) {
+    let Ok(Seen::Up(rows)) = handle.which_children() else {
+        panic!(rt; "it is up");
+    };
+    are_numbered(rt, rows.as_slice(), count);
+}
+
+fn are_numbered(rt: &impl Abort, rows: &[Row], count: usize) {
+    assert!(rt; rows.len() == count);
+    for (row, number) in rows.iter().zip(1..1_000_000) {
+        assert!(rt; row.number == number);
+    }
 }
 
 /// How many children are listed, where it is up. A list that is refused leaves what is seen, and is made a second time.

@@ -5,60 +5,146 @@ ghost use Rattle.sup_inbox.specs.Ends.{AreOf};
 mod crowd;
 
 use linked_list_allocator::LocalHeap;
-use std::alloc::Allocator;
+use std::alloc::{Allocator, Global};
 use std::process::Abort;
 use std::sync::Wait;
 use std::test::Fail;
-use sup_inbox::{Inbox, InboxFull, Note, Poster, Taker, settle};
+use sup_inbox::{Inbox, InboxFull, Note, Poster, Root, Taker, Unsettled, settle};
 use sup_types::{Reason, Text};
 
 fn text(rt: &impl Abort, bytes: &[u8]) -> Text {
     Text::new(bytes).expect(rt, "a text")
 }
 
-/// What happened to the notes of `post_and_take`.
+/// What happened to the posts, whether the room for what is left was refused first, and the notes that were left.
 #[derive(Drop)]
-struct Seen<A: Allocator> {
+struct Seen {
     refused: Option<InboxFull>,
     taken: Option<Note>,
-    left: Vec<Note, A>,
+    room_was_refused: bool,
+    left: Vec<Note>,
 }
 
-/// What comes of the posts below and of settling the inbox. None for want of memory.
-fn three_posts<R: Wait + Abort, A: Allocator + Copy>(rt: &R, alloc: A) -> Option<Seen<A>> {
-    let (inbox, root) = Inbox::new(alloc, 2).ok()?;
-    match root.split(alloc, &inbox, 2) {
-        Ok((posters, taker)) => post_and_settle(rt, alloc, inbox, posters, taker),
-        Err(_) => None,
+/// How far an inbox came.
+#[derive(Clone, Copy, PartialEq, Eq)]
+enum Came {
+    NotMade,
+    NotSplit,
+    NotSettled,
+    Settled,
+}
+
+/// The memory of an inbox, of its posters and of the notes that are left, and other memory, which is enough.
+#[derive(Clone, Copy)]
+struct Memory<A: Allocator + Copy> {
+    inbox: A,
+    posters: A,
+    room: A,
+    other: Global,
+}
+
+/// Makes an inbox of two places, splits it, posts by two posters, and settles it. What is refused comes back and is used
+/// again, with other memory. How far it came with the first.
+fn three_posts<R: Wait + Abort, A: Allocator + Copy>(rt: &R, memory: Memory<A>) -> Came {
+    let Ok((inbox, root)) = Inbox::new(memory.inbox, 2) else {
+        return Came::NotMade;
+    };
+    match root.split(memory.posters, &inbox, 2) {
+        Ok((posters, taker)) => compare(rt, post_and_settle(rt, memory, inbox, posters, taker)),
+        Err(root) => {
+            split_again(rt, memory, inbox, root);
+            Came::NotSplit
+        }
     }
 }
 
-fn post_and_settle<R: Wait + Abort, A: Allocator + Copy>(
+/// The root that came back splits its inbox.
+fn split_again<R: Wait + Abort, A: Allocator + Copy>(
     rt: &R,
-    alloc: A,
+    memory: Memory<A>,
     inbox: Inbox<A>,
-    posters: Vec<Poster, A>,
+    root: Root,
+)
+    requires { root.inbox ≡ inbox.id }
+{
+    match root.split(memory.other, &inbox, 2) {
+        Ok((posters, taker)) => {
+            compare(rt, post_and_settle(rt, memory, inbox, posters, taker));
+        }
+        Err(_) => panic!(rt; "memory"),
+    }
+}
+
+/// The posts and what was left are as they are to be. How far it came.
+fn compare(rt: &impl Abort, seen: Seen) -> Came {
+    assert_refused(rt, seen.refused);
+    assert!(rt; seen.taken == Some(note(rt, 1, 0, 1, b"a", Reason::Normal)));
+    assert_left(rt, seen.left.as_slice());
+    if seen.room_was_refused {
+        Came::NotSettled
+    } else {
+        Came::Settled
+    }
+}
+
+fn post_and_settle<R: Wait + Abort, A: Allocator + Copy, B: Allocator>(
+    rt: &R,
+    memory: Memory<A>,
+    inbox: Inbox<A>,
+    posters: Vec<Poster, B>,
     taker: Taker,
-) -> Option<Seen<A>>
+) -> Seen
     requires posters { AreOf inbox.id posters.items × (vec_len posters ≡ 2) }
     requires taker { (taker.inbox ≡ inbox.id) × (taker.posters ≡ 2) }
 {
     let (mut posters, mut taker) = (posters, taker);
     let (refused, taken) = post_by_two(rt, &inbox, &mut posters, &mut taker);
-    match settle(rt, posters, taker, inbox, Vec::new(alloc)) {
-        Ok(settled) => Some(Seen {
-            refused,
-            taken,
-            left: settled.left,
-        }),
-        Err(_) => None,
+    let (room_was_refused, left) = settle_at_last(rt, memory, inbox, posters, taker);
+    Seen {
+        refused,
+        taken,
+        room_was_refused,
+        left,
     }
 }
 
-fn post_by_two<R: Wait + Abort, A: Allocator + Copy>(
+/// Settles the inbox. Where there is no room, all comes back and is settled with other memory. Whether that was so, and what
+/// was left.
+fn settle_at_last<R: Wait + Abort, A: Allocator + Copy, B: Allocator>(
+    rt: &R,
+    memory: Memory<A>,
+    inbox: Inbox<A>,
+    posters: Vec<Poster, B>,
+    taker: Taker,
+) -> (bool, Vec<Note>)
+    requires posters { AreOf inbox.id posters.items × (vec_len posters ≡ taker.posters) }
+    requires taker { taker.inbox ≡ inbox.id }
+{
+    match settle(rt, posters, taker, inbox, Vec::new(memory.room)) {
+        Ok(settled) => (false, copied(rt, memory.other, settled.left.as_slice())),
+        Err(back) => {
+            let Unsettled {
+                posters,
+                taker,
+                inbox,
+                room: _,
+            } = back;
+            match settle(rt, posters, taker, inbox, Vec::new(memory.other)) {
+                Ok(settled) => (true, settled.left),
+                Err(_) => panic!(rt; "memory"),
+            }
+        }
+    }
+}
+
+fn copied(rt: &impl Abort, alloc: Global, notes: &[Note]) -> Vec<Note> {
+    Vec::from_slice(alloc, notes).expect(rt, "memory")
+}
+
+fn post_by_two<R: Wait + Abort, A: Allocator + Copy, B: Allocator>(
     rt: &R,
     inbox: &Inbox<A>,
-    posters: &mut Vec<Poster, A>,
+    posters: &mut Vec<Poster, B>,
     taker: &mut Taker,
 ) -> (Option<InboxFull>, Option<Note>)
     requires posters { AreOf inbox.now.id posters.old.items × (vec_len posters.old ≡ 2) }
@@ -113,19 +199,6 @@ fn note(
     }
 }
 
-#[test]
-fn a_full_inbox_gives_back_what_was_to_be_posted(rt: HostRuntime) -> Result<(), Fail> {
-    match three_posts(&rt, rt.alloc()) {
-        Some(seen) => {
-            assert_refused(&rt, seen.refused);
-            assert!(rt; seen.taken == Some(note(&rt, 1, 0, 1, b"a", Reason::Normal)));
-            assert_left(&rt, seen.left.as_slice());
-            Ok(())
-        }
-        None => Err(Fail::from("no memory")),
-    }
-}
-
 fn assert_refused(rt: &impl Abort, met: Option<InboxFull>) {
     let refused = InboxFull {
         number: 3,
@@ -144,22 +217,30 @@ fn assert_left(rt: &impl Abort, left: &[Note]) {
     assert!(rt; left == wanted.as_slice());
 }
 
-/// An inbox on heaps of growing size: each growth is refused in turn, and all memory comes back.
+/// An inbox on heaps of growing size: each growth is refused in turn, what is refused is used again, and all memory comes
+/// back.
 #[test]
 fn each_growth_is_refused_in_turn(rt: HostRuntime) -> Result<(), Fail> {
-    let (mut refused, mut settled) = (false, false);
-    for size in 1..64usize {
-        let heap = LocalHeap::new(rt.alloc(), size * 64)?;
-        match three_posts(&rt, &heap) {
-            Some(seen) => {
-                settled = true;
-                assert!(rt; seen.left.len() == 2);
-            }
-            None => refused = true,
+    let mut seen = [false; 4];
+    // (making an inbox needs more memory for a while than its posters and what is left)
+    let none = LocalHeap::new(rt.alloc(), 16)?;
+    for size in 1..128usize {
+        let heap = LocalHeap::new(rt.alloc(), size * 32)?;
+        let memory = Memory {
+            inbox: &heap,
+            posters: if size % 4 == 0 { &none } else { &heap },
+            room: if size % 4 == 1 { &none } else { &heap },
+            other: rt.alloc(),
+        };
+        match three_posts(&rt, memory) {
+            Came::NotMade => seen[0] = true,
+            Came::NotSplit => seen[1] = true,
+            Came::NotSettled => seen[2] = true,
+            Came::Settled => seen[3] = true,
         }
         assert!(rt; heap.used() == 0);
     }
-    assert!(rt; refused && settled);
+    assert!(rt; seen == [true; 4]);
     Ok(())
 }
 

@@ -23,6 +23,9 @@ const HISTORY: (&str, &str) = (
     "ok 1\nignored 1\nerror not_found\n",
 );
 
+/// The reply to an exit of child 1, which there is not.
+const STRAY: &[u8] = b"stray 1\n";
+
 /// How a run ended: well, or with this fault in this line.
 fn expect_end(rt: &impl Abort, ended: Result<(), ScriptFault>, fault: Option<(Fault, u64)>) {
     let want = match fault {

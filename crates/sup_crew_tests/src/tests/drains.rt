@@ -7,174 +7,213 @@ use std::alloc::Global;
 use std::marker::Brand;
 use std::process::Abort;
 use std::sync::Wait;
-use std::test::*;
 use sup_crew::{Drain, DrainFault, Drained};
 use sup_desk::{Desk, Ground, Handle, Name, UpdateFault};
-use sup_inbox::{Inbox, Note, Poster, Taker};
+use sup_inbox::{Inbox, Note, Poster, Root, Taker};
 use sup_types::{Kind, Reason, Reply, Restart, Template};
 
-/// That the drain answered these replies, its ticket has this stamp, and it met this fault.
-fn assert_drained(
+/// The children whose exits are posted, with their arguments.
+const EXITS: [(u64, &str); 3] = [(1, "a"), (2, "b"), (7, "z")];
+
+const REPLIES: [Reply; 3] = [Reply::Removed(1), Reply::Removed(2), Reply::Stray(7)];
+
+/// The note of this place.
+fn note(rt: &impl Abort, place: usize) -> Note {
+    let (number, arg) = EXITS[place.min(2)];
+    Note {
+        poster: 1,
+        serial: place as u64,
+        number,
+        arg: text(rt, arg),
+        reason: Reason::Normal,
+    }
+}
+
+/// The exits of the notes from this place on were entered, in order, and the ticket stands behind the last of them. How many
+/// they are.
+fn entered(rt: &impl Abort, done: &Drained, from: usize) -> usize {
+    let count = done.pairs.len();
+    let stamp = match &done.ticket {
+        Some(ticket) => ticket.stamp(),
+        None => 0,
+    };
+    let wanted = if count == 0 {
+        0
+    } else {
+        from.saturating_add(count).saturating_add(2)
+    };
+    assert!(rt; stamp == wanted as u64);
+    assert_pairs(rt, done.pairs.as_slice(), from);
+    count
+}
+
+fn assert_pairs(rt: &impl Abort, pairs: &[(Note, Reply)], from: usize) {
+    for (place, pair) in pairs.iter().enumerate() {
+        let place = place.saturating_add(from).min(2);
+        assert!(rt; *pair == (note(rt, place), REPLIES[place]));
+    }
+}
+
+/// What a drain entered from this place on, and what it was refused.
+fn told(
     rt: &impl Abort,
     answer: Result<Drained, DrainFault>,
-    replies: &[Reply],
-    stamp: Option<u64>,
-    fault: Option<UpdateFault>,
-) {
+    from: usize,
+) -> (usize, Option<UpdateFault>) {
     match answer {
-        Ok(done) => {
-            assert!(rt; fault.is_none());
-            assert_done(rt, &done, replies, stamp);
-        }
-        Err(met) => {
-            assert!(rt; Some(met.fault) == fault);
-            assert_done(rt, &met.done, replies, stamp);
-        }
+        Ok(done) => (entered(rt, &done, from), None),
+        Err(met) => (entered(rt, &met.done, from), Some(met.fault)),
     }
 }
 
-fn assert_done(rt: &impl Abort, done: &Drained, replies: &[Reply], stamp: Option<u64>) {
-    let stamped = match &done.ticket {
-        Some(ticket) => Some(ticket.stamp()),
-        None => None,
-    };
-    assert!(rt; stamped == stamp);
-    assert_pairs(rt, done.pairs.as_slice(), replies);
-}
-
-fn assert_pairs(rt: &impl Abort, pairs: &[(Note, Reply)], replies: &[Reply]) {
-    assert!(rt; pairs.len() == replies.len());
-    for i in 0..replies.len() {
-        assert!(rt; pairs[i].1 == replies[i]);
-    }
-}
-
-fn post_three<R: Wait + Abort>(rt: &R, inbox: &Inbox, poster: &mut Poster)
-    requires { poster.old.inbox ≡ inbox.now.id }
-{
-    for (number, arg) in [(1, "a"), (2, "b"), (7, "z")] {
-        let posted = poster.post(rt, inbox, number, text(rt, arg), Reason::Normal);
-        assert!(rt; posted.is_ok());
-    }
-}
-
-/// The replies of the first drain with its ticket's stamp, and the fault of both drains.
-#[derive(Clone, Copy)]
-struct Wants<'a> {
-    replies: &'a [Reply],
-    stamp: u64,
-    fault: Option<UpdateFault>,
-}
-
-/// Starts two children and drains twice. How many notes are held then.
-fn drain_twice<N: Name, R: Wait + Abort>(
+/// Two children are started, the three exits are posted, and the drains come. What is refused for want of memory is made a
+/// second time.
+fn start_and_drain<N: Name, R: Wait + Abort>(
     rt: &R,
     alloc: Global,
     ground: Ground<&R>,
-    wants: Wants<'_>,
-) -> Result<usize, Fail>
+    is_full: bool,
+)
     requires { (ground.press ≡ N.press) × (ground.template ≡ N.template) }
 {
     let desk: Desk<N, Always, &R> = Desk::new(ground, Always);
-    let held = drain_on(rt, alloc, &desk, wants);
-    held
+    drain_on(rt, alloc, &desk, is_full);
 }
 
 fn drain_on<N: Name, R: Wait + Abort>(
     rt: &R,
     alloc: Global,
     desk: &Desk<N, Always, &R>,
-    wants: Wants<'_>,
-) -> Result<usize, Fail> {
-    let mut handle = desk.handle(rt)?;
-    let held = drain_by(rt, alloc, &mut handle, wants);
-    held
+    is_full: bool,
+) {
+    let mut handle = match desk.handle(rt) {
+        Ok(handle) => handle,
+        Err(_) => desk.handle(rt).expect(rt, "a handle"),
+    };
+    start(rt, &mut handle, "a");
+    start(rt, &mut handle, "b");
+    drain_by(rt, alloc, &mut handle, is_full);
+}
+
+fn start<N: Name, R: Wait + Abort>(rt: &R, handle: &mut Handle<'_, N, Always, &R>, arg: &str) {
+    let arg = text(rt, arg);
+    if handle.start_child(rt, 0, arg).is_err() {
+        assert!(rt; handle.start_child(rt, 0, arg).is_ok());
+    }
 }
 
 fn drain_by<N: Name, R: Wait + Abort>(
     rt: &R,
     alloc: Global,
     handle: &mut Handle<'_, N, Always, &R>,
-    wants: Wants<'_>,
-) -> Result<usize, Fail> {
-    for arg in ["a", "b"] {
-        assert!(rt; handle.start_child(rt, 0, text(rt, arg)).is_ok());
-    }
-    let (inbox, root) = Inbox::new(alloc, 4)?;
-    match root.split(alloc, &inbox, 1) {
-        Ok((posters, taker)) => {
-            post(rt, &inbox, posters);
-            Ok(drain_all(rt, alloc, &inbox, taker, handle, wants))
-        }
-        Err(_) => Err(Fail::from("no memory")),
+    is_full: bool,
+) {
+    let (inbox, root) = inbox(rt, alloc);
+    let (posters, taker) = split(rt, alloc, &inbox, root);
+    post_three(rt, &inbox, posters);
+    if is_full {
+        drain_into_full(rt, alloc, &inbox, taker, handle);
+    } else {
+        drain_all(rt, alloc, &inbox, taker, handle);
     }
 }
 
-/// Posts by the only poster.
-fn post<R: Wait + Abort>(rt: &R, inbox: &Inbox, posters: Vec<Poster>)
+fn inbox(rt: &impl Abort, alloc: Global) -> (Inbox, Root)
+    ensures { result.1.inbox ≡ result.0.id }
+{
+    for _ in 0..2 {
+        if let Ok(made) = Inbox::new(alloc, 4) {
+            return made;
+        }
+    }
+    panic!(rt; "memory")
+}
+
+/// The only poster, and the taker.
+fn split(rt: &impl Abort, alloc: Global, inbox: &Inbox, root: Root) -> (Vec<Poster>, Taker)
+    requires { root.inbox ≡ inbox.now.id }
+    ensures { AreOf inbox.now.id result.0.items × (vec_len result.0 ≡ 1) × (result.1.inbox ≡ inbox.now.id) }
+{
+    match root.split(alloc, inbox, 1) {
+        Ok(ends) => ends,
+        Err(root) => match root.split(alloc, inbox, 1) {
+            Ok(ends) => ends,
+            Err(_) => panic!(rt; "memory"),
+        },
+    }
+}
+
+fn post_three<R: Wait + Abort>(rt: &R, inbox: &Inbox, posters: Vec<Poster>)
     requires { AreOf inbox.now.id posters.items × (vec_len posters ≡ 1) }
 {
     let mut posters = posters;
     let mut poster = posters.pop().unwrap();
-    post_three(rt, inbox, &mut poster);
+    for (number, arg) in EXITS {
+        let posted = poster.post(rt, inbox, number, text(rt, arg), Reason::Normal);
+        assert!(rt; posted.is_ok());
+    }
 }
 
+/// The history has room for two exits: the third stays held, however often it is tried.
+fn drain_into_full<N: Name, R: Wait + Abort>(
+    rt: &R,
+    alloc: Global,
+    inbox: &Inbox,
+    taker: Taker,
+    handle: &mut Handle<'_, N, Always, &R>,
+)
+    requires { taker.inbox ≡ inbox.now.id }
+{
+    let mut drain = Drain::new(taker);
+    let first = told(rt, drain.drain(rt, alloc, inbox, handle, 1, 64), 0);
+    assert!(rt; first == (2, Some(UpdateFault::HistoryFull)));
+    let second = told(rt, drain.drain(rt, alloc, inbox, handle, 1, 64), 2);
+    assert!(rt; second == (0, Some(UpdateFault::HistoryFull)));
+    let held = drain.end().1;
+    assert!(rt; held.as_slice() == [note(rt, 2)].as_slice());
+}
+
+/// All three are entered: at once, or in two drains where memory is refused to the first.
 fn drain_all<N: Name, R: Wait + Abort>(
     rt: &R,
     alloc: Global,
     inbox: &Inbox,
     taker: Taker,
     handle: &mut Handle<'_, N, Always, &R>,
-    wants: Wants<'_>,
-) -> usize
+)
     requires { taker.inbox ≡ inbox.now.id }
 {
     let mut drain = Drain::new(taker);
-    let answer = drain.drain(rt, alloc, inbox, handle, 1, 64);
-    assert_drained(rt, answer, wants.replies, Some(wants.stamp), wants.fault);
-    let answer = drain.drain(rt, alloc, inbox, handle, 1, 64);
-    assert_drained(rt, answer, &[], None, wants.fault);
-    drain.end().1.len()
+    let (first, fault) = told(rt, drain.drain(rt, alloc, inbox, handle, 1, 64), 0);
+    assert!(rt; fault.is_none() == (first == 3));
+    assert!(rt; matches!(fault, None | Some(UpdateFault::OutOfMemory)));
+    let second = told(rt, drain.drain(rt, alloc, inbox, handle, 1, 64), first);
+    assert!(rt; second == (3usize.saturating_sub(first), None));
+    assert!(rt; drain.end().1.is_empty());
 }
 
-fn template(rt: &impl Abort, entries: u64) -> Template {
-    match Template::new(Restart::Temporary, Kind::Worker, 0, 5, 10, entries) {
-        Ok(template) => template,
-        Err(_) => panic!(rt; "a template"),
+/// A desk whose history has room for so many entries. Where memory is refused, it is made a second time.
+fn ground<R: Wait + Abort>(rt: &R, alloc: Global, entries: u64) -> Ground<&R> {
+    let Ok(template) = Template::new(Restart::Temporary, Kind::Worker, 0, 5, 10, entries) else {
+        panic!(rt; "a template");
+    };
+    for _ in 0..2 {
+        if let Ok(ground) = Ground::new(alloc, rt, template, 1) {
+            return ground;
+        }
     }
-}
-
-/// How many notes are held after two drains of a desk whose history has room for so many entries.
-fn held_after<R: Wait + Abort>(
-    rt: &R,
-    alloc: Global,
-    entries: u64,
-    wants: Wants<'_>,
-) -> Result<usize, Fail> {
-    let ground = Ground::new(alloc, rt, template(rt, entries), 1)?;
-    drain_twice::<Brand, R>(rt, alloc, ground, wants)
+    panic!(rt; "memory")
 }
 
 #[test]
-fn a_full_history_leaves_a_note_held(rt: HostRuntime) -> Result<(), Fail> {
-    let wants = Wants {
-        replies: &[Reply::Removed(1), Reply::Removed(2)],
-        stamp: 4,
-        fault: Some(UpdateFault::HistoryFull),
-    };
-    let held = held_after(&rt, rt.alloc(), 4, wants)?;
-    assert!(rt; held == 1);
-    Ok(())
+fn a_full_history_leaves_a_note_held(rt: HostRuntime) {
+    let alloc = rt.alloc();
+    start_and_drain::<Brand, HostRuntime>(&rt, alloc, ground(&rt, alloc, 4), true);
 }
 
+/// It passes whichever allocation is refused.
 #[test]
-fn a_drain_takes_the_notes_that_are_there(rt: HostRuntime) -> Result<(), Fail> {
-    let wants = Wants {
-        replies: &[Reply::Removed(1), Reply::Removed(2), Reply::Stray(7)],
-        stamp: 5,
-        fault: None,
-    };
-    let held = held_after(&rt, rt.alloc(), 5, wants)?;
-    assert!(rt; held == 0);
-    Ok(())
+fn a_drain_enters_later_what_it_was_refused(rt: HostRuntime) {
+    let alloc = rt.alloc();
+    start_and_drain::<Brand, HostRuntime>(&rt, alloc, ground(&rt, alloc, 5), false);
 }

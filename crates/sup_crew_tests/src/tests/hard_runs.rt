@@ -144,7 +144,7 @@ fn end_by<N: Name + Send + Sync, R: Threads + Wait + Abort + Sync>(
 /// That three children were made, and that the exit of each was a stray.
 fn assert_strays<N: Name>(rt: &impl Abort, report: &Report<N>) {
     assert!(rt; report.made == 3 && report.exits == 3 && report.strays == 3);
-    assert!(rt; listed(report) == 0 && report.fault.is_none());
+    assert!(rt; listed(report) == 0 && report.unstarted.is_empty() && report.fault.is_none());
 }
 
 #[test]

@@ -12,7 +12,7 @@ use std::thread;
 use std::thread::Threads;
 use sup_crew::{Body, CrewFault, Job, Plan, Report, run_crew, run_crew_with};
 use sup_desk::{Asker, Desk, Ground, Handle, HandleOf, Name, UpdateFault};
-use sup_types::{AutoShutdown, Kind, Reason, Restart, Seen, Template};
+use sup_types::{AutoShutdown, Kind, Reason, Restart, Row as Child, Seen, Template};
 
 /// Each body ends at once, but for that of child 1 where it is to wait until that of child 2 has begun.
 #[derive(Drop)]
@@ -342,6 +342,7 @@ fn run_seen<N: Name + Send + Sync, R: Threads + Wait + Abort + Sync>(
     match run_crew(rt, alloc, desk, &Ends::new(false), plan) {
         Ok(report) => {
             assert_told(rt, &report);
+            assert_left(rt, first, &report);
             Some(Ok(()))
         }
         Err(fault) => {
@@ -356,6 +357,42 @@ fn assert_told<N: Name>(rt: &impl Abort, report: &Report<N>) {
     assert!(rt; report.exits.wrapping_add(listed(report)) == report.made);
     assert!(rt; report.made.wrapping_add(report.unstarted.len() as u64) == 3);
     assert!(rt; matches!(report.fault, None | Some(UpdateFault::OutOfMemory)));
+}
+
+/// That each child that is still listed stands in one of the report's lists, once, and no other child does.
+fn assert_left<N: Name, R: Wait + Abort>(
+    rt: &R,
+    handle: &mut Handle<'_, N, Always, &R>,
+    report: &Report<N>,
+) {
+    for _ in 0..2 {
+        if let Ok(Seen::Up(children)) = handle.which_children() {
+            are_told(rt, children.as_slice(), report);
+            return;
+        }
+    }
+    panic!(rt; "the children are listed");
+}
+
+fn are_told<N: Name>(rt: &impl Abort, children: &[Child], report: &Report<N>) {
+    assert!(rt; children.len() as u64 == listed(report));
+    for child in children {
+        assert!(rt; times_told(report, child.number) == 1);
+    }
+}
+
+/// How often the child with this number stands in the report's lists.
+fn times_told<N: Name>(report: &Report<N>, number: u64) -> usize {
+    let mut times = report
+        .left
+        .iter()
+        .filter(|job| job.number == number)
+        .count();
+    for notes in [&report.held, &report.inbox, &report.unposted] {
+        let noted = notes.iter().filter(|note| note.number == number).count();
+        times = times.wrapping_add(noted);
+    }
+    times
 }
 
 /// That no update has been made: the handle's ticket has stamp 0.

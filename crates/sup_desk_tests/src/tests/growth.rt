@@ -2,14 +2,16 @@
 //! refused, and looks at what a refusal leaves.
 ghost use Rattle.std.specs.Prelude.{◌≡◌};
 
-use super::{Always, call, four, listed, made, replied, reply_of, template, text};
+use super::batches::stamp_of;
+use super::{
+    Always, batched, call, ground, listed, made, queue, replied, reply_of, template, text,
+};
 use std::alloc::Global;
 use std::collections::VecDeque;
 use std::marker::Brand;
 use std::process::Abort;
 use std::sync::Wait;
-use std::test::*;
-use sup_desk::{Desk, DeskFault, Done, Dones, Ground, Handle, Name, Part, UpdateFault};
+use sup_desk::{Desk, Done, Dones, Ground, Handle, Name, Part, UpdateFault};
 use sup_types::{Counts, Operation, Reason, Reply, Restart, Seen};
 
 /// How many children are listed after each update of the row of five.
@@ -73,23 +75,45 @@ fn enter_five<N: Name, R: Wait + Abort>(rt: &R, handle: &mut Handle<'_, N, Alway
 }
 
 #[test]
-fn a_refused_update_is_entered_the_next_time(rt: HostRuntime) -> Result<(), Fail> {
+fn a_refused_update_is_entered_the_next_time(rt: HostRuntime) {
     let template = template(&rt, Restart::Permanent, 10, 1 << 62);
-    match Ground::new(rt.alloc(), &rt, template, 1) {
-        Ok(ground) => bear_updates::<Brand, HostRuntime>(&rt, ground),
-        Err(fault) => assert!(rt; fault == DeskFault::OutOfMemory),
-    }
-    Ok(())
+    bear_updates::<Brand, HostRuntime>(&rt, ground(&rt, rt.alloc(), template, 1));
 }
 
-/// How many were entered. Where some were not, it was for want of memory.
+/// The replies to the batch.
+const BATCH: [Reply; 5] = [
+    Reply::Started(1),
+    Reply::Restarted(1, 2),
+    Reply::Ended,
+    Reply::Started(3),
+    Reply::Stray(9),
+];
+
+/// How many were entered, which are the first of the batch. Where some were not, it was for want of memory.
 fn entered(rt: &impl Abort, applied: Result<Dones, Part>) -> usize {
     match applied {
-        Ok(done) => done.replies.len(),
+        Ok(done) => are_first(rt, done.replies.as_slice(), Some(done.ticket.stamp())),
         Err(part) => {
             assert!(rt; part.fault == UpdateFault::OutOfMemory);
-            part.replies.len()
+            are_first(rt, part.replies.as_slice(), stamp_of(&part.ticket))
         }
+    }
+}
+
+/// These are the replies to the first of the batch, and the ticket's stamp is their number. How many they are.
+fn are_first(rt: &impl Abort, replies: &[Reply], stamp: Option<u64>) -> usize {
+    let count = replies.len();
+    assert!(rt; count <= BATCH.len());
+    assert!(rt; replies == &BATCH[..count]);
+    assert!(rt; stamp == if count == 0 { None } else { Some(count as u64) });
+    count
+}
+
+/// The queue has what comes in the batch from this place on, in order.
+fn are_left(rt: &impl Abort, operations: &VecDeque<Operation>, from: usize) {
+    assert!(rt; operations.len() == BATCH.len().saturating_sub(from));
+    for (place, operation) in operations.iter().enumerate() {
+        assert!(rt; *operation == batched(rt, from.saturating_add(place)));
     }
 }
 
@@ -106,7 +130,7 @@ fn bear_batch<N: Name, R: Wait + Abort>(
     apply_twice(rt, alloc, &mut handle, operations);
 }
 
-/// Four operations and an exit of no child. The list of what is not yet published grows at the first and at the fifth.
+/// The list of what is not yet published grows at the first operation and at the fifth.
 fn apply_twice<N: Name, R: Wait + Abort>(
     rt: &R,
     alloc: Global,
@@ -114,27 +138,36 @@ fn apply_twice<N: Name, R: Wait + Abort>(
     operations: &mut VecDeque<Operation>,
 ) {
     let first = entered(rt, handle.apply_all(rt, alloc, 0, operations));
-    let left = operations.len();
-    assert!(rt; (handle.front(), Some(left)) == (first as u64, 5usize.checked_sub(first)));
-    let others = entered(rt, handle.apply_all(rt, alloc, 0, operations));
-    assert!(rt; (others, handle.front()) == (left, 5));
+    assert!(rt; handle.front() == first as u64);
+    are_left(rt, operations, first);
+    assert!(rt; first <= BATCH.len());
+    enter_rest(rt, alloc, handle, operations, &BATCH[first..]);
+    enter_rest(rt, alloc, handle, operations, &[]);
+}
+
+/// What was left is entered, with these replies, where anything was.
+fn enter_rest<N: Name, R: Wait + Abort>(
+    rt: &R,
+    alloc: Global,
+    handle: &mut Handle<'_, N, Always, &R>,
+    operations: &mut VecDeque<Operation>,
+    replies: &[Reply],
+) {
+    let Ok(done) = handle.apply_all(rt, alloc, 0, operations) else {
+        panic!(rt; "the rest is entered");
+    };
+    assert!(rt; done.replies.as_slice() == replies);
+    assert!(rt; (done.ticket.stamp(), handle.front(), operations.len()) == (5, 5, 0));
 }
 
 #[test]
-fn a_batch_leaves_in_its_queue_what_is_refused(rt: HostRuntime) -> Result<(), Fail> {
+fn a_batch_leaves_in_its_queue_what_is_refused(rt: HostRuntime) {
     let template = template(&rt, Restart::Permanent, 10, 10);
-    let Ok(mut operations) = four(&rt, rt.alloc()) else {
-        return Ok(());
-    };
-    if operations
-        .push_back(Operation::Exit(9, Reason::Normal))
-        .is_err()
-    {
-        return Ok(());
-    }
-    match Ground::new(rt.alloc(), &rt, template, 1) {
-        Ok(ground) => bear_batch::<Brand, HostRuntime>(&rt, rt.alloc(), ground, &mut operations),
-        Err(fault) => assert!(rt; fault == DeskFault::OutOfMemory),
-    }
-    Ok(())
+    let mut operations = queue(&rt, rt.alloc(), BATCH.len());
+    bear_batch::<Brand, HostRuntime>(
+        &rt,
+        rt.alloc(),
+        ground(&rt, rt.alloc(), template, 1),
+        &mut operations,
+    );
 }

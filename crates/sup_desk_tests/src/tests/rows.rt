@@ -2,8 +2,8 @@
 ghost use Rattle.std.specs.Prelude.{◌≡◌};
 
 use super::{
-    Always, call, ground, has_seen, is_running, learns, listed, made, replied, reply_of, stamp,
-    start, template, text,
+    Always, call, ground, has_seen, learns, listed, lists, made, replied, reply_of, stamp, start,
+    template, text,
 };
 use std::marker::Brand;
 use std::process::Abort;
@@ -54,7 +54,6 @@ fn makes_as_many_handles_and_entries_as_it_was_told(rt: HostRuntime) {
 enum Case {
     History,
     Stop,
-    Significant,
 }
 
 fn on_one<N: Name, R: Wait + Abort>(rt: &R, ground: Ground<&R>, case: Case)
@@ -70,7 +69,6 @@ fn enter<N: Name, R: Wait + Abort>(rt: &R, handle: &mut Handle<'_, N, Always, &R
     match case {
         Case::History => fill_history(rt, handle),
         Case::Stop => stop_it(rt, handle),
-        Case::Significant => goes_down(rt, handle),
     }
 }
 
@@ -167,7 +165,7 @@ fn ask_anew<N: Name, R: Wait + Abort>(rt: &R, ground: Ground<&R>)
     ask_view(rt, &mut first, &mut second);
     let mut third = made(rt, &desk);
     has_seen(rt, &third, 4);
-    counted(rt, &mut third, 4, 4);
+    lists(rt, &mut third, 4);
     ask_stopped(rt, &mut first, &mut second);
 }
 
@@ -180,10 +178,22 @@ fn ask_of_each<N: Name, R: Wait + Abort>(
     start(rt, first, 1);
     counted(rt, second, 1, 1);
     has_seen(rt, second, 1);
-    start(rt, first, 2);
-    is_running(rt, second, 2);
+    replied(
+        rt,
+        first.start_child(rt, 0, text(rt, "b")),
+        Reply::Started(2),
+    );
+    is_second(rt, second);
     start(rt, first, 3);
-    assert!(rt; listed(rt, second) == Some(3));
+    lists(rt, second, 3);
+}
+
+/// The second child runs, with the argument that it was started with.
+fn is_second<N: Name, R: Wait + Abort>(rt: &R, handle: &mut Handle<'_, N, Always, &R>) {
+    let Ok(Seen::Up(Some(row))) = handle.child(2) else {
+        panic!(rt; "it is listed");
+    };
+    assert!(rt; row.is_running() && row.arg.bytes() == b"b".as_slice());
 }
 
 /// The same of a look at the fourth, which a ticket then carries.
@@ -215,20 +225,27 @@ fn ask_stopped<N: Name, R: Wait + Abort>(
 fn goes_down_with_a_significant_child(rt: HostRuntime) -> Result<(), Fail> {
     let template = template(&rt, Restart::Temporary, 10, 1 << 62);
     let significant = template.with_shutdown(true, AutoShutdown::Any)?;
-    on_one::<Brand, HostRuntime>(
-        &rt,
-        ground(&rt, rt.alloc(), significant, 1),
-        Case::Significant,
-    );
+    go_down::<Brand, HostRuntime>(&rt, ground(&rt, rt.alloc(), significant, 2));
     Ok(())
 }
 
-fn goes_down<N: Name, R: Wait + Abort>(rt: &R, handle: &mut Handle<'_, N, Always, &R>) {
-    start(rt, handle, 1);
-    replied(
-        rt,
-        handle.exit(rt, 1, 1, Reason::Normal),
-        Reply::ShutDown(1),
-    );
-    is_down(rt, handle);
+fn go_down<N: Name, R: Wait + Abort>(rt: &R, ground: Ground<&R>)
+    requires { (ground.press ≡ N.press) × (ground.template ≡ N.template) }
+{
+    let desk: Desk<N, Always, &R> = Desk::new(ground, Always);
+    let mut first = made(rt, &desk);
+    let mut second = made(rt, &desk);
+    learns_that_it_is_down(rt, &mut first, &mut second);
+}
+
+/// The only child ends by itself, and the other handle learns of it.
+fn learns_that_it_is_down<N: Name, R: Wait + Abort>(
+    rt: &R,
+    first: &mut Handle<'_, N, Always, &R>,
+    second: &mut Handle<'_, N, Always, &R>,
+) {
+    start(rt, first, 1);
+    let reply = learns(rt, second, first.exit(rt, 1, 1, Reason::Normal));
+    assert!(rt; reply == Reply::ShutDown(1));
+    is_down(rt, second);
 }

@@ -1,7 +1,7 @@
 //! Handles in threads of their own.
 ghost use Rattle.std.specs.Prelude.{◌≡◌};
 
-use super::{Always, ground, is_idle, made, start, template, text};
+use super::{Always, ground, is_idle, lists, made, start, template, text};
 use std::marker::{Brand, PhantomData};
 use std::process::Abort;
 use std::sync::{Mutex, Wait};
@@ -9,7 +9,7 @@ use std::test::*;
 use std::thread::{Threads, for_each_mut};
 use sup_desk::{Asker, Desk, Ground, Handle, HandleOf, Name, TicketFault};
 use sup_log::Ticket;
-use sup_types::{Reply, Restart, Row, Seen, Text};
+use sup_types::{Reply, Restart, Seen, Text};
 
 /// What an audit of these handles answers: the length of the history.
 fn audited<'r, N: Name, R: Wait>(
@@ -68,22 +68,7 @@ fn crowd<'d, 'r, N: Name + Send + Sync, R: Threads + Wait + Abort + Sync>(
     let alone = audited(rt, desk, &mut handles[..1]);
     assert!(rt; alone == Some(Err(TicketFault::Split)));
     assert!(rt; audited(rt, desk, &mut handles) == Some(Ok(200)));
-    lists_all(rt, &mut handles[1]);
-}
-
-/// The children 1 to 200 are listed, in this order.
-fn lists_all<N: Name, R: Wait + Abort>(rt: &R, handle: &mut Handle<'_, N, Always, &R>) {
-    let Ok(Seen::Up(rows)) = handle.which_children() else {
-        panic!(rt; "it is up");
-    };
-    are_all(rt, rows.as_slice());
-}
-
-fn are_all(rt: &impl Abort, rows: &[Row]) {
-    assert!(rt; rows.len() == 200);
-    for (row, number) in rows.iter().zip(1..201) {
-        assert!(rt; row.number == number);
-    }
+    lists(rt, &mut handles[1], 200);
 }
 
 fn crowd_on<N: Name + Send + Sync, R: Threads + Wait + Abort + Sync>(rt: &R, ground: Ground<&R>)
@@ -132,7 +117,7 @@ fn exchange<N: Name, R: Wait + Abort>(
     }
 }
 
-fn swap<N: Name, R: Wait>(
+fn swap<N: Name, R: Wait + Abort>(
     rt: &R,
     handle: &mut Handle<'_, N, Always, &R>,
     passed: &Mutex<Option<Passed<N>>>,
@@ -146,7 +131,7 @@ fn swap<N: Name, R: Wait>(
     };
     let theirs = passed.lock(rt).replace(mine);
     if let Some(theirs) = theirs {
-        let _ = handle.learn(&theirs.ticket);
+        assert!(rt; handle.learn(&theirs.ticket).is_ok());
     }
 }
 
@@ -209,11 +194,37 @@ fn asks<N: Name>(rt: &impl Abort, asker: &mut Asker<N>) {
     }
 }
 
+/// An asker asks by each of its queries.
+fn ask_each_way<N: Name, R: Wait + Abort>(
+    rt: &R,
+    desk: &Desk<N, Always, &R>,
+    handle: &mut Handle<'_, N, Always, &R>,
+) {
+    match (desk.asker(rt), handle.ticket(rt)) {
+        (Ok(mut asker), Ok(ticket)) => asks_all(rt, &mut asker, &ticket),
+        _ => panic!(rt; "an asker and a ticket"),
+    }
+}
+
+/// The asker lists the only child by each of its queries, and learns no more from a ticket for all.
+fn asks_all<N: Name>(rt: &impl Abort, asker: &mut Asker<N>, ticket: &Ticket)
+    requires { ticket.now.press ≡ N.press }
+{
+    assert!(rt; asker.learn(ticket).is_ok());
+    assert!(rt; matches!(asker.child(1), Ok(Seen::Up(Some(row))) if row.is_running()));
+    assert!(rt; asker.inspect(|view| view.counts().workers).ok() == Some(Seen::Up(1)));
+    let Ok(Seen::Up(rows)) = asker.which_children() else {
+        panic!(rt; "it is up");
+    };
+    assert!(rt; rows.len() == 1 && asker.front() == 1);
+}
+
 /// Askers come and go beside a handle, which is bound again and has all places but one. An audit counts no asker.
 fn come_and_go<'r, N: Name, R: Wait + Abort>(rt: &'r R, desk: &Desk<N, Always, &'r R>) {
     let mut handle = made(rt, desk);
     start(rt, &mut handle, 1);
     ask_again(rt, desk, 2_000);
+    ask_each_way(rt, desk, &mut handle);
     let (caller, _) = handle.unbind();
     let mut handles = [desk.bind(caller)];
     assert!(rt; audited(rt, desk, &mut handles) == Some(Ok(1)));

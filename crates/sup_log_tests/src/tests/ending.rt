@@ -4,7 +4,7 @@ ghost use Rattle.std.specs.Prelude.{◌≡◌, ◌^◌, ◌<◌, ◌+◌, [], le
 use super::{append, entry, lens, press, started};
 use std::process::Abort;
 use std::sync::Wait;
-use sup_log::{Gone, Lens, Press, View};
+use sup_log::{Lens, Press, View};
 use sup_types::{Counts, Operation};
 
 /// A lens whose press has ended.
@@ -27,8 +27,7 @@ fn sees_one(rt: &impl Abort, lens: &mut Lens) {
 fn is_gone(rt: &impl Abort, lens: &mut Lens) {
     let mut called = false;
     let answer = lens.look(|_| called = true);
-    let gone = answer.err().map(|gone| gone.number());
-    assert!(rt; gone == Some(Gone.number()));
+    assert!(rt; answer.err().map(|gone| gone.number()) == Some(4));
     assert!(rt; !called);
     assert!(rt; lens.front().stamp() == 1);
 }

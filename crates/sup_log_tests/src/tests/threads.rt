@@ -4,24 +4,42 @@ ghost use Rattle.std.specs.Prelude.{◌≡◌, ◌+◌, ◌≤◌, ◌<◌, ◌^
 use super::{append, entry, lens, press, started, text};
 use std::process::Abort;
 use std::sync::Wait;
-use std::thread::{Threads, join};
+use std::sync::atomic::{AtomicBool, Ordering};
+use std::thread::{Threads, join, yield_now};
 use sup_log::{Gone, Lens, Press, Ticket};
 use sup_types::{Entry, Operation, Row, Status, Text};
 
-/// The length of the front that the lens then has, and the first child that it lists.
-fn look_after(lens: Lens, ticket: &Ticket) -> Result<(u64, Option<Row>), Gone>
+/// The length of the front that the lens then has, and the first child that it lists. It says that it has looked.
+fn look_after(
+    lens: Lens,
+    ticket: &Ticket,
+    has_looked: &AtomicBool,
+) -> Result<(u64, Option<Row>), Gone>
     requires { ticket.now.press ≡ lens.press }
 {
     let mut lens = lens;
     lens.learn(ticket)?;
-    lens.look(|view| (view.stamp(), view.get(1)))
+    let seen = lens.look(|view| (view.stamp(), view.get(1)));
+    has_looked.store(true, Ordering::SeqCst);
+    seen
 }
 
-fn publish_two<R: Wait + Drop>(rt: &impl Abort, press: Press<R>) -> (Press<R>, Ticket)
+/// Publishes two entries more, once the other thread has looked.
+fn publish_two<R: Wait + Drop>(
+    rt: &impl Abort,
+    press: Press<R>,
+    has_looked: &AtomicBool,
+) -> (Press<R>, Ticket)
     requires { (length press.published + 2 ≤ press.template.entries) × (press.pending ≡ []) }
     ensures { result.1.press ≡ press.press }
 {
     let mut press = press;
+    for _ in 0..10_000_000u64 {
+        if has_looked.load(Ordering::SeqCst) {
+            break;
+        }
+        yield_now();
+    }
     append(rt, &mut press, started(rt, "b"));
     append(rt, &mut press, started(rt, "c"));
     press.publish();
@@ -64,7 +82,7 @@ fn first_publication<'r, R: Wait + Abort>(
     (press, one, two, ticket)
 }
 
-/// What the lens sees at once with the publication of two more entries, and a ticket for them.
+/// What the lens sees in a thread of its own, before two more entries are published in another, and a ticket for them.
 fn learn_and_publish<'r, R: Threads + Wait + Abort + Sync>(
     rt: &'r R,
     press: Press<&'r R>,
@@ -74,25 +92,25 @@ fn learn_and_publish<'r, R: Threads + Wait + Abort + Sync>(
     requires { (ticket.now.press ≡ one.press) × (length press.published + 2 ≤ press.template.entries) × (press.pending ≡ []) }
     ensures { result.1.1.press ≡ press.entry.press }
 {
+    let has_looked = AtomicBool::new(false);
     join(
         rt,
         || -> Result<(u64, Option<Row>), Gone>
             requires { ticket.now.press ≡ one.press }
-        { look_after(one, ticket) },
+        { look_after(one, ticket, &has_looked) },
         || -> (Press<&R>, Ticket)
             requires { (length press.published + 2 ≤ press.template.entries) × (press.pending ≡ []) }
             ensures { result.1.press ≡ press.entry.press }
-        { publish_two(rt, press) },
+        { publish_two(rt, press, &has_looked) },
     )
 }
 
-/// The first child is listed, and all of a publication or nothing of it is seen.
+/// The first child alone is seen.
 fn is_first(rt: &impl Abort, seen: Result<(u64, Option<Row>), Gone>) {
     let Ok((stamp, Some(first))) = seen else {
         panic!(rt; "the first child is listed");
     };
-    assert!(rt; stamp == 1 || stamp == 3);
-    assert!(rt; (first.number, first.status) == (1, Status::Running));
+    assert!(rt; (stamp, first.number, first.status) == (1, 1, Status::Running));
     assert!(rt; first.arg.bytes() == b"a".as_slice());
 }
 

@@ -1,9 +1,10 @@
 //! Readers and writers that fail, and texts that are too long.
-use super::fakes::{Endless, Narrow, Pieces, Stuck};
-use super::{FAILED_RESTART, expect_end, line_feeds};
+use super::fakes::{Counting, Looking, Narrow, Pieces, Stuck};
+use super::{FAILED_RESTART, STRAY, expect_end, line_feeds};
 use std::alloc::Global;
 use std::io::Read;
 use std::process::Abort;
+use std::sync::atomic::{AtomicBool, AtomicUsize, Ordering};
 use std::test::Fail;
 use sup_script::{Fault, ScriptStarter, WatchedReader, WatchedWriter, run};
 
@@ -54,6 +55,28 @@ fn answers_the_ended_lines_before_a_failed_read(rt: HostRuntime) {
 }
 
 #[test]
+fn answers_each_line_before_the_next_is_read(rt: HostRuntime) {
+    let lines = [
+        "sup permanent worker 1 5 10\n",
+        "start 0 a\n",
+        "exit 1 9 x\n",
+        "stop 2\n",
+    ];
+    let (written, differs) = (AtomicUsize::new(0), AtomicBool::new(false));
+    let mut reader = WatchedReader::new(Looking {
+        lines: &lines,
+        next: 0,
+        wanted: &[0, 0, 5, 13, 21],
+        written: &written,
+        differs: &differs,
+    });
+    let mut writer = WatchedWriter::new(Counting { written: &written });
+    let ended = run(rt.alloc(), &mut reader, &mut writer, &ScriptStarter);
+    expect_end(&rt, ended, None);
+    assert!(rt; !differs.load(Ordering::SeqCst));
+}
+
+#[test]
 fn stops_in_the_line_whose_reply_is_cut(rt: HostRuntime) {
     let script = b"sup permanent worker 1 5 10\nstart 0 a\nstart 0 b\n".as_slice();
     run_narrowly(&rt, rt.alloc(), script, 7, 3, b"ok 1\nok");
@@ -61,22 +84,6 @@ fn stops_in_the_line_whose_reply_is_cut(rt: HostRuntime) {
     let mut stuck = WatchedWriter::new(Stuck);
     let result = run(rt.alloc(), &mut reader, &mut stuck, &ScriptStarter);
     expect_end(&rt, result, Some((Fault::WriteFault, 2)));
-}
-
-#[test]
-fn refuses_a_line_without_end(rt: HostRuntime) {
-    run_from(&rt, rt.alloc(), Endless, (Fault::TooLong, 1), b"");
-}
-
-#[test]
-fn refuses_a_text_that_is_too_long(rt: HostRuntime) -> Result<(), Fail> {
-    let mut script = Vec::from_slice(rt.alloc(), b"sup permanent worker 1 5 10\n")?;
-    for _ in script.len()..16_777_217 {
-        script.push(b'a')?;
-    }
-    let fault = (Fault::TooLong, 2);
-    run_from(&rt, rt.alloc(), script.as_slice(), fault, b"");
-    Ok(())
 }
 
 /// How many bytes the replies to the lines of the first so many bytes of the script are: each line but the header has a
@@ -150,5 +157,7 @@ fn run_strays(rt: &impl Abort, alloc: Global, reader: Pieces<'_>) {
     let mut out = WatchedWriter::new(Vec::new(alloc));
     let result = run(alloc, &mut reader, &mut out, &ScriptStarter);
     expect_end(rt, result, None);
-    assert!(rt; out.into_writer().len() == 20_000 * b"stray 1\n".len());
+    let out = out.into_writer();
+    assert!(rt; out.len() == 20_000 * STRAY.len());
+    assert!(rt; out.as_slice().chunks(STRAY.len()).all(|it| it == STRAY));
 }

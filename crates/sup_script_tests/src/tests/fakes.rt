@@ -3,6 +3,7 @@ ghost use Rattle.std.specs.Prelude.{Some};
 
 use std::io;
 use std::io::{ErrorKind, Read, Write};
+use std::sync::atomic::{AtomicBool, AtomicUsize, Ordering};
 
 /// Gives at most so many bytes a call, and an error in place of the call after so many calls.
 #[derive(Drop)]
@@ -65,13 +66,45 @@ impl Write for Stuck {
     }
 }
 
-/// Gives `a` for ever.
+/// Gives one line a call, and looks whether the replies to all lines before were written by then.
 #[derive(Drop)]
-pub struct Endless;
+pub struct Looking<'a> {
+    pub lines: &'a [&'a str],
+    pub next: usize,
+    /// How many bytes are to have been written at each call, the last one at the end of the input included.
+    pub wanted: &'a [usize],
+    pub written: &'a AtomicUsize,
+    pub differs: &'a AtomicBool,
+}
 
-impl Read for Endless {
+impl Read for Looking<'_> {
     fn read(&mut self, buffer: &mut [u8]) -> io::Result<usize> {
-        buffer.fill(b'a');
-        Ok(buffer.len())
+        let written = self.written.load(Ordering::SeqCst);
+        if self.wanted.get(self.next) != Some(&written) {
+            self.differs.store(true, Ordering::SeqCst);
+        }
+        let Some(line) = self.lines.get(self.next) else {
+            return Ok(0);
+        };
+        self.next = self.next.saturating_add(1);
+        let mut line = line.as_bytes();
+        line.read(buffer)
+    }
+}
+
+/// Counts the bytes that it takes.
+#[derive(Drop)]
+pub struct Counting<'a> {
+    pub written: &'a AtomicUsize,
+}
+
+impl Write for Counting<'_> {
+    fn write(&mut self, bytes: &[u8]) -> io::Result<usize> {
+        self.written.fetch_add(bytes.len(), Ordering::SeqCst);
+        Ok(bytes.len())
+    }
+
+    fn flush(&mut self) -> io::Result<()> {
+        Ok(())
     }
 }

@@ -1,5 +1,5 @@
 //! Each growth of a call refused in turn.
-use super::{FAILED_RESTART, HISTORY};
+use super::{HISTORY, STRAY};
 use linked_list_allocator::LocalHeap;
 use std::alloc::{AllocError, Global};
 use std::process::Abort;
@@ -10,43 +10,101 @@ use sup_script::{
 };
 use sup_types::{OutOfMemory, Reply};
 
-/// That the replies are whole lines from the front of the wanted ones. They are all where the call ended well, and otherwise
-/// memory was refused. Whether it ended well.
-fn ended_well(rt: &impl Abort, ended: Result<(), ScriptFault>, out: &[u8], replies: &[u8]) -> bool {
-    assert!(rt; out.len() <= replies.len());
-    assert!(rt; out == &replies[..out.len()]);
-    assert!(rt; out.is_empty() || out.last() == Some(&b'\n'));
-    match ended {
-        Ok(()) => assert!(rt; out.len() == replies.len()),
-        Err(e) => assert!(rt; e.fault == Fault::OutOfMemory),
-    }
-    ended.is_ok()
+/// In which lines memory was refused.
+#[derive(Clone, Copy, PartialEq, Eq)]
+struct Met {
+    first: bool,
+    middle: bool,
+    last: bool,
 }
 
-/// Runs the script on a heap of this size, which has all its memory back afterwards. Whether the run ended well.
-fn run_within(rt: &impl Abort, alloc: Global, size: usize) -> Result<bool, AllocError> {
+impl Met {
+    const NOWHERE: Met = Met {
+        first: false,
+        middle: false,
+        last: false,
+    };
+
+    const EVERYWHERE: Met = Met {
+        first: true,
+        middle: true,
+        last: true,
+    };
+
+    /// Takes note of how a call over a long text ended. Whether it ended well.
+    fn note(&mut self, ended: Result<(), ScriptFault>) -> bool {
+        match ended {
+            Ok(()) => return true,
+            Err(e) if e.line == 1 => self.first = true,
+            Err(e) if e.line < LINES => self.middle = true,
+            Err(_) => self.last = true,
+        }
+        false
+    }
+}
+
+/// How many lines had been answered when memory was refused to a script, where it was.
+fn answered(rt: &impl Abort, ended: Result<(), ScriptFault>) -> u64 {
+    match ended {
+        Ok(()) => LINES,
+        Err(e) => {
+            assert!(rt; e.fault == Fault::OutOfMemory);
+            e.line.saturating_sub(1)
+        }
+    }
+}
+
+/// That the replies to so many lines were written, and no more.
+fn are_written(rt: &impl Abort, lines: u64, out: &[u8]) {
+    let replies = lines.saturating_sub(1) as usize;
+    assert!(rt; out.len() == replies.saturating_mul(STRAY.len()));
+    assert!(rt; out.chunks(STRAY.len()).all(|it| it == STRAY));
+}
+
+/// How many lines the long texts have.
+const LINES: u64 = 258;
+
+/// A first line, and then the same line over and over.
+fn long_text(alloc: Global, first: &str, line: &str) -> Result<Vec<u8>, AllocError> {
+    let mut text = Vec::from_slice(alloc, first.as_bytes())?;
+    for _ in 1..LINES {
+        text.extend_from_slice(line.as_bytes())?;
+    }
+    Ok(text)
+}
+
+/// Runs the script on a heap of this size, which has all its memory back afterwards.
+fn run_within(
+    rt: &impl Abort,
+    alloc: Global,
+    script: &[u8],
+    size: usize,
+) -> Result<Result<(), ScriptFault>, AllocError> {
     let heap = LocalHeap::new(alloc, size)?;
-    let mut reader = WatchedReader::new(FAILED_RESTART.0.as_bytes());
+    let mut reader = WatchedReader::new(script);
     let mut out = WatchedWriter::new(Vec::new(alloc));
     let ended = run(&heap, &mut reader, &mut out, &ScriptStarter);
     let out = out.into_writer();
-    let well = ended_well(rt, ended, out.as_slice(), FAILED_RESTART.1.as_bytes());
+    are_written(rt, answered(rt, ended), out.as_slice());
     assert!(rt; heap.used() == 0);
-    Ok(well)
+    Ok(ended)
 }
 
+/// Memory is refused in the first line, in the last and between, until there is enough.
 #[test]
 fn run_writes_whole_replies_whatever_is_refused(rt: HostRuntime) -> Result<(), Fail> {
-    let (mut refused, mut done) = (false, false);
-    for size in 0..80usize {
-        let bytes = 256 << (size / 4) | size % 4 * (64 << (size / 4));
-        if run_within(&rt, rt.alloc(), bytes)? {
-            done = true;
+    let script = long_text(
+        rt.alloc(),
+        "sup permanent worker 1 5 10\n",
+        "exit 1 1 normal\n",
+    )?;
+    let mut met = Met::NOWHERE;
+    for size in 0..10_000usize {
+        if met.note(run_within(&rt, rt.alloc(), script.as_slice(), size * 64)?) {
             break;
         }
-        refused = true;
     }
-    assert!(rt; refused && done);
+    assert!(rt; met == Met::EVERYWHERE);
     Ok(())
 }
 
@@ -86,29 +144,44 @@ fn write_reply_leaves_the_text_as_it_was(rt: HostRuntime) -> Result<(), Fail> {
     Ok(())
 }
 
-/// Replays the history text on a heap of this size, which has all its memory back afterwards. Whether the replay ended well.
-fn replay_within(rt: &impl Abort, alloc: Global, size: usize) -> Result<bool, AllocError> {
+/// Replays the history text on a heap of this size, which has all its memory back afterwards.
+fn replay_within(
+    rt: &impl Abort,
+    alloc: Global,
+    text: &[u8],
+    size: usize,
+) -> Result<Result<(), ScriptFault>, AllocError> {
     let heap = LocalHeap::new(alloc, size)?;
-    let mut reader = WatchedReader::new(HISTORY.0.as_bytes());
+    let mut reader = WatchedReader::new(text);
     let mut out = WatchedWriter::new(Vec::new(alloc));
     let ended = replay(&heap, &mut reader, &mut out);
     let out = out.into_writer();
-    let well = ended_well(rt, ended, out.as_slice(), HISTORY.1.as_bytes());
+    // (a history is read to its end before the first reply)
+    let lines = if answered(rt, ended) == LINES && ended.is_ok() {
+        LINES
+    } else {
+        1
+    };
+    are_written(rt, lines, out.as_slice());
     assert!(rt; heap.used() == 0);
-    Ok(well)
+    Ok(ended)
 }
 
+/// The same of a replay: while the text is read, and where its entries are to be answered.
 #[test]
 fn replay_writes_whole_replies_whatever_is_refused(rt: HostRuntime) -> Result<(), Fail> {
-    let (mut refused, mut done) = (false, false);
-    for size in 0..256usize {
-        if replay_within(&rt, rt.alloc(), 256 + size * 2048)? {
-            done = true;
-        } else {
-            refused = true;
+    let text = long_text(
+        rt.alloc(),
+        "history 1 permanent worker 1 5 10\n",
+        "1 0 0 exit 1 normal ignore\n",
+    )?;
+    let mut met = Met::NOWHERE;
+    for size in 0..10_000usize {
+        if met.note(replay_within(&rt, rt.alloc(), text.as_slice(), size * 64)?) {
+            break;
         }
     }
-    assert!(rt; refused && done);
+    assert!(rt; met.first && met.last);
     Ok(())
 }
 
