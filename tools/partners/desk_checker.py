@@ -124,6 +124,7 @@ def check(record):
     writes_follow_reads(record)
     fronts_go_on(record)
     nothing_is_seen_early(record, updates)
+    batches_are_seen_whole(record, updates)
     answers_are_right(record, updates)
     return behind(record, updates)
 
@@ -235,6 +236,14 @@ def nothing_is_seen_early(record, updates):
         seen = latest[call.after]
         if seen and seen.call.called > call.returned:
             raise Violation("seen early", f"its front has the update at place {seen.place}, which was called later", call, seen.call)
+
+
+def batches_are_seen_whole(record, updates):
+    """No front ends within a batch: all of its entries are seen, or none."""
+    within = {it.place: it.call for it in updates if it.call.name == "batch" and it.place < it.call.stamp}
+    for call in record.calls:
+        if call.after in within:
+            raise Violation("part of a batch", f"its front ends at place {call.after}, within a batch", call, within[call.after])
 
 
 def answers_are_right(record, updates):

@@ -2,6 +2,7 @@
 Each has a name, the rule of desk_checker.py that is broken first, and a function that changes a record and answers whether it
 found where."""
 import collections
+import itertools
 
 import desk_checker
 
@@ -143,6 +144,18 @@ def query_of_what_comes(record):
     return found
 
 
+def part_of_a_batch(record):
+    last = {(it.thread, it.asker): it for it in record.calls}
+    batches = [it for it in record.calls if it.name == "batch" and it.stamp is not None and len(it.replies()[0]) > 1]
+    # (the last moment at which one of the first so many updates was called)
+    latest = list(itertools.accumulate((it.call.called for it in record.updates()), max))
+    found = middle([(call, it) for call in last.values() if call.is_query() for it in batches
+                    if call.before < it.stamp and latest[it.stamp - 2] < call.returned])
+    if found:
+        found[0].after = found[1].stamp - 1
+    return found
+
+
 def refusal_without_a_reason(record):
     call = middle([it for it in updates_of_one(record) if it.after != record.entries])
     if call:
@@ -164,5 +177,6 @@ ALL = (
     Mutant("a_write_before_a_read", "writes follow reads", write_before_a_read),
     Mutant("a_ticket_for_all_that_lacks_an_update", "ticket for all", ticket_lacks_an_update),
     Mutant("a_query_of_what_is_yet_to_come", "seen early", query_of_what_comes),
+    Mutant("a_part_of_a_batch_is_seen", "part of a batch", part_of_a_batch),
     Mutant("a_refusal_without_a_reason", "refusal", refusal_without_a_reason),
 )

@@ -52,16 +52,7 @@ def build():
         raise runs.Missing("the toolchain's command rt is not on the PATH; DESK_STRESS=PATH names a built program")
     runs.say("stress: proving and building the program; at first use this takes some minutes, and longer where no crate is built")
     with tempfile.TemporaryDirectory(prefix="partners-") as room:
-        for crate in CRATES:
-            shutil.copytree(f"{runs.TOP}/crates/{crate}", f"{room}/crates/{crate}")
-        for file, place in FILES.items():
-            os.makedirs(os.path.dirname(f"{room}/crates/desk_stress/{place}"), exist_ok=True)
-            shutil.copy(f"{SOURCES}/{file}", f"{room}/crates/desk_stress/{place}")
-        shutil.copy(f"{runs.TOP}/HANDLES", room)
-        with open(f"{runs.TOP}/crates.txt", encoding="utf-8") as it:
-            lines = [line for line in it if re.split("[ :]", line)[0] in CRATES]
-        with open(f"{room}/crates.txt", "w", encoding="utf-8") as it:
-            it.writelines([*lines, "desk_stress: sup_types sup_log sup_desk sup_script\n"])
+        copy_crates(room)
         ran = subprocess.run(["rt", "run", "--jobs", "1", "--", "0"], cwd=f"{room}/crates/desk_stress", stdin=subprocess.DEVNULL,
                              stdout=subprocess.DEVNULL, stderr=subprocess.PIPE, check=False)
         if ran.returncode != 0:
@@ -69,6 +60,55 @@ def build():
         os.makedirs(os.path.dirname(BUILT), exist_ok=True)
         shutil.copy(f"{room}/crates/desk_stress/out/desk_stress", f"{BUILT}.new")
         os.replace(f"{BUILT}.new", BUILT)
+
+
+def copy_crates(room, *left_out):
+    """Copies the crates that the program needs, and writes its own beside them."""
+    for crate in CRATES:
+        shutil.copytree(f"{runs.TOP}/crates/{crate}", f"{room}/crates/{crate}", ignore=shutil.ignore_patterns(*left_out))
+    for file, place in FILES.items():
+        os.makedirs(os.path.dirname(f"{room}/crates/desk_stress/{place}"), exist_ok=True)
+        shutil.copy(f"{SOURCES}/{file}", f"{room}/crates/desk_stress/{place}")
+    shutil.copy(f"{runs.TOP}/HANDLES", room)
+    with open(f"{runs.TOP}/crates.txt", encoding="utf-8") as it:
+        lines = [line for line in it if re.split("[ :]", line)[0] in CRATES]
+    with open(f"{room}/crates.txt", "w", encoding="utf-8") as it:
+        it.writelines([*lines, "desk_stress: sup_types sup_log sup_desk sup_script\n"])
+
+
+def records_of_wrong(crate, mutant, seeds):
+    """What rounds with these seeds record over a desk into which a mutant of a crate was put, by their seeds; None for one that
+    does not end as it should. The prover refuses such a desk, so it is built without a proof, with the checks of `rt try`."""
+    with tempfile.TemporaryDirectory(prefix="partners-") as room:
+        copy_crates(room, "out", "mutants")
+        put_in(f"{room}/crates/{crate}", f"{runs.TOP}/crates/{crate}/mutants/{mutant}.edit")
+        os.mkdir(f"{room}/seeds")
+        for seed in seeds:
+            open(f"{room}/seeds/{seed}", "w", encoding="utf-8").close()
+            with open(f"{room}/seeds/{seed}.args", "w", encoding="utf-8") as it:
+                it.write(f"{seed}\n")
+        ran = subprocess.run(["rt", "try", "--cases", f"{room}/seeds"], cwd=f"{room}/crates/desk_stress", stdin=subprocess.DEVNULL,
+                             capture_output=True, check=False)
+        out, said = (it.decode(errors="replace") for it in (ran.stdout, ran.stderr))
+        if not re.search("^cases=", said, re.M):
+            raise runs.Missing(f"{mutant}: the program could not be built: {said[-1000:]}")
+        ended = set(re.findall("^case=([0-9]+) run=ended status=0", said, re.M))
+        parts = re.split("^== ([0-9]+)\n", out, flags=re.M)[1:]
+        told = dict(zip(parts[::2], parts[1::2]))
+        return {seed: told.get(str(seed)) if str(seed) in ended else None for seed in seeds}
+
+
+def put_in(folder, edit):
+    """Makes the changes of a mutant in the copy of its crate."""
+    with open(edit, encoding="utf-8") as it:
+        lines = it.read().rstrip("\n").split("\n")
+    file = f"{folder}/{lines[0].removeprefix('file: ')}"
+    with open(file, encoding="utf-8") as it:
+        text = it.read()
+    for old, new in zip(lines[1::2], lines[2::2]):
+        text = text.replace(old.removeprefix("old: "), new.removeprefix("new: "))
+    with open(file, "w", encoding="utf-8") as it:
+        it.write(text)
 
 
 def record(path, seed):
