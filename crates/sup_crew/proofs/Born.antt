@@ -13,7 +13,7 @@ use Rattle.sup_types.specs.declared.history.Reply.{Reply}
 use Rattle.sup_types.specs.declared.history.Reply.TheVariants.{Started, Restarted}
 use Rattle.sup_core.specs.Account.{Item, account, made_count, item_of}
 use Rattle.sup_core.specs.Changes.{makes_child}
-use Rattle.sup_core.proofs.HistoryLemmas.{account-push, made_count-push}
+use Rattle.sup_core.specs.AccountLaws.{account-push, made_count-push}
 use Rattle.sup_log.specs.Tokens.{Told}
 use Rattle.sup_desk.specs.Knowledge.{Knowledge, IsUpdated}
 use Rattle.sup_desk.specs.Batches.{IsApplied}

@@ -14,13 +14,13 @@ use Rattle.sup_types.specs.declared.history.Operation.{Operation}
 use Rattle.sup_types.specs.declared.history.Entry.{Entry}
 use Rattle.sup_types.specs.declared.history.Reply.{Reply}
 use Rattle.sup_core.specs.Account.{Item, account, item_of, reply_after}
-use Rattle.sup_core.proofs.HistoryLemmas.{account-push}
+use Rattle.sup_core.specs.AccountLaws.{account-push}
 use Rattle.sup_log.specs.Tokens.{Told}
 use Rattle.sup_desk.specs.Knowledge.{Knowledge, entries_of, IsUpdated}
 use Rattle.sup_desk.specs.Batches.{AreEntered, IsApplied}
-use Rattle.sup_desk.proofs.Batched.{entered-own}
-use Rattle.sup_desk.proofs.Entries.{entries-append, entries-one, entries-other, entries_prefix}
-use Rattle.sup_log.proofs.Prefixes.{prefix_length}
+use Rattle.sup_desk.specs.BatchLaws.{entered-own}
+use Rattle.sup_desk.specs.EntryLaws.{entries-append, entries-one, entries-other, entries_prefix}
+use Rattle.sup_log.specs.PrefixLaws.{prefix_length}
 use Rattle.sup_crew.specs.Calls.{call_of, calls_of, answered}
 
 map-append : {X Y : Type 0} (f : X → Y) (xs ys : List X) → map f (xs ++ ys) ≡ map f xs ++ map f ys

@@ -15,7 +15,7 @@ use Rattle.sup_types.specs.declared.history.Reply.{Reply}
 use Rattle.sup_log.specs.Tokens.{Told}
 use Rattle.sup_desk.specs.Knowledge.{Knowledge}
 use Rattle.sup_desk.specs.Batches.{IsApplied}
-use Rattle.sup_desk.proofs.Batched.{entered-replies}
+use Rattle.sup_desk.specs.BatchLaws.{entered-replies}
 use Rattle.sup_inbox.specs.declared.note.Note.{Note}
 use Rattle.sup_crew.specs.Calls.{exits}
 use Rattle.sup_crew.specs.Drains.{entered_of, notes_of, replies_of, IsEntered}

@@ -18,8 +18,8 @@ use Rattle.sup_core.specs.State.{State, arrived}
 use Rattle.sup_core.specs.Replies.{bears, is_full, started, restarted, attempted, shuts_down, let_go, reply_up, reply_to}
 use Rattle.sup_core.specs.Changes.{makes_child, start_argument}
 use Rattle.sup_core.specs.Account.{Item, made_count, with_argument, arguments, argument_of, is_gone, row_of, listed_rows, standing, item_of, account}
-use Rattle.sup_core.proofs.ListingLemmas.{listed-below}
-use Rattle.sup_core.proofs.HistoryLemmas.{IsApt, apt_reply, IsSound, sound-none, sound-step, made_count-push, arguments-push}
+use Rattle.sup_core.specs.ListingLaws.{listed-below}
+use Rattle.sup_core.specs.AccountLaws.{IsApt, apt_reply, IsSound, sound-none, sound-step, made_count-push, arguments-push}
 use Rattle.sup_log.specs.Tokens.{Told}
 use Rattle.sup_desk.specs.Knowledge.{Knowledge}
 use Rattle.sup_crew.specs.Calls.{Call, call_of, calls_of}

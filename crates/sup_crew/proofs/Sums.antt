@@ -11,7 +11,7 @@ use Rattle.sup_inbox.specs.declared.note.Note.{Note}
 use Rattle.sup_types.specs.declared.reason.Reason.{Reason}
 use Rattle.sup_inbox.specs.Delivery.{from}
 use Rattle.sup_inbox.specs.Ends.{Posting, AreFrom, IsBy}
-use Rattle.sup_inbox.proofs.Counts.{from-own, from-other}
+use Rattle.sup_inbox.specs.NoteLaws.{from-own, from-other}
 use Rattle.sup_types.specs.declared.text.Text.{Text}
 use Rattle.sup_crew.specs.declared.job.Child.{Child}
 use Rattle.sup_crew.specs.declared.worker.Finished.{Finished}

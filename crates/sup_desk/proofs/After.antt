@@ -7,9 +7,9 @@ use Rattle.sup_core.specs.State.{State}
 use Rattle.sup_core.specs.Replies.{reply_to, asked_argument}
 use Rattle.sup_core.specs.Changes.{next_state}
 use Rattle.sup_core.specs.Account.{IsAfter, state_after, reply_after}
-use Rattle.sup_core.proofs.HistoryLemmas.{after-step, after-steps, after-asked_argument}
+use Rattle.sup_core.specs.HistoryLaws.{after-step, after-steps, after-asked_argument}
 use Rattle.sup_log.specs.Tokens.{standing}
-use Rattle.sup_log.proofs.Standings.{after_standing, standing_after, standing-template}
+use Rattle.sup_log.specs.StandingLaws.{after_standing, standing_after, standing-template}
 
 pub template_is : (t : Template) (front : List Entry) (s : State) → s ≡ standing t front → s.template ≡ t
 template_is t front s is = ap (λ (r : State). r.template) is ∙ standing-template t front

@@ -6,7 +6,7 @@ use Rattle.std.specs.declared.result.Result.{Result}
 use Rattle.std.specs.declared.result.Result.TheVariants.{Ok, Err}
 use Rattle.std.proofs.lemmas.Bool.Decides.{nat_tests}
 use Rattle.sup_types.specs.declared.history.Entry.{Entry}
-use Rattle.sup_log.proofs.Prefixes.{prefix_self, prefix_trans}
+use Rattle.sup_log.specs.PrefixLaws.{prefix_self, prefix_trans}
 use Rattle.sup_desk.specs.Knowledge.{Knowledge}
 use Rattle.sup_desk.specs.Audits.{IsGrown, AreGrown, HasSeenAll, HaveSeenAll}
 

@@ -7,10 +7,10 @@ use Rattle.std.proofs.lemmas.Bool.Decides.{nat_tests}
 use Rattle.std.proofs.lemmas.List.Elements.{All-append}
 use Rattle.std.specs.List.{All}
 use Rattle.sup_types.specs.declared.history.Entry.{Entry}
-use Rattle.sup_log.proofs.Prefixes.{prefix_whole}
+use Rattle.sup_log.specs.PrefixLaws.{prefix_whole}
 use Rattle.sup_desk.specs.Knowledge.{entries_of}
 use Rattle.sup_desk.specs.Books.{IsMade, IsCounted}
-use Rattle.sup_desk.proofs.Entries.{entries-one, entries-other}
+use Rattle.sup_desk.specs.EntryLaws.{entries-one, entries-other}
 
 -- the entries are of handles that were made
 abbrev pub AreMade : ℕ → List Entry → Type 0

@@ -5,3 +5,5 @@ pub mod Asking
 pub mod Batches
 pub mod Audits
 pub mod Results
+pub mod EntryLaws
+pub mod BatchLaws

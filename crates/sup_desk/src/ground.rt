@@ -36,7 +36,7 @@ impl<R: Wait + Drop> Model for Ground<R> {
 
 impl<R: Wait + Drop> Ground<R> {
     /// A ground for a supervisor of this template and so many handles: 1 to 1024.
-    #[tactic(auto, using(sup_log::proofs::Standings::standing_after))]
+    #[tactic(auto, using(sup_log::specs::StandingLaws::standing_after))]
     pub fn new(
         alloc: Global,
         rt: R,

@@ -11,7 +11,7 @@ use Rattle.sup_inbox.specs.declared.note.Note.{Note}
 use Rattle.sup_inbox.specs.declared.rule.Sent.{Sent}
 use Rattle.sup_inbox.specs.declared.rule.View.{View}
 use Rattle.sup_inbox.specs.Delivery.{from, total, sum_of, sum_idle, root, nobody, opened, seat, gathered, posts, takes, AreGathered, AreSent, IsIdle, Fits, Delivers, IsSettled}
-use Rattle.sup_inbox.proofs.Counts.{from-append, from-own, from-other, counts}
+use Rattle.sup_inbox.specs.NoteLaws.{from-append, from-own, from-other, counts}
 
 abbrev AllFit : ℕ → (ℕ → ℕ) → (ℕ → List Note) → List Note → List View → Type 0
 AllFit taker places sent taken views = (j : ℕ) (u : View) → get_elem? views j ≡ some u → Fits taker places sent taken j u

@@ -5,7 +5,7 @@ use Rattle.sup_inbox.specs.declared.inbox.InboxFull.{InboxFull}
 use Rattle.sup_live.specs.Outboxes.{exit_told, told}
 use Rattle.atomic_table.specs.Seated.{TableId}
 use Rattle.sup_inbox.specs.Ends.{Posting, AreOf}
-use Rattle.sup_inbox.proofs.Rows.{are_of-snoc}
+use Rattle.sup_inbox.specs.PostingLaws.{are_of-snoc}
 
 pub are_of_more : (id : TableId) (ps : List Posting) (p : Posting) → AreOf id ps → p.inbox ≡ id → AreOf id (ps ++ p ∷ [])
 are_of_more id ps p h i = are_of-snoc id ps p h i

@@ -6,8 +6,8 @@ use mathlib.Core.List.{IsPrefix}
 use prog.Atomic.{either}
 use Rattle.logbook.specs.Pages.{Cell, cell, keeps, no_nib, step, Moves, Goes}
 use Rattle.sup_types.specs.declared.history.Entry.{Entry}
-use Rattle.sup_log.proofs.Prefixes.{prefix_whole}
-use Rattle.sup_log.proofs.Editions.{steps_grown}
+use Rattle.sup_log.specs.PrefixLaws.{prefix_whole}
+use Rattle.sup_log.specs.PublicationLaws.{steps_grown}
 use Rattle.sup_log.specs.Tokens.{Publication, in_one_step}
 use Rattle.sup_log.specs.Rules.{IsKept, Extended}
 

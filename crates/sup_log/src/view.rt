@@ -45,7 +45,7 @@ fn take<A: Allocator + Copy>(sup: &mut Sup<A>, entry: &Entry)
 
 impl<A: Allocator + Copy> View<A> {
     /// A supervisor with this template after no entry.
-    #[tactic(auto, using(crate::proofs::Standings::standing_after))]
+    #[tactic(auto, using(crate::specs::StandingLaws::standing_after))]
     pub(crate) fn new(alloc: A, template: Template, front: Ticket) -> Result<View<A>, OutOfMemory>
         requires { front.front ≡ [] }
         ensures { IfOk result (λ v. (v.press ≡ front.press) × (v.editions ≡ front.editions) × (v.front ≡ front.front) × (v.standing.template ≡ template) × IsLawful v) }
@@ -58,7 +58,7 @@ impl<A: Allocator + Copy> View<A> {
     }
 
     /// The listed child with this number.
-    #[tactic(auto, using(crate::proofs::Standings::rows_are))]
+    #[tactic(auto, using(crate::specs::StandingLaws::rows_are))]
     pub fn get(&self, number: u64) -> Option<Row>
         ensures value { result ≡ row_at number self.now.standing.rows }
         ensures history { IsLawful self.now → result ≡ row_at number (listed_rows (account self.now.standing.template self.now.front)) }
@@ -70,7 +70,7 @@ impl<A: Allocator + Copy> View<A> {
     }
 
     /// How many children are listed.
-    #[tactic(auto, using(crate::proofs::Standings::rows_are))]
+    #[tactic(auto, using(crate::specs::StandingLaws::rows_are))]
     pub fn counts(&self) -> Counts
         ensures value { result ≡ counts_of self.now.standing.template.kind self.now.standing.rows }
         ensures history { IsLawful self.now → result ≡ counts_of self.now.standing.template.kind (listed_rows (account self.now.standing.template self.now.front)) }
@@ -87,7 +87,7 @@ impl<A: Allocator + Copy> View<A> {
     }
 
     /// The listed children, by ascending numbers.
-    #[tactic(auto, using(crate::proofs::Standings::rows_are))]
+    #[tactic(auto, using(crate::specs::StandingLaws::rows_are))]
     pub fn rows(&self) -> Result<Vec<Row, A>, OutOfMemory>
         ensures value { IfOk result (λ rows. rows.items ≡ self.now.standing.rows) }
         ensures history { IsLawful self.now → IfOk result (λ rows. rows.items ≡ listed_rows (account self.now.standing.template self.now.front)) }
@@ -106,7 +106,7 @@ impl<A: Allocator + Copy> View<A> {
     }
 
     /// Whether the supervisor gave up, was stopped or went down with a significant child.
-    #[tactic(auto, using(crate::proofs::Standings::down_is))]
+    #[tactic(auto, using(crate::specs::StandingLaws::down_is))]
     pub fn is_down(&self) -> bool
         ensures value { result ≡ self.now.standing.down }
         ensures history { IsLawful self.now → result ≡ is_down (account self.now.standing.template self.now.front) }

@@ -1,7 +1,7 @@
 use Rattle.std.proofs.Common.{◌≡◌, ℕ, ◌+◌, List, ◌++◌, length, sym, ap, ◌∙◌, subst, arith, take-append-drop}
 use Rattle.sup_inbox.specs.declared.note.Note.{Note}
 use Rattle.sup_inbox.specs.Ends.{AreOf}
-use Rattle.sup_inbox.proofs.Rows.{are_of}
+use Rattle.sup_inbox.specs.PostingLaws.{are_of}
 use Rattle.sup_crew.specs.declared.job.Child.{Child}
 use Rattle.sup_core.specs.Account.{account}
 use Rattle.sup_crew.specs.Calls.{jobs_made}

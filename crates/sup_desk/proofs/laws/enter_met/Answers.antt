@@ -5,7 +5,7 @@ use Rattle.sup_types.specs.declared.history.Operation.{Operation}
 use Rattle.sup_log.specs.Tokens.{Told}
 use Rattle.sup_desk.specs.Books.{Written, Kept}
 use Rattle.sup_desk.specs.Knowledge.{Knowledge, entries_of}
-use Rattle.sup_desk.proofs.Batched.{entered-own}
+use Rattle.sup_desk.specs.BatchLaws.{entered-own}
 use Rattle.sup_desk.proofs.laws.enter_met.Goals as goal
 
 pub adopt-requires-clause-mine : goal.adopt-requires-clause-mine

@@ -7,8 +7,8 @@ use Rattle.sup_core.specs.Account.{reply_after}
 use Rattle.sup_desk.specs.Books.{Written, with_pending}
 use Rattle.sup_desk.specs.Batches.{AreEntered, AreWritten}
 use Rattle.sup_desk.specs.Knowledge.{entries_of, IsEntryOf}
-use Rattle.sup_desk.proofs.Batched.{entered-push, entered-own, front_next, first_is, first_by}
-use Rattle.sup_desk.proofs.Entries.{entries-append}
+use Rattle.sup_desk.specs.BatchLaws.{entered-push, entered-own, front_next, first_is, first_by}
+use Rattle.sup_desk.specs.EntryLaws.{entries-append}
 use Rattle.sup_desk.proofs.laws.write_all.Goals as goal
 
 pub queue-init : goal.queue-init

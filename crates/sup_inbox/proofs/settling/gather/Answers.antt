@@ -1,7 +1,7 @@
 use Rattle.std.proofs.Common.{ap, ◌∙◌}
 use Rattle.sup_inbox.specs.Delivery.{known_by}
 use Rattle.sup_inbox.proofs.Moves.{merges}
-use Rattle.sup_inbox.proofs.Rows.{gathers, next_rows, next_lists}
+use Rattle.sup_inbox.specs.PostingLaws.{gathers, next_rows, next_lists}
 use Rattle.sup_inbox.proofs.settling.gather.Goals as goal
 
 pub absorb-requires-clause-rule : goal.absorb-requires-clause-rule

@@ -1,7 +1,7 @@
 use Rattle.std.proofs.Common.{[], ◌++◌, map, sym, ap, ◌∙◌, subst}
 use Rattle.sup_inbox.specs.Delivery.{taker_view, IsSettled}
 use Rattle.sup_inbox.specs.Ends.{sent_of}
-use Rattle.sup_inbox.proofs.Rows.{each_settled, others_settled, settled_at}
+use Rattle.sup_inbox.specs.PostingLaws.{each_settled, others_settled, settled_at}
 use Rattle.sup_inbox.proofs.settling.settle.Goals as goal
 
 pub returns-clause-each : goal.returns-clause-each

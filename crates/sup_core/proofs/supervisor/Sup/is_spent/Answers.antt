@@ -2,7 +2,7 @@
 use Rattle.std.proofs.Common.{◌∙◌, ap}
 use Rattle.std.specs.Prelude.{◌==◌}
 use Rattle.sup_core.specs.State.{State}
-use Rattle.sup_core.proofs.HistoryLemmas.{after-steps}
+use Rattle.sup_core.specs.HistoryLaws.{after-steps}
 use Rattle.sup_core.proofs.supervisor.Sup.is_spent.Goals as goal
 
 pub returns-clause-history : goal.returns-clause-history

@@ -1,7 +1,7 @@
 -- The recount of the history that has grown by the entry.
 use Rattle.std.proofs.Common.{◌∙◌, sym, subst, ◌++◌, ◌∷◌, []}
 use Rattle.sup_core.specs.Account.{IsAfter}
-use Rattle.sup_core.proofs.HistoryLemmas.{after-step}
+use Rattle.sup_core.specs.HistoryLaws.{after-step}
 use Rattle.sup_core.proofs.supervisor.Sup.step_asked.Goals as goal
 
 pub returns-clause-history : goal.returns-clause-history

@@ -1,6 +1,6 @@
 -- The recount of the whole history asks the same.
 use Rattle.std.proofs.Common.{◌∙◌}
-use Rattle.sup_core.proofs.HistoryLemmas.{after-asked_argument}
+use Rattle.sup_core.specs.HistoryLaws.{after-asked_argument}
 use Rattle.sup_core.proofs.supervisor.Sup.wants_answer.Goals as goal
 
 pub returns-clause-history : goal.returns-clause-history

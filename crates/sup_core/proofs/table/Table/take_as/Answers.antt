@@ -8,7 +8,8 @@ use Rattle.sup_types.specs.declared.view.Row.{Row}
 use Rattle.sup_core.specs.Rows.{has_number, is_status, stands_as, argument_at, without}
 use Rattle.sup_core.specs.Children.{Listed, listed, running_count, one_if, found, taken_of, left_of}
 use Rattle.sup_core.proofs.PlaceLemmas.{live-taken, running-taken, stands-listed, argument-listed, set_value-kept, without-listed, left-kept, taken-there, one_live, one_running}
-use Rattle.sup_core.proofs.RowLemmas.{length-filter-lt, list_any-weaker}
+use Rattle.sup_core.proofs.RowLemmas.{length-filter-lt}
+use Rattle.sup_core.specs.ListingLaws.{list_any-weaker}
 use Rattle.sup_core.proofs.table.Table.take_as.Goals as goal
 
 pub invariant_of-self : goal.invariant_of-self

@@ -3,8 +3,8 @@ use mathlib.Core.List.{IsPrefix}
 use Rattle.sup_types.specs.declared.history.Entry.{Entry}
 use Rattle.sup_log.specs.Tokens.{Publication}
 use Rattle.sup_desk.specs.Knowledge.{Knowledge, entries_of}
-use Rattle.sup_log.proofs.Prefixes.{prefix_length}
-use Rattle.sup_desk.proofs.Entries.{adopted, calls-adopted, entries_le}
+use Rattle.sup_log.specs.PrefixLaws.{prefix_length}
+use Rattle.sup_desk.specs.EntryLaws.{adopted, calls-adopted, entries_le}
 use Rattle.sup_desk.proofs.handle.HandleOf.adopt.Goals as goal
 
 fronts : {A B C D : Type 0} → (A × B) ⊎ (C × D) → A ⊎ C

@@ -8,7 +8,7 @@ use Rattle.sup_core.specs.Replies.{reply_to}
 use Rattle.sup_log.specs.Tokens.{Record, standing, history_of}
 use Rattle.sup_desk.specs.Books.{Written, IsCounted}
 use Rattle.sup_desk.proofs.After.{steps_is, template_is, next_is, reply_is}
-use Rattle.sup_desk.proofs.Entries.{entries_le}
+use Rattle.sup_desk.specs.EntryLaws.{entries_le}
 use Rattle.sup_desk.proofs.Counted.{counted_push}
 use Rattle.sup_desk.proofs.leaf.Leaf.append.Goals as goal
 

@@ -1,7 +1,7 @@
 use Rattle.std.proofs.Common.{◌≡◌, ◌≤◌, List, ◌++◌, [], vec_len, vec_capacity, ap, sym, ◌∙◌, subst, append-nil}
 use Rattle.sup_types.specs.declared.history.Entry.{Entry}
 use Rattle.sup_log.specs.Tokens.{Record, standing, history_of, in_one_step}
-use Rattle.sup_log.proofs.Editions.{history_grown}
+use Rattle.sup_log.specs.PublicationLaws.{history_grown}
 use Rattle.sup_desk.specs.Books.{IsCounted}
 use Rattle.sup_desk.proofs.leaf.Leaf.publish.Goals as goal
 

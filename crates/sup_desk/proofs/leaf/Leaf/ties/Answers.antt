@@ -1,8 +1,8 @@
 use Rattle.std.proofs.Common.{◌≡◌, ◌++◌, length, ap, sym, ◌∙◌, subst, arith, inl, inr, append-nil}
 use Rattle.sup_desk.specs.Books.{Written}
-use Rattle.sup_log.proofs.Prefixes.{prefix_length}
+use Rattle.sup_log.specs.PrefixLaws.{prefix_length}
 use Rattle.sup_log.specs.Tokens.{history_of}
-use Rattle.sup_log.proofs.Editions.{same_editions}
+use Rattle.sup_log.specs.PublicationLaws.{same_editions}
 use Rattle.sup_desk.proofs.After.{steps_is}
 use Rattle.sup_desk.proofs.Counted.{tied_is, split_is}
 use Rattle.sup_desk.proofs.leaf.Leaf.ties.Goals as goal

@@ -2,7 +2,7 @@ use Rattle.std.proofs.Common.{sym, ap, ◌∙◌, rules, arith, subst}
 use Rattle.sup_inbox.specs.Delivery.{opened}
 use Rattle.sup_inbox.specs.Ends.{AreFrom, AreNew}
 use Rattle.sup_inbox.proofs.Moves.{forks}
-use Rattle.sup_inbox.proofs.Rows.{are_from-snoc, are_new-snoc, are_of}
+use Rattle.sup_inbox.specs.PostingLaws.{are_from-snoc, are_new-snoc, are_of}
 use Rattle.sup_inbox.proofs.inbox.Root.split.Goals as goal
 
 pub another-next-requires-clause-rule : goal.another-next-requires-clause-rule

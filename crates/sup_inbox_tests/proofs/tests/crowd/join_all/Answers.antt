@@ -2,7 +2,7 @@ use Rattle.std.proofs.Common.{◌≡◌, sym, ◌∙◌, subst, rules}
 use Rattle.std.specs.declared.thread.PromisedHandle.{PromisedHandle}
 use Rattle.sup_inbox.specs.Ends.{Posting, AreOf}
 use Rattle.sup_inbox_tests.specs.declared.tests.crowd.Returns.{Returns}
-use Rattle.sup_inbox.proofs.Rows.{are_of-snoc, all-parts}
+use Rattle.sup_inbox.specs.PostingLaws.{are_of-snoc, all-parts}
 use Rattle.sup_inbox_tests.proofs.tests.crowd.join_all.Goals as goal
 
 pub loop-child-preserved : goal.loop-child-preserved

@@ -1,9 +1,9 @@
-use Rattle.std.proofs.Common.{◌≡◌, ◌+◌, ◌<◌, ℕ, List, [], ◌∷◌, ◌++◌, length, ap, sym, ◌∙◌, subst, refl, arith, length-append}
+use Rattle.std.proofs.Common.{◌≡◌, ◌+◌, ◌<◌, List, [], ◌++◌, length, ap, sym, ◌∙◌, subst, arith, length-append}
 use Rattle.sup_types.specs.declared.history.Entry.{Entry}
 use Rattle.sup_types.specs.declared.template.Template.{Template}
 use Rattle.sup_log.specs.Tokens.{Told, IsLawful, Record, in_one_step}
 use Rattle.sup_log.specs.Fronts.{Follows}
-use Rattle.sup_log.proofs.Editions.{steps_grown}
+use Rattle.sup_log.specs.PublicationLaws.{steps_grown}
 use Rattle.sup_log.proofs.Publishing.{grown, follows}
 use Rattle.sup_log.proofs.press.Press.publish.Goals as goal
 

@@ -7,7 +7,7 @@ use Rattle.sup_inbox.specs.declared.rule.Sent.{Sent}
 use Rattle.sup_inbox.specs.declared.rule.View.{View}
 use Rattle.sup_inbox.specs.Delivery.{from, taker_view, gathered, AreSent, IsSettled}
 use Rattle.sup_inbox.specs.Ends.{Posting, AreFrom, AreNew, AreOf, sent_of, IsBy}
-use Rattle.sup_inbox.proofs.Counts.{all_by, by_from}
+use Rattle.sup_inbox.specs.NoteLaws.{all_by, by_from}
 
 pub are_from-snoc : (id : TableId) (first : ℕ) (ps : List Posting) (p : Posting) → AreFrom id first ps → p.inbox ≡ id → p.number ≡ first + length ps → AreFrom id first (ps ++ p ∷ [])
 are_from-snoc id first [] p h i n = (i, n ∙ omega arith, tt)

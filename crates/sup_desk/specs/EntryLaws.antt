@@ -6,7 +6,7 @@ use Rattle.std.proofs.Math.Seq.{drop-append_seam, take-length}
 use Rattle.std.proofs.lemmas.Bool.Decides.{nat_tests}
 use mathlib.Core.List.{IsPrefix}
 use Rattle.sup_types.specs.declared.history.Entry.{Entry}
-use Rattle.sup_log.proofs.Prefixes.{prefix_length, prefix_whole}
+use Rattle.sup_log.specs.PrefixLaws.{prefix_length, prefix_whole}
 use Rattle.sup_desk.specs.Knowledge.{entries_of}
 
 pub entries-append : (h : ℕ) (xs ys : List Entry) → entries_of (xs ++ ys) h ≡ entries_of xs h ++ entries_of ys h

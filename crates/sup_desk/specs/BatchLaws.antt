@@ -9,7 +9,7 @@ use Rattle.sup_types.specs.declared.history.Reply.{Reply}
 use Rattle.sup_core.specs.Account.{reply_after}
 use Rattle.sup_desk.specs.Knowledge.{entries_of, IsEntryOf}
 use Rattle.sup_desk.specs.Batches.{AreEntered}
-use Rattle.sup_desk.proofs.Entries.{entries-own, entries-append}
+use Rattle.sup_desk.specs.EntryLaws.{entries-own, entries-append}
 
 module _ (may : Text → ℕ → Answer → Type 0) (template : Template) (number moment : ℕ) where
   -- an entry, where the front and the serial are told otherwise
