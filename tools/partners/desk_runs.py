@@ -10,7 +10,6 @@ import runs
 
 SECONDS = 60
 CRATES = ("sup_types", "sup_window", "sup_core", "sup_script", "sup_log", "sup_desk")
-FILES = {"main.rt.txt": "src/main.rt", "main.antt.txt": "proofs/main/Invariants.antt"}
 SOURCES = f"{runs.HERE}/desk"
 BUILT = f"{SOURCES}/out/desk_stress"
 
@@ -62,13 +61,20 @@ def build():
         os.replace(f"{BUILT}.new", BUILT)
 
 
+def place_of(file):
+    """Where a file of desk/ lies in the program's crate: a source, or a proof file of the function that it is named after."""
+    name = file.removesuffix(".txt")
+    return f"src/{name}" if name.endswith(".rt") else f"proofs/{name.removesuffix('.antt')}/Invariants.antt"
+
+
 def copy_crates(room, *left_out):
     """Copies the crates that the program needs, and writes its own beside them."""
     for crate in CRATES:
         shutil.copytree(f"{runs.TOP}/crates/{crate}", f"{room}/crates/{crate}", ignore=shutil.ignore_patterns(*left_out))
-    for file, place in FILES.items():
-        os.makedirs(os.path.dirname(f"{room}/crates/desk_stress/{place}"), exist_ok=True)
-        shutil.copy(f"{SOURCES}/{file}", f"{room}/crates/desk_stress/{place}")
+    for file in (it for it in os.listdir(SOURCES) if it.endswith(".txt")):
+        place = f"{room}/crates/desk_stress/{place_of(file)}"
+        os.makedirs(os.path.dirname(place), exist_ok=True)
+        shutil.copy(f"{SOURCES}/{file}", place)
     shutil.copy(f"{runs.TOP}/HANDLES", room)
     with open(f"{runs.TOP}/crates.txt", encoding="utf-8") as it:
         lines = [line for line in it if re.split("[ :]", line)[0] in CRATES]
