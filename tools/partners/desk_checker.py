@@ -1,6 +1,7 @@
 #!/usr/bin/env python3
-"""Checks what the threads of a round over one desk recorded (desk/main.rt.txt): that there is one order of all updates in
-which each reply, each query, each ticket and each front can be. The replies are those of the supervisor in recount.py.
+"""Checks what the threads of a round over one desk recorded (desk/lines.rt.txt writes it): that there is one order of all
+updates in which each reply, each query, each ticket and each front can be. The replies are those of the supervisor in
+recount.py.
 
 usage: tools/partners/desk_checker.py < RECORD
 

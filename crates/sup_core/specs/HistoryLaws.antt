@@ -48,7 +48,7 @@ trimmed_moments : (n : ℕ) (b : Bool) (ms : List ℕ) (at : ℕ)
 trimmed_moments n true ms at = sym (remembered-push n ms at)
 trimmed_moments n false ms at = refl
 
--- one more entry: the recount goes on as the state does
+-- one more entry: the reference semantics goes on as the state does
 pub standing-push : (template : Template) (items : List Item) (entry : Entry) → IsSound items
     → trimmed (standing template (items ++ item_of template items entry ∷ [])) ≡ next_state (trimmed (standing template items)) entry
 standing-push template items entry sound =
@@ -79,7 +79,7 @@ standing-push template items entry sound =
     ∙ ap (λ steps. state rows'' made'' at moments'' down'' steps) (length-append items (item ∷ []))
     ∙ ap (λ r. changed (arrived (trimmed s) entry.moment) entry.operation r) (sym (reply_to-trimmed template items entry sound))
 
--- a supervisor after a history replies as the recount says, and goes on as the recount does
+-- a supervisor after a history replies as the reference semantics says, and goes on as it does
 pub after-step : (s : State) (history : List Entry) (entry : Entry) → IsAfter s history
     → (reply_to s entry ≡ reply_after s.template history entry) × IsAfter (next_state s entry) (history ++ entry ∷ [])
 after-step s history entry after =
@@ -121,7 +121,7 @@ asked_up-trimmed template items moment (Retry number) sound =
 asked_up-trimmed template items moment (Terminate number) sound = refl
 asked_up-trimmed template items moment Stop sound = refl
 
--- a supervisor after a history asks as the recount says
+-- a supervisor after a history asks as the reference semantics says
 pub after-asked_argument : (s : State) (history : List Entry) (operation : Operation) (moment : ℕ) → IsAfter s history
     → asked_argument s operation moment ≡ asked_argument (state_after s.template history) operation moment
 after-asked_argument s history operation moment after =
