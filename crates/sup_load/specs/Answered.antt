@@ -1,17 +1,28 @@
 -- How the program answers: a script or a history text on standard input, a load, or words that are no order.
-use Rattle.std.specs.Prelude.{◌≡◌, ◌⊎◌, ℕ, Bool, true, List, Option, Result, Ok, Err, IfErr}
+use Rattle.std.specs.Prelude.{◌≡◌, ◌⊎◌, ℕ, Bool, true, List, [], Option, Result, Ok, Err, IfErr}
 use Rattle.std.specs.Io.KnownBytes.{Appends}
 use Rattle.sup_script.specs.Running.Causes.{HasCause}
 use Rattle.sup_script.specs.Running.Replays.{IsReplay}
 use Rattle.sup_script.specs.Running.Runs.{IsRun}
 use Rattle.sup_script.specs.Starter.{script_answer}
 use Rattle.sup_script.specs.declared.fault.ScriptFault.{ScriptFault}
+use Rattle.clap.specs.Faults.{fault_of}
+use Rattle.clap.specs.Kinds.{Kinds}
+use Rattle.clap.specs.Simple.{subcommand_of}
+use Rattle.clap.specs.Walk.{Text}
+use Rattle.clap.specs.declared.error.kind.ErrorKind.{ErrorKind}
+use Rattle.clap.specs.declared.error.kind.ErrorKind.TheVariants.{DisplayHelp, DisplayVersion, OutOfMemory}
+use Rattle.sup_load.specs.Grammar.{supload_app}
+use Rattle.sup_load.specs.Orders.{Command, IsOrder, IsRefusal}
 use Rattle.sup_load.specs.Reports.{IsLoaded}
-use Rattle.sup_load.specs.Statuses.{status_of, status_of_load}
+use Rattle.sup_load.specs.Statuses.{status_of, status_of_load, status_of_stop_fault}
 use Rattle.sup_load.specs.declared.fault.LoadFault.{LoadFault}
 use Rattle.sup_load.specs.declared.fault.LoadFault.TheVariants as load
+use Rattle.sup_load.specs.declared.fault.StopFault.TheVariants as stop
 use Rattle.sup_load.specs.declared.program.Status.{Status}
 use Rattle.sup_load.specs.declared.program.Status.TheVariants as status
+use Rattle.sup_load.specs.declared.words.Order.{Order}
+use Rattle.sup_load.specs.declared.words.Order.TheVariants as order
 
 -- a script was run, the status is that of the run's outcome, and a fault has its cause
 pub record IsScriptAnswered (remaining left contents held : Option (List ℕ)) (has_failed : Bool) (given : ℕ) (has_refused : Bool) (status : Status) : Type 0 where
@@ -36,7 +47,7 @@ pub record IsLoadAnswered (contents held : Option (List ℕ)) (has_refused : Boo
 -- how a help text was written
 abbrev pub IsWritten : Option (List ℕ) → Option (List ℕ) → Bool → Result (Unit {0}) LoadFault → Type 0
 IsWritten contents held has_refused (Ok u) = (text : List ℕ) × Appends contents held text
-IsWritten contents held has_refused (Err (load.Stopped fault)) = held ≡ contents
+IsWritten contents held has_refused (Err (load.Stopped fault)) = (fault ≡ stop.OutOfMemory) × (held ≡ contents)
 IsWritten contents held has_refused (Err load.WriteFault) = has_refused ≡ true
 
 -- words that are no order: a help text is written, or nothing where they are refused or memory is wanting
@@ -52,3 +63,34 @@ IsAnswered remaining left contents held has_failed given has_refused status =
     IsScriptAnswered remaining left contents held has_failed given has_refused status
     ⊎ (IsReplayAnswered remaining left contents held has_failed given has_refused status
     ⊎ ((left ≡ remaining) × (IsLoadAnswered contents held has_refused status ⊎ IsShown contents held has_refused status)))
+
+-- what an order asks for is done
+abbrev pub IsDone : Order → Option (List ℕ) → Option (List ℕ) → Option (List ℕ) → Option (List ℕ) → Bool → ℕ → Bool → Status → Type 0
+IsDone (order.Script detail) remaining left contents held has_failed given has_refused status =
+    IsScriptAnswered remaining left contents held has_failed given has_refused status
+IsDone (order.Replay detail) remaining left contents held has_failed given has_refused status =
+    IsReplayAnswered remaining left contents held has_failed given has_refused status
+IsDone (order.Load load) remaining left contents held has_failed given has_refused status =
+    (left ≡ remaining) × IsLoadAnswered contents held has_refused status
+
+-- words that are no order, by the kind of their error: a help text or the version is written where it is asked for, and
+-- nothing where memory is wanting or the words are refused
+pub record IsShownAs (kind : ErrorKind) (contents held : Option (List ℕ)) (has_refused : Bool) (s : Status) : Type 0 where
+  pub help : (kind ≡ DisplayHelp) ⊎ (kind ≡ DisplayVersion) → IsShown contents held has_refused s × (s ≡ status.BadInput → ⊥)
+  pub memory : kind ≡ OutOfMemory → (held ≡ contents) × (s ≡ status.OtherFault)
+  pub mistake : (kind ≡ DisplayHelp → ⊥) → (kind ≡ DisplayVersion → ⊥) → (kind ≡ OutOfMemory → ⊥) → (held ≡ contents) × (s ≡ status.BadInput)
+
+-- the words of a load: it is told, or memory was wanting
+abbrev pub IsLoadReply : Option (List ℕ) → Option (List ℕ) → Option (List ℕ) → Option (List ℕ) → Bool → Status → Type 0
+IsLoadReply remaining left contents held has_refused status =
+    (left ≡ remaining) × (IsLoadAnswered contents held has_refused status ⊎ ((held ≡ contents) × (status ≡ status_of_stop_fault stop.OutOfMemory)))
+
+-- the order of the words is done; or they have none, and the input is left alone and that is shown
+abbrev pub IsReply : Kinds → Command → Option (List ℕ) → Option (List ℕ) → Option (List ℕ) → Option (List ℕ) → Bool → ℕ → Bool → Status → Type 0
+IsReply kinds command remaining left contents held has_failed given has_refused status =
+    ((o : Order) × (kinds ≡ []) × IsOrder command o × IsDone o remaining left contents held has_failed given has_refused status)
+    ⊎ ((kind : ErrorKind) × IsRefusal kinds command kind × (left ≡ remaining) × IsShownAs kind contents held has_refused status)
+
+-- the same of words by the program's grammar; the first is the program's name
+abbrev pub IsReplyTo : List Text → Option (List ℕ) → Option (List ℕ) → Option (List ℕ) → Option (List ℕ) → Bool → ℕ → Bool → Status → Type 0
+IsReplyTo words = IsReply (fault_of supload_app words) (subcommand_of supload_app words)

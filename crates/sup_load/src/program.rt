@@ -1,7 +1,9 @@
 //! The whole program, over any reader and writers.
 
 ghost use Rattle.std.specs.Prelude.{◌≡◌, ◌⊎◌, ℕ, List, [], ◌∷◌, codes, false, map, true};
-ghost use Rattle.sup_load.specs.Answered.{IsScriptAnswered, IsReplayAnswered, IsLoadAnswered, IsShown, IsWritten, IsAnswered};
+ghost use Rattle.sup_load.specs.Answered.{IsScriptAnswered, IsReplayAnswered, IsLoadAnswered, IsShown, IsShownAs, IsWritten, IsAnswered, IsLoadReply, IsReplyTo};
+ghost use Rattle.sup_load.specs.Settings.{Given, IsWhole, words_of};
+ghost use Rattle.clap.specs.Values.{kind_of};
 ghost use Rattle.sup_load.specs.Statuses.{status_of, status_of_load, status_number};
 ghost use Rattle.sup_load.specs.declared.program.Status.{Status as AStatus};
 ghost use Rattle.sup_load.specs.declared.program.Status.TheVariants.{Failed};
@@ -95,6 +97,14 @@ pub fn run_words<T: Threads + Wait + Sync, S: AsStr, R: Read, W: Write, E: Write
     ensures replay { (name : List ℕ) → map S.text words.now ≡ name ∷ codes "replay" ∷ [] → (status : AStatus) × (result ≡ status_number status)
         × IsReplayAnswered (R.remaining reader.old.reader) (R.remaining reader.new.reader) (W.contents out.old.writer) (W.contents out.new.writer)
         reader.new.has_failed reader.new.given out.new.has_refused status }
+    ensures load { (name : List ℕ) (given : Given) (w n r t : ℕ) → IsWhole given w n r t → map S.text words.now ≡ name ∷ codes "load" ∷ words_of given
+        → (status : AStatus) × (result ≡ status_number status)
+        × IsLoadReply (R.remaining reader.old.reader) (R.remaining reader.new.reader) (W.contents out.old.writer) (W.contents out.new.writer)
+        out.new.has_refused status }
+    // It does what the grammar makes of the words, and else says why there is no order.
+    ensures words { (status : AStatus) × (result ≡ status_number status)
+        × IsReplyTo (map S.text words.now) (R.remaining reader.old.reader) (R.remaining reader.new.reader) (W.contents out.old.writer)
+        (W.contents out.new.writer) reader.new.has_failed reader.new.given out.new.has_refused status }
     // Whatever the words, it does one of four things.
     ensures one { (status : AStatus) × (result ≡ status_number status)
         × IsAnswered (R.remaining reader.old.reader) (R.remaining reader.new.reader) (W.contents out.old.writer) (W.contents out.new.writer)
@@ -123,6 +133,11 @@ fn answer_words<T: Threads + Wait + Sync, S: AsStr, R: Read, W: Write, E: Write>
     ensures replay { (name : List ℕ) → map S.text words.now ≡ name ∷ codes "replay" ∷ []
         → IsReplayAnswered (R.remaining reader.old.reader) (R.remaining reader.new.reader) (W.contents out.old.writer) (W.contents out.new.writer)
         reader.new.has_failed reader.new.given out.new.has_refused result }
+    ensures words { IsReplyTo (map S.text words.now) (R.remaining reader.old.reader) (R.remaining reader.new.reader) (W.contents out.old.writer)
+        (W.contents out.new.writer) reader.new.has_failed reader.new.given out.new.has_refused result }
+    ensures load { (name : List ℕ) (given : Given) (w n r t : ℕ) → IsWhole given w n r t → map S.text words.now ≡ name ∷ codes "load" ∷ words_of given
+        → IsLoadReply (R.remaining reader.old.reader) (R.remaining reader.new.reader) (W.contents out.old.writer) (W.contents out.new.writer)
+        out.new.has_refused result }
     ensures one { IsAnswered (R.remaining reader.old.reader) (R.remaining reader.new.reader) (W.contents out.old.writer) (W.contents out.new.writer)
         reader.new.has_failed reader.new.given out.new.has_refused result }
     ensures cause { result ≡ Failed → (reader.new.has_failed ≡ true) ⊎ (out.new.has_refused ≡ true) }
@@ -257,6 +272,7 @@ fn show<W: Write, E: Write>(
     out: &mut WatchedWriter<W>,
     err: &mut E,
 ) -> Status
+    ensures kind { IsShownAs (kind_of error.now) (W.contents out.old.writer) (W.contents out.new.writer) out.new.has_refused result }
     ensures shown { IsShown (W.contents out.old.writer) (W.contents out.new.writer) out.new.has_refused result }
     ensures cause { result ≡ Failed → out.new.has_refused ≡ true }
 {

@@ -1,6 +1,14 @@
 //! The words of the command line.
 
-ghost use Rattle.std.specs.Prelude.{◌≡◌, ℕ, List, [], ◌∷◌, Ok, MatchBool, codes, map};
+ghost use Rattle.std.specs.Prelude.{◌≡◌, ◌⊎◌, ℕ, List, [], ◌∷◌, Ok, IfOk, MatchBool, MatchOption, MatchResult, codes, false, map};
+ghost use Rattle.clap.specs.Kinds.{IsAmong};
+ghost use Rattle.clap.specs.Words.{app_of, found_of, kind_of, rows_of, rule_of, subcommand_rows_of};
+ghost use Rattle.clap.specs.declared.builder.command.Command.TheViews.{out-Command as fields_of};
+ghost use Rattle.clap.specs.declared.error.kind.ErrorKind.TheVariants.{OutOfMemory};
+ghost use Rattle.sup_load.specs.Grammar.{load_app, number_rule, supload_app, text_app};
+ghost use Rattle.sup_load.specs.Loads.{IsWithin};
+ghost use Rattle.sup_load.specs.Orders.{AreNumbers, IsDetail, IsLoadOf, IsNoOrder, IsOrder, WordsLeadTo};
+ghost use Rattle.sup_load.specs.Settings.{Given, IsWhole, words_of};
 ghost use Rattle.sup_load.specs.declared.words.Order.TheVariants as order;
 ghost use Rattle.sup_load.specs.declared.words.Detail.TheVariants as detail;
 
@@ -163,6 +171,9 @@ Exit status:
 pub fn read_words<S: AsStr>(alloc: Global, words: &[S]) -> Result<Order, Error>
     ensures script { (name : List ℕ) → map S.text words.now ≡ name ∷ codes "script" ∷ [] → result ≡ Ok (order.Script detail.Number) }
     ensures replay { (name : List ℕ) → map S.text words.now ≡ name ∷ codes "replay" ∷ [] → result ≡ Ok (order.Replay detail.Number) }
+    ensures words { WordsLeadTo (map S.text words.now) result }
+    ensures load { (name : List ℕ) (given : Given) (w n r t : ℕ) → IsWhole given w n r t → map S.text words.now ≡ name ∷ codes "load" ∷ words_of given
+        → IsLoadOf w n r t result }
 {
     if is_command(words, "script") {
         return Ok(Order::Script(Detail::Number));
@@ -182,31 +193,47 @@ fn is_command<S: AsStr>(words: &[S], command: &str) -> bool
 }
 
 /// Reads words that are more than a command.
-fn read_options<S: AsStr>(alloc: Global, words: &[S]) -> Result<Order, Error> {
-    let mut command = command(alloc)?;
-    let matches = command.try_get_matches_from_mut(words)?;
+fn read_options<S: AsStr>(alloc: Global, words: &[S]) -> Result<Order, Error>
+    ensures { WordsLeadTo (map S.text words.now) result }
+{
+    let matches = command(alloc)?.try_get_matches_from(words)?;
+    read_matches(alloc, &matches)
+}
+
+/// The order that `clap` found among the words.
+fn read_matches(alloc: Global, matches: &ArgMatches) -> Result<Order, Error>
+    ensures { MatchResult result (IsOrder (subcommand_rows_of matches.now))
+        (λ e. (kind_of e ≡ OutOfMemory) ⊎ IsNoOrder (subcommand_rows_of matches.now) (kind_of e)) }
+{
     match matches.subcommand() {
         Some(("script", words)) => Ok(Order::Script(read_detail(words))),
         Some(("replay", words)) => Ok(Order::Replay(read_detail(words))),
         Some(("load", words)) => match read_load(words) {
             Some(load) => Ok(Order::Load(load)),
-            None => refused(alloc, ErrorKind::ValueValidation, "a number is missing"),
+            None => Err(refused(alloc, ErrorKind::ValueValidation, "a number is missing")),
         },
-        _ => refused(
+        _ => Err(refused(
             alloc,
             ErrorKind::InvalidSubcommand,
             "there is no such command",
-        ),
+        )),
     }
 }
 
-fn refused(alloc: Global, kind: ErrorKind, text: &str) -> Result<Order, Error> {
-    let mut command = Command::new(alloc, "supload");
-    Err(command.error(kind, text)?)
+/// An error of this kind, or of want of memory.
+fn refused(alloc: Global, kind: ErrorKind, text: &str) -> Error
+    ensures { IsAmong (kind_of result) (kind ∷ OutOfMemory ∷ []) }
+{
+    match Command::new(alloc, "supload").error(kind, text) {
+        Ok(error) => error,
+        Err(error) => Error::from(error),
+    }
 }
 
 /// How much is to be said of a fault.
-fn read_detail(words: &ArgMatches) -> Detail {
+fn read_detail(words: &ArgMatches) -> Detail
+    ensures { IsDetail (rows_of (found_of words.now)) result }
+{
     if words.get_flag("explain") {
         Detail::Explained
     } else {
@@ -215,7 +242,11 @@ fn read_detail(words: &ArgMatches) -> Detail {
 }
 
 /// The numbers of a load. `clap` has read them within their ranges.
-fn read_load(words: &ArgMatches) -> Option<Load> {
+fn read_load(words: &ArgMatches) -> Option<Load>
+    ensures { MatchOption result
+        ((w n r t : ℕ) → AreNumbers (rows_of (found_of words.now)) w n r t → IsWithin w n r t → ⊥)
+        (λ load. AreNumbers (rows_of (found_of words.now)) load.workers load.children load.readers load.turns) }
+{
     let workers = words.get_one("workers")?;
     let children = words.get_one("children")?;
     let readers = words.get_one("readers")?;
@@ -230,7 +261,10 @@ fn number<'a>(
     value: &'a str,
     help: &'a str,
     range: (u64, u64),
-) -> Arg<'a> {
+) -> Arg<'a>
+    ensures rule { rule_of result ≡ number_rule name.entry.now range.0 range.1 }
+    ensures local { result.global ≡ false }
+{
     Arg::new(alloc, name)
         .long(name)
         .value_name(value)
@@ -240,7 +274,9 @@ fn number<'a>(
         .value_parser(ValueParser::unsigned(range.0, range.1))
 }
 
-fn load_command<'a>(alloc: Global) -> Result<Command<'a>, AllocError> {
+fn load_command<'a>(alloc: Global) -> Result<Command<'a>, AllocError>
+    ensures { IfOk result (λ c. (app_of c ≡ load_app) × ((fields_of c).has_globals ≡ false)) }
+{
     let workers = number(
         alloc,
         "workers",
@@ -279,7 +315,9 @@ fn text_command<'a>(
     name: &'a str,
     about: &'a str,
     help: &'a str,
-) -> Result<Command<'a>, AllocError> {
+) -> Result<Command<'a>, AllocError>
+    ensures { IfOk result (λ c. (app_of c ≡ text_app name.entry.now) × ((fields_of c).has_globals ≡ false)) }
+{
     let explain = Arg::new(alloc, "explain")
         .long("explain")
         .help("Explains a fault in a line")
@@ -291,7 +329,9 @@ fn text_command<'a>(
         .arg(explain)
 }
 
-fn command<'a>(alloc: Global) -> Result<Command<'a>, AllocError> {
+fn command<'a>(alloc: Global) -> Result<Command<'a>, AllocError>
+    ensures { IfOk result (λ c. app_of c ≡ supload_app) }
+{
     Command::new(alloc, "supload")
         .bin_name("supload")?
         .about(ABOUT)

@@ -1,0 +1,70 @@
+-- Which words lead where: what each order takes of them, and the kind of error where they are none.
+use Rattle.std.specs.Prelude.{◌≡◌, ◌⊎◌, ◌<◌, ◌^◌, ℕ, List, [], ◌∷◌, Option, Some, Result, Ok, Err, MatchResult, codes}
+use Rattle.std.specs.Str.Parse.{IsNumeral, digits_value, without_leading_plus}
+use Rattle.clap.specs.Faults.{fault_of}
+use Rattle.clap.specs.Kinds.{IsAmong, Kinds}
+use Rattle.clap.specs.Simple.{subcommand_of}
+use Rattle.clap.specs.Values.{kind_of}
+use Rattle.clap.specs.Walk.{Row, Text, one_of}
+use Rattle.clap.specs.declared.error.Error.{Error}
+use Rattle.clap.specs.declared.error.kind.ErrorKind.{ErrorKind}
+use Rattle.clap.specs.declared.error.kind.ErrorKind.TheVariants.{InvalidSubcommand, OutOfMemory, ValueValidation}
+use Rattle.sup_load.specs.Grammar.{supload_app}
+use Rattle.sup_load.specs.declared.words.Detail.{Detail}
+use Rattle.sup_load.specs.declared.words.Detail.TheVariants as detail
+use Rattle.sup_load.specs.declared.words.Order.{Order}
+use Rattle.sup_load.specs.declared.words.Order.TheVariants as order
+
+-- the command that clap found among the words, with a row for each of its options
+abbrev pub Command : Type 0
+Command = Option (Text × List Row)
+
+-- a fault is explained where `--explain` was given
+pub record IsDetail (rows : List Row) (answer : Detail) : Type 0 where
+  pub given : one_of (codes "explain") rows ≡ Some (codes "true") → answer ≡ detail.Explained
+  pub left_out : one_of (codes "explain") rows ≡ Some (codes "false") → answer ≡ detail.Number
+
+-- the option of this name has a text, whose digits write n, perhaps behind a plus
+pub record HasNumber (rows : List Row) (name : Text) (n : ℕ) : Type 0 where
+  pub text : Text
+  pub found : one_of name rows ≡ Some text
+  pub numeral : IsNumeral 10 (without_leading_plus text)
+  pub fits : digits_value 10 (without_leading_plus text) < 2 ^ 64
+  pub value : n ≡ digits_value 10 (without_leading_plus text)
+
+-- the four numbers of a load
+pub record AreNumbers (rows : List Row) (w n r t : ℕ) : Type 0 where
+  pub workers : HasNumber rows (codes "workers") w
+  pub children : HasNumber rows (codes "children") n
+  pub readers : HasNumber rows (codes "readers") r
+  pub turns : HasNumber rows (codes "turns") t
+
+-- the order is the one that the command names, with what its options say
+abbrev pub IsOrder : Command → Order → Type 0
+IsOrder command (order.Script answer) = (rows : List Row) × (command ≡ Some (codes "script", rows)) × IsDetail rows answer
+IsOrder command (order.Replay answer) = (rows : List Row) × (command ≡ Some (codes "replay", rows)) × IsDetail rows answer
+IsOrder command (order.Load load) = (rows : List Row) × (command ≡ Some (codes "load", rows))
+    × AreNumbers rows load.workers load.children load.readers load.turns
+
+-- no order is the command's
+pub record IsNoOrder (command : Command) (kind : ErrorKind) : Type 0 where
+  pub none : (o : Order) → IsOrder command o → ⊥
+  pub told : IsAmong kind (ValueValidation ∷ InvalidSubcommand ∷ [])
+
+-- why there is no order: memory ran out, or clap refuses the words, or it takes them and they are no order all the same
+abbrev pub IsRefusal : Kinds → Command → ErrorKind → Type 0
+IsRefusal kinds command kind = (kind ≡ OutOfMemory) ⊎ (IsAmong kind kinds ⊎ ((kinds ≡ []) × IsNoOrder command kind))
+
+-- where clap refuses nothing the order is the command's, and an error has its reason
+abbrev pub LeadsTo : Kinds → Command → Result Order Error → Type 0
+LeadsTo kinds command result = MatchResult result (λ o. (kinds ≡ []) × IsOrder command o) (λ e. IsRefusal kinds command (kind_of e))
+
+-- the same of words by the program's grammar; the first is the program's name
+abbrev pub WordsLeadTo : List Text → Result Order Error → Type 0
+WordsLeadTo words = LeadsTo (fault_of supload_app words) (subcommand_of supload_app words)
+
+-- the load of these numbers, unless memory ran out
+abbrev pub IsLoadOf : ℕ → ℕ → ℕ → ℕ → Result Order Error → Type 0
+IsLoadOf w n r t (Ok (order.Load load)) = (load.workers ≡ w) × (load.children ≡ n) × (load.readers ≡ r) × (load.turns ≡ t)
+IsLoadOf w n r t (Ok _) = ⊥
+IsLoadOf w n r t (Err e) = kind_of e ≡ OutOfMemory
