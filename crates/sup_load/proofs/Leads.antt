@@ -1,9 +1,11 @@
 -- Where the words lead: the grammar is of clap's simple kind, and what it makes of the two words that need no option.
 use Rattle.std.proofs.Common.{◌≡◌, ◌∙◌, ℕ, true, List, [], ◌∷◌, Option, Some, None, refl, sym, ap, ap₂, subst, arith, get_or, codes, inl, inr}
 use Rattle.std.specs.Box.{box_value}
+use Rattle.std.proofs.lemmas.Bool.{false≢true}
+use Rattle.std.specs.Result.{IsErr, IsErrAnd}
 use Rattle.std.specs.Prelude.{◌⊎◌, option_map, Box, Result, Ok, Err, MatchResult}
 use Rattle.clap.specs.Faults.{is_simple_and_free}
-use Rattle.clap.specs.Kinds.{IsAmong, Kinds}
+use Rattle.clap.specs.Kinds.{HasKind, IsAmong, Kinds}
 use Rattle.clap.specs.Matches.{subcommand_name_of}
 use Rattle.clap.specs.Simple.{is_simple, subcommand_rows, subcommand_rows_of}
 use Rattle.clap.specs.Values.{kind_of}
@@ -16,7 +18,7 @@ use Rattle.clap.specs.declared.error.kind.ErrorKind.TheVariants.{OutOfMemory, Va
 use Rattle.clap.proofs.OnLiterals.{clap_on_literals}
 use Rattle.sup_load.specs.Grammar.{supload_app}
 use Rattle.sup_load.specs.Loads.{IsWithin}
-use Rattle.sup_load.specs.Orders.{AreNumbers, Command, IsNoOrder, IsOrder, LeadsTo, WordsLeadTo}
+use Rattle.sup_load.specs.Orders.{AreNumbers, Command, IsNoOrder, IsOrder, LeadsTo, WordsLeadTo, command_at, kinds_at}
 use Rattle.sup_load.specs.declared.words.Detail.TheVariants as detail
 use Rattle.sup_load.specs.declared.words.Order.{Order}
 use Rattle.sup_load.specs.declared.words.Order.TheVariants as order
@@ -34,13 +36,23 @@ leads kinds command found (Ok o) none same is = (none, subst (λ (c : Command). 
 leads kinds command found (Err e) none same (inl memory) = inl memory
 leads kinds command found (Err e) none same (inr other) = inr (inr (none, subst (λ (c : Command). IsNoOrder c (kind_of e)) same other))
 
+-- clap refused the words, and its error is handed on
+pub refused_by : (kinds : Kinds) (command : Command) (x : Error) (result : Result Order Error) → HasKind kinds x → IsErr result → IsErrAnd result (λ e. e ≡ x)
+    → LeadsTo kinds command result
+refused_by kinds command x (Ok o) has failed same = absurd (false≢true failed)
+refused_by kinds command x (Err e) has failed same = go (subst (HasKind kinds) (sym same) has)
+  where
+    go : HasKind kinds e → LeadsTo kinds command (Err e)
+    go (inl memory) = inl memory
+    go (inr among) = inr (inl among)
+
 -- a command without options
 pub script_leads : (name : Text) → WordsLeadTo (name ∷ codes "script" ∷ []) (Ok (order.Script detail.Number))
-unfolding clap_on_literals
+unfolding clap_on_literals kinds_at command_at
 script_leads name = (refl, (_, refl, record { given = λ e. cc; left_out = λ e. refl }))
 
 pub replay_leads : (name : Text) → WordsLeadTo (name ∷ codes "replay" ∷ []) (Ok (order.Replay detail.Number))
-unfolding clap_on_literals
+unfolding clap_on_literals kinds_at command_at
 replay_leads name = (refl, (_, refl, record { given = λ e. cc; left_out = λ e. refl }))
 
 same_in : {X : Type 0} {a b : X} → Some a ≡ Some b → a ≡ b

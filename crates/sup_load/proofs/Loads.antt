@@ -23,7 +23,7 @@ use Rattle.sup_load.specs.Loads.{IsWithin}
 use Rattle.sup_load.specs.declared.load.Load.{Load}
 use Rattle.clap.specs.declared.error.Error.{Error}
 use Rattle.sup_load.proofs.Leads.{first_byte, rows_in}
-use Rattle.sup_load.specs.Orders.{AreNumbers, Command, HasNumber, IsLoadOf, LeadsTo, WordsLeadTo}
+use Rattle.sup_load.specs.Orders.{AreNumbers, Command, HasNumber, IsLoadOf, LeadsTo, WordsLeadTo, command_at, kinds_at}
 use Rattle.sup_load.specs.Settings.{AreNew, AreWithin, Given, IsWhole, Setting, workers, children, readers, turns, least_of, most_of, name_of, number_in, words_of}
 use Rattle.sup_load.specs.declared.words.Order.{Order}
 use Rattle.sup_load.specs.declared.words.Order.TheVariants as order
@@ -212,6 +212,7 @@ load_of kinds command rows w n r t none is are within (Err e) (inr (inr other)) 
 
 pub load_leads : (name : Text) (given : Given) (w n r t : ℕ) → IsWhole given w n r t → (result : Result Order Error)
     → WordsLeadTo (name ∷ codes "load" ∷ words_of given) result → IsLoadOf w n r t result
+unfolding kinds_at command_at
 load_leads name given w n r t whole result leads =
     let words = name ∷ codes "load" ∷ words_of given in
     let rows : rows_after load_rules [] (words_of given) ≡ map row_for given = leaf_rows given (all_plain given whole.within) ∙ table given w n r t whole in

@@ -6,14 +6,11 @@ use Rattle.sup_script.specs.Running.Replays.{IsReplay}
 use Rattle.sup_script.specs.Running.Runs.{IsRun}
 use Rattle.sup_script.specs.Starter.{script_answer}
 use Rattle.sup_script.specs.declared.fault.ScriptFault.{ScriptFault}
-use Rattle.clap.specs.Faults.{fault_of}
 use Rattle.clap.specs.Kinds.{Kinds}
-use Rattle.clap.specs.Simple.{subcommand_of}
 use Rattle.clap.specs.Walk.{Text}
 use Rattle.clap.specs.declared.error.kind.ErrorKind.{ErrorKind}
 use Rattle.clap.specs.declared.error.kind.ErrorKind.TheVariants.{DisplayHelp, DisplayVersion, OutOfMemory}
-use Rattle.sup_load.specs.Grammar.{supload_app}
-use Rattle.sup_load.specs.Orders.{Command, IsOrder, IsRefusal}
+use Rattle.sup_load.specs.Orders.{Command, IsOrder, IsRefusal, command_at, kinds_at}
 use Rattle.sup_load.specs.Reports.{IsLoaded}
 use Rattle.sup_load.specs.Statuses.{status_of, status_of_load, status_of_stop_fault}
 use Rattle.sup_load.specs.declared.fault.LoadFault.{LoadFault}
@@ -91,6 +88,6 @@ IsReply kinds command remaining left contents held has_failed given has_refused 
     ((o : Order) × (kinds ≡ []) × IsOrder command o × IsDone o remaining left contents held has_failed given has_refused status)
     ⊎ ((kind : ErrorKind) × IsRefusal kinds command kind × (left ≡ remaining) × IsShownAs kind contents held has_refused status)
 
--- the same of words by the program's grammar; the first is the program's name
+-- the same of words; the first is the program's name
 abbrev pub IsReplyTo : List Text → Option (List ℕ) → Option (List ℕ) → Option (List ℕ) → Option (List ℕ) → Bool → ℕ → Bool → Status → Type 0
-IsReplyTo words = IsReply (fault_of supload_app words) (subcommand_of supload_app words)
+IsReplyTo words = IsReply (kinds_at words) (command_at words)

@@ -59,9 +59,18 @@ IsRefusal kinds command kind = (kind ≡ OutOfMemory) ⊎ (IsAmong kind kinds �
 abbrev pub LeadsTo : Kinds → Command → Result Order Error → Type 0
 LeadsTo kinds command result = MatchResult result (λ o. (kinds ≡ []) × IsOrder command o) (λ e. IsRefusal kinds command (kind_of e))
 
--- the same of words by the program's grammar; the first is the program's name
+-- the kinds of error that clap gives at words by the program's grammar, none where it takes them; the first word is the
+-- program's name
+unfoldable pub kinds_at : List Text → Kinds
+kinds_at words = fault_of supload_app words
+
+-- the command that it finds among them
+unfoldable pub command_at : List Text → Command
+command_at words = subcommand_of supload_app words
+
+-- the same of words
 abbrev pub WordsLeadTo : List Text → Result Order Error → Type 0
-WordsLeadTo words = LeadsTo (fault_of supload_app words) (subcommand_of supload_app words)
+WordsLeadTo words = LeadsTo (kinds_at words) (command_at words)
 
 -- the load of these numbers, unless memory ran out
 abbrev pub IsLoadOf : ℕ → ℕ → ℕ → ℕ → Result Order Error → Type 0

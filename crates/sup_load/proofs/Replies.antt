@@ -1,0 +1,22 @@
+-- What the program answers to words, from what they lead to.
+use Rattle.std.proofs.Common.{◌≡◌, ℕ, Bool, List, Option, sym, subst, inl, inr}
+use Rattle.std.specs.Prelude.{Ok, Err}
+use Rattle.clap.specs.Kinds.{Kinds}
+use Rattle.clap.specs.Values.{kind_of}
+use Rattle.clap.specs.declared.error.Error.{Error}
+use Rattle.sup_load.specs.Answered.{IsDone, IsReply, IsShownAs}
+use Rattle.sup_load.specs.Orders.{Command, LeadsTo}
+use Rattle.sup_load.specs.declared.program.Status.{Status}
+use Rattle.sup_load.specs.declared.words.Order.{Order}
+
+module _ (kinds : Kinds) (command : Command) (remaining left contents held : Option (List ℕ)) (has_failed : Bool) (given : ℕ) (has_refused : Bool) (s : Status) where
+  -- the order was done
+  pub done_as : (o p : Order) → o ≡ p → LeadsTo kinds command (Ok o) → IsDone p remaining left contents held has_failed given has_refused s
+      → IsReply kinds command remaining left contents held has_failed given has_refused s
+  done_as o p same led done =
+      inl (o, led.0, led.1, subst (λ (q : Order). IsDone q remaining left contents held has_failed given has_refused s) (sym same) done)
+
+  -- the error was shown
+  pub error_as : (e : Error) → LeadsTo kinds command (Err e) → left ≡ remaining → IsShownAs (kind_of e) contents held has_refused s
+      → IsReply kinds command remaining left contents held has_failed given has_refused s
+  error_as e led same shown = inr (kind_of e, led, same, shown)
