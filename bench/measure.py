@@ -1,0 +1,120 @@
+"""Runs programs in turn, and tells their figures: the ratio first, then middle and best of each."""
+import os
+import re
+import statistics
+import subprocess
+import tempfile
+import time
+
+# What each program writes of each figure: how long so many took, and what came of the work (`-`: it hangs on the
+# schedule), which must be the same on both sides.
+LINE = re.compile(r"(.+): (\d+) ns, (\d+) times, answer (\S+)")
+
+
+class Failed(Exception):
+    """A run or a build that gave no result."""
+
+
+def machine():
+    """The machine, and how busy it is as the measurement begins."""
+    with open("/proc/cpuinfo") as file:
+        models = re.findall(r"^model name\s*: (.*)$", file.read(), re.M)
+    load = os.getloadavg()[0]
+    return f"{os.cpu_count()} cores, {models[0] if models else 'unknown processor'}; load {load:.1f} before the first run"
+
+
+def run(words, source=os.devnull):
+    """Runs a program to its end. Returns its seconds, its most memory in KiB and the file with what it wrote."""
+    out = tempfile.TemporaryFile()
+    with open(source, "rb") as file:
+        start = time.perf_counter()
+        child = subprocess.Popen(words, stdin=file, stdout=out)
+        _, status, usage = os.wait4(child.pid, 0)
+        took = time.perf_counter() - start
+    # (so that Popen does not wait for it again)
+    child.returncode = os.waitstatus_to_exitcode(status)
+    if child.returncode != 0:
+        raise Failed(f"{' '.join(words)} ended with status {child.returncode}")
+    if out.tell() == 0:
+        raise Failed(f"{' '.join(words)} wrote nothing")
+    out.seek(0)
+    return took, usage.ru_maxrss, out
+
+
+def least_memory():
+    """What wait4 says of a program that takes next to none: it counts this program's own until the other begins."""
+    child = subprocess.Popen(["true"])
+    _, _, usage = os.wait4(child.pid, 0)
+    child.returncode = 0
+    return usage.ru_maxrss
+
+
+def mebibytes(kibibytes, least):
+    if kibibytes <= least * 1.1:
+        return f"below {least * 1.1 / 1024:.0f} MiB"
+    return f"{kibibytes / 1024:.0f} MiB"
+
+
+def figures(words):
+    """One run of a program that tells its figures: nanoseconds each and answer by label, and the memory."""
+    _, memory, out = run(words)
+    lines = out.read().decode().splitlines()
+    found = {}
+    for line in lines:
+        match = LINE.fullmatch(line)
+        if not match:
+            raise Failed(f"{words[0]} wrote '{line}'")
+        label, took, times, answer = match.groups()
+        if label in found or int(took) == 0 or int(times) == 0:
+            raise Failed(f"{words[0]} gave no figure of '{label}'")
+        found[label] = (int(took) / int(times), f"{times} times, answer {answer}")
+    return found, memory
+
+
+def compare(programs, rounds):
+    """Runs the programs in turn, ours first, and writes how each peer compares with ours."""
+    rows = {name: [] for name, _ in programs}
+    memory = {name: 0 for name, _ in programs}
+    least = least_memory()
+    for _ in range(rounds):
+        for name, words in programs:
+            found, took = figures(words)
+            memory[name] = max(memory[name], took)
+            rows[name].append(found)
+            check_same_work(rows["ours"][0], found, name)
+    for name, _ in programs[1:]:
+        print(f"{name}: best and middle of {rounds} rounds in turn, ns each")
+        table = {}
+        for label in rows["ours"][0]:
+            if label in rows[name][0]:
+                table[label] = [[it[label][0] for it in rows[side]] for side in ("ours", name)]
+        write_table(table)
+    told = ", ".join(f"{name} {mebibytes(it, least)}" for name, it in memory.items())
+    print(f"most memory: {told}", flush=True)
+
+
+def check_same_work(ours, theirs, name):
+    """Ours and a peer must have done the same work, so many times, with the same outcome."""
+    if not theirs.keys() <= ours.keys():
+        raise Failed(f"{name} gave a figure that ours does not have: {sorted(theirs.keys() - ours.keys())}")
+    for label, (_, work) in theirs.items():
+        if work != ours[label][1]:
+            raise Failed(f"{label}: ours {ours[label][1]}, {name} {work}")
+
+
+def write_table(table, unit=""):
+    """Writes a row for each label, as Markdown; a value is what all runs of ours and of the peer took."""
+    print("| what | ratio, middle | ratio, best | ours, middle | ours, best | peer, middle | peer, best |")
+    print("|---|---|---|---|---|---|---|")
+    for label, (ours, peer) in table.items():
+        middles = statistics.median(ours), statistics.median(peer)
+        bests = min(ours), min(peer)
+        cells = [f"{middles[0] / middles[1]:.2f}", f"{bests[0] / bests[1]:.2f}"]
+        for side in (0, 1):
+            cells += [told(middles[side]) + unit, told(bests[side]) + unit]
+        print(f"| {label} | {' | '.join(cells)} |")
+    print(flush=True)
+
+
+def told(value):
+    return f"{value:,.0f}" if value >= 100 else f"{value:.1f}"
