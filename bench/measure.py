@@ -82,15 +82,20 @@ def compare(programs, rounds):
             memory[name] = max(memory[name], took)
             rows[name].append(found)
             check_same_work(rows["ours"][0], found, name)
+    alone = {*rows["ours"][0]}
     for name, _ in programs[1:]:
+        alone -= rows[name][0].keys()
         print(f"{name}: best and middle of {rounds} rounds in turn, ns each")
         table = {}
         for label in rows["ours"][0]:
             if label in rows[name][0]:
                 table[label] = [[it[label][0] for it in rows[side]] for side in ("ours", name)]
         write_table(table)
-    told = ", ".join(f"{name} {mebibytes(it, least)}" for name, it in memory.items())
-    print(f"most memory: {told}", flush=True)
+    for label in sorted(alone):
+        took = [it[label][0] for it in rows["ours"]]
+        print(f"ours alone, {label}: middle {told(statistics.median(took))}, best {told(min(took))}")
+    memories = ", ".join(f"{name} {mebibytes(it, least)}" for name, it in memory.items())
+    print(f"most memory: {memories}", flush=True)
 
 
 def check_same_work(ours, theirs, name):

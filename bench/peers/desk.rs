@@ -1,137 +1,112 @@
-//! The same work on an `RwLock` round a `HashMap` in plain Rust.
-use std::collections::HashMap;
+//! The same work on an `RwLock` round a supervisor in plain Rust.
 use std::hint::black_box;
 use std::sync::atomic::{AtomicBool, Ordering};
 use std::sync::RwLock;
 use std::thread;
 use std::time::Instant;
 
+mod supervisor;
+use supervisor::{template, Answer, Reply, Restart, Supervisor};
+
 /// So many that a batch's 32 children fit below the most.
 const ROWS: u64 = 65_504;
 const COUNTS: u64 = 2_000_000;
 const PAIRS: u64 = 500_000;
 const BATCHES: u64 = 10_000;
+const ARG: &str = "connection-4711";
 
-struct Row {
-    arg: String,
-    running: bool,
-}
-
-#[derive(Clone, Copy)]
-struct Counts {
-    active: u64,
-    workers: u64,
-}
-
-struct Children {
-    rows: HashMap<u64, Row>,
-    made: u64,
-    active: u64,
-    max: usize,
-}
-
-impl Children {
-    fn start(&mut self, arg: &str) -> Option<u64> {
-        if self.rows.len() == self.max {
-            return None;
-        }
-        self.made += 1;
-        self.active += 1;
-        self.rows.insert(self.made, Row { arg: arg.to_string(), running: true });
-        Some(self.made)
-    }
-
-    fn terminate(&mut self, number: u64) -> bool {
-        match self.rows.remove(&number) {
-            Some(row) => {
-                black_box(&row.arg);
-                self.active -= u64::from(row.running);
-                true
-            }
-            None => false,
-        }
-    }
-
-    fn counts(&self) -> Counts {
-        Counts { active: self.active, workers: self.rows.len() as u64 }
-    }
-}
-
-fn count_all(children: &RwLock<Children>) -> u64 {
+fn count_all(shared: &RwLock<Supervisor>) -> u64 {
     let mut sum = 0u64;
     for _ in 0..COUNTS {
-        let counts = children.read().unwrap().counts();
-        sum = sum.wrapping_add(black_box(counts.active + counts.workers));
+        let counts = shared.read().unwrap().counts();
+        sum = sum.wrapping_add(black_box(counts.active));
     }
     sum
 }
 
-fn start_and_terminate(children: &RwLock<Children>, arg: &str) {
-    let number = children.write().unwrap().start(arg);
-    if let Some(number) = number {
-        black_box(children.write().unwrap().terminate(number));
+/// Starts a child and ends it, each under the lock once.
+fn start_and_terminate(shared: &RwLock<Supervisor>) -> bool {
+    let started = shared.write().unwrap().start(ARG, Answer::Running);
+    match started {
+        Reply::Started(number) => shared.write().unwrap().terminate(number) == Reply::Ended,
+        _ => false,
     }
 }
 
-fn read_all(children: &RwLock<Children>, threads: usize) {
+fn read_all(shared: &RwLock<Supervisor>, threads: usize) -> u64 {
     thread::scope(|scope| {
-        for _ in 0..threads {
-            scope.spawn(|| black_box(count_all(children)));
-        }
-    });
+        let readers: Vec<_> = (0..threads).map(|_| scope.spawn(|| count_all(shared))).collect();
+        readers.into_iter().map(|it| it.join().unwrap()).fold(0, u64::wrapping_add)
+    })
 }
 
-fn time_updates(children: &RwLock<Children>, arg: &str) {
-    let rows = children.read().unwrap().rows.len();
+fn time_updates(shared: &RwLock<Supervisor>, handles: u64) {
+    let rows = shared.read().unwrap().counts().children;
+    let mut done = 0;
     let start = Instant::now();
     for _ in 0..PAIRS {
-        start_and_terminate(children, arg);
+        done += 2 * u64::from(start_and_terminate(shared));
     }
-    let taken = start.elapsed().as_nanos() / 1_000_000;
-    println!("an update among {rows} rows: {taken} ns");
+    let took = start.elapsed().as_nanos();
+    println!("update among {rows} rows, {handles} handles: {took} ns, {} times, answer {done}", 2 * PAIRS);
+}
+
+/// Batches of 32 starts and the terminations of these children, each batch under one lock.
+fn time_batches(shared: &RwLock<Supervisor>, handles: u64) {
+    let mut ended = 0u64;
+    let start = Instant::now();
+    for _ in 0..BATCHES {
+        let mut sup = shared.write().unwrap();
+        let first = sup.made() + 1;
+        for _ in 0..32 {
+            black_box(sup.start(ARG, Answer::Running));
+        }
+        for place in 0..32 {
+            ended += u64::from(sup.terminate(first + place) == Reply::Ended);
+        }
+    }
+    let took = start.elapsed().as_nanos();
+    println!("operation in a batch of 64, {handles} handles: {took} ns, {} times, answer {ended}", 64 * BATCHES);
+}
+
+fn time_reads(shared: &RwLock<Supervisor>, threads: usize) {
+    let start = Instant::now();
+    let sum = read_all(shared, threads);
+    let took = start.elapsed().as_nanos();
+    println!("count, {threads} threads: {took} ns, {COUNTS} times, answer {sum}");
+    let over = AtomicBool::new(false);
+    let start = Instant::now();
+    thread::scope(|scope| {
+        scope.spawn(|| while !over.load(Ordering::SeqCst) && start_and_terminate(shared) {});
+        black_box(read_all(shared, threads));
+        over.store(true, Ordering::SeqCst);
+    });
+    let took = start.elapsed().as_nanos();
+    println!("count, {threads} threads beside a writer: {took} ns, {COUNTS} times, answer -");
+}
+
+fn made() -> RwLock<Supervisor> {
+    RwLock::new(Supervisor::new(template(Restart::Temporary, 1, 65_536)))
+}
+
+fn fill(shared: &RwLock<Supervisor>) {
+    for _ in 0..ROWS {
+        shared.write().unwrap().start(ARG, Answer::Running);
+    }
 }
 
 fn main() {
-    let arg = "connection-4711";
-    let children = RwLock::new(Children {
-        rows: HashMap::with_capacity(65_536),
-        made: 0,
-        active: 0,
-        max: 65_536,
-    });
-    time_updates(&children, arg);
-    for _ in 0..ROWS {
-        children.write().unwrap().start(arg);
+    // (a lock has no handles: the same work stands beside the desk for two and the one for sixteen)
+    for handles in [2, 16] {
+        let shared = made();
+        time_updates(&shared, handles);
+        fill(&shared);
+        time_updates(&shared, handles);
+        time_batches(&shared, handles);
     }
+    let shared = made();
+    fill(&shared);
     for threads in [1, 2, 4] {
-        let start = Instant::now();
-        read_all(&children, threads);
-        let alone = start.elapsed().as_nanos() / 2_000_000;
-        let over = AtomicBool::new(false);
-        let start = Instant::now();
-        thread::scope(|scope| {
-            scope.spawn(|| {
-                while !over.load(Ordering::SeqCst) {
-                    start_and_terminate(&children, arg);
-                }
-            });
-            read_all(&children, threads);
-            over.store(true, Ordering::SeqCst);
-        });
-        let beside = start.elapsed().as_nanos() / 2_000_000;
-        println!("{threads} readers: a count {alone} ns, beside a writer {beside} ns");
+        time_reads(&shared, threads);
     }
-    time_updates(&children, arg);
-    let start = Instant::now();
-    for _ in 0..BATCHES {
-        let mut all = children.write().unwrap();
-        let first = all.made + 1;
-        for _ in 0..32 {
-            black_box(all.start(arg));
-        }
-        for place in 0..32 {
-            black_box(all.terminate(first + place));
-        }
-    }
-    println!("an operation in a batch of 64: {} ns", start.elapsed().as_nanos() / 640_000);
 }

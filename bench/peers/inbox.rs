@@ -7,6 +7,7 @@ use std::time::Instant;
 const NOTES: u64 = 2_000_000;
 const CAPACITY: usize = 1024;
 
+#[allow(dead_code)]
 #[derive(Clone, Copy)]
 struct Text {
     bytes: [u8; 40],
@@ -67,7 +68,8 @@ fn take_all(inbox: &Inbox, notes: u64) -> u64 {
         match note {
             Some(note) => {
                 taken += 1;
-                sum = sum.wrapping_add(note.number + std::hint::black_box(note.arg.len as u64));
+                std::hint::black_box(&note.arg);
+                sum = sum.wrapping_add(note.number);
             }
             None => thread::yield_now(),
         }
@@ -75,7 +77,7 @@ fn take_all(inbox: &Inbox, notes: u64) -> u64 {
     sum
 }
 
-fn time(posters: u64) -> u128 {
+fn time(posters: u64) {
     let inbox: Inbox = Mutex::new(VecDeque::with_capacity(CAPACITY));
     let start = Instant::now();
     let sum = thread::scope(|scope| {
@@ -85,13 +87,12 @@ fn time(posters: u64) -> u128 {
         }
         take_all(&inbox, NOTES)
     });
-    std::hint::black_box(sum);
-    start.elapsed().as_micros()
+    let took = start.elapsed().as_nanos();
+    println!("a note, {posters} posters: {took} ns, {NOTES} times, answer {sum}");
 }
 
 fn main() {
     for posters in [1, 2, 4] {
-        let best = (0..3).map(|_| time(posters)).min().unwrap_or(1).max(1);
-        println!("{posters} posters: {} notes a second", NOTES as u128 * 1_000_000 / best);
+        time(posters);
     }
 }
