@@ -67,7 +67,8 @@ def figures(words):
         label, took, times, answer = match.groups()
         if label in found or int(took) == 0 or int(times) == 0:
             raise Failed(f"{words[0]} gave no figure of '{label}'")
-        found[label] = (int(took) / int(times), f"{times} times, answer {answer}")
+        work = "-" if answer == "-" else f"{times} times, answer {answer}"
+        found[label] = (int(took) / int(times), work)
     return found, memory
 
 

@@ -1,5 +1,6 @@
-%% The same work by OTP's supervisor: so many temporary children that end at once, started by 1 and by 4 processes, beside
-%% processes that call supervisor:count_children/1 all the time.
+%% The same work by OTP's supervisor: so many temporary children that end at once, started by one process, as the crew's driver
+%% starts them, beside processes that call supervisor:count_children/1 all the time. Each child is a process, which any of the
+%% scheduler's threads runs: the workers of a figure only name what it is compared with.
 -module(crew).
 -behaviour(supervisor).
 -export([main/0, init/1, child/1]).
@@ -41,22 +42,20 @@ run(Workers, Readers) ->
     Asking = [spawn_link(fun() -> read(Supervisor, Parent, 0, erlang:monotonic_time(nanosecond)) end)
               || _ <- lists:seq(1, Readers)],
     Start = erlang:monotonic_time(nanosecond),
-    [spawn_link(fun() -> start(Supervisor, ?CHILDREN div Workers), Parent ! done end) || _ <- lists:seq(1, Workers)],
-    [receive done -> ok end || _ <- lists:seq(1, Workers)],
+    start(Supervisor, ?CHILDREN),
     settle(Supervisor),
     Took = erlang:monotonic_time(nanosecond) - Start,
     [Reader ! over || Reader <- Asking],
     Answers = [receive {reads, Count, Nanoseconds} -> {Count, Nanoseconds} end || _ <- Asking],
     unlink(Supervisor),
     exit(Supervisor, kill),
-    Reads = max(1, lists:sum([Count || {Count, _} <- Answers])),
-    Asked = lists:sum([Nanoseconds || {_, Nanoseconds} <- Answers]),
-    {Took / 1000 / ?CHILDREN, Asked / Reads}.
+    io:format("child, ~b workers, ~b readers: ~b ns, ~b times, answer ~b~n",
+              [Workers, Readers, Took, ?CHILDREN, ?CHILDREN]),
+    Readers =:= 0 orelse
+        io:format("read, ~b workers, ~b readers: ~b ns, ~b times, answer -~n",
+                  [Workers, Readers, lists:sum([Nanoseconds || {_, Nanoseconds} <- Answers]),
+                   lists:sum([Count || {Count, _} <- Answers])]).
 
 main() ->
-    [begin
-         {Children, Reads} = lists:unzip([run(Workers, Readers) || _ <- lists:seq(1, 3)]),
-         io:format("~b workers, ~b readers: ~.2f microseconds a child, ~.2f ns a read~n",
-                   [Workers, Readers, lists:min(Children), lists:min(Reads)])
-     end || {Workers, Readers} <- [{1, 0}, {4, 0}, {1, 2}, {4, 2}, {1, 4}, {4, 4}]],
+    [run(Workers, Readers) || {Workers, Readers} <- [{1, 0}, {4, 0}, {1, 2}, {4, 2}, {1, 4}, {4, 4}]],
     halt().

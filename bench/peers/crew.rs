@@ -1,123 +1,118 @@
-//! The same work in plain Rust: a supervisor behind an RwLock round a HashMap, and the standard library's queues between the
-//! driver and the workers. It makes the same updates: a start for each child, a job, a body that ends at once, and an exit.
-use std::collections::HashMap;
+//! The same work in plain Rust: a supervisor behind an RwLock, and the standard library's queues between the driver and the
+//! workers. It makes the same updates: a start for each child, a job, a body that ends at once, and an exit.
+use std::hint::black_box;
 use std::sync::atomic::{AtomicBool, AtomicU64, Ordering};
-use std::sync::mpsc::{channel, sync_channel, TryRecvError};
+use std::sync::mpsc::{channel, sync_channel, Receiver, Sender, SyncSender};
 use std::sync::{Mutex, RwLock};
 use std::thread;
 use std::time::Instant;
 
+mod supervisor;
+use supervisor::{template, Answer, Reply, Restart, Supervisor};
+
 const CHILDREN: u64 = 65_536;
 
-struct Child {
-    running: bool,
-    arg: String,
-}
+type Note = (u64, String);
 
 #[derive(Default)]
-struct Supervisor {
-    rows: HashMap<u64, Child>,
-    running: u64,
-    made: u64,
+struct Reading {
+    over: AtomicBool,
+    reads: AtomicU64,
+    nanoseconds: AtomicU64,
 }
 
-impl Supervisor {
-    fn start(&mut self, arg: &str) -> u64 {
-        self.made += 1;
-        self.running += 1;
-        self.rows.insert(self.made, Child { running: true, arg: arg.to_string() });
-        self.made
+/// Counts the children until the run is over, a thousand times between two looks at the flag.
+fn read_until(supervisor: &RwLock<Supervisor>, reading: &Reading) {
+    let start = Instant::now();
+    let (mut reads, mut sum) = (0u64, 0u64);
+    loop {
+        for _ in 0..1000 {
+            sum = sum.wrapping_add(supervisor.read().unwrap().counts().active);
+            reads += 1;
+        }
+        if reading.over.load(Ordering::SeqCst) {
+            break;
+        }
     }
+    black_box(sum);
+    reading.nanoseconds.fetch_add(start.elapsed().as_nanos() as u64, Ordering::SeqCst);
+    reading.reads.fetch_add(reads, Ordering::SeqCst);
+}
 
-    fn exit(&mut self, number: u64) -> bool {
-        match self.rows.remove(&number) {
-            Some(child) => {
-                self.running -= u64::from(child.running);
-                !child.arg.is_empty()
-            }
-            None => false,
+/// Takes jobs, runs their bodies, which end at once, and posts their ends.
+fn work(jobs: &Mutex<Receiver<Note>>, post: SyncSender<Note>) {
+    loop {
+        let job = jobs.lock().unwrap().recv();
+        match job {
+            Ok(note) => post.send(note).unwrap(),
+            Err(_) => return,
         }
     }
 }
 
-/// The seconds of a run, and the nanoseconds a read.
-fn run(workers: usize, readers: usize) -> (f64, f64) {
-    let supervisor = RwLock::new(Supervisor::default());
-    let over = AtomicBool::new(false);
-    let (reads, asked) = (AtomicU64::new(0), AtomicU64::new(0));
-    let names: Vec<String> = (1..=CHILDREN).map(|n| format!("c{n}")).collect();
-    let mut took = 0.0;
-    thread::scope(|scope| {
-        for _ in 0..readers {
-            scope.spawn(|| {
-                let start = Instant::now();
-                let (mut count, mut sum) = (0u64, 0u64);
-                while !over.load(Ordering::SeqCst) {
-                    for _ in 0..1000 {
-                        sum = sum.wrapping_add(supervisor.read().unwrap().running);
-                        count += 1;
-                    }
-                }
-                std::hint::black_box(sum);
-                asked.fetch_add(start.elapsed().as_nanos() as u64, Ordering::SeqCst);
-                reads.fetch_add(count, Ordering::SeqCst);
-            });
+/// Starts the children and enters their exits, up to 64 under one lock; how many exits there were.
+fn drive(supervisor: &RwLock<Supervisor>, names: &[String], put_job: &Sender<Note>, inbox: &Receiver<Note>) -> u64 {
+    for name in names {
+        if let Reply::Started(number) = supervisor.write().unwrap().start(name, Answer::Running) {
+            put_job.send((number, name.clone())).unwrap();
         }
-        let start = Instant::now();
-        let (put_job, jobs) = channel::<(u64, String)>();
-        let jobs = Mutex::new(jobs);
-        let (post, inbox) = sync_channel::<(u64, String)>(1024);
-        thread::scope(|crew| {
-            for _ in 0..workers {
-                let post = post.clone();
-                let jobs = &jobs;
-                crew.spawn(move || loop {
-                    let job = jobs.lock().unwrap().recv();
-                    match job {
-                        Ok((number, arg)) => post.send((number, arg)).unwrap(),
-                        Err(_) => return,
-                    }
-                });
-            }
-            drop(post);
-            for name in &names {
-                let number = supervisor.write().unwrap().start(name);
-                put_job.send((number, name.clone())).unwrap();
-            }
-            let (mut exits, mut batch) = (0, Vec::with_capacity(64));
-            while exits < CHILDREN {
-                while batch.len() < 64 {
-                    match inbox.try_recv() {
-                        Ok(note) => batch.push(note),
-                        Err(TryRecvError::Empty) | Err(TryRecvError::Disconnected) => break,
-                    }
-                }
-                if batch.is_empty() {
-                    thread::yield_now();
-                    continue;
-                }
-                let mut locked = supervisor.write().unwrap();
-                for (number, _) in batch.drain(..) {
-                    exits += u64::from(locked.exit(number));
-                }
-            }
-            drop(put_job);
-        });
-        took = start.elapsed().as_secs_f64();
-        over.store(true, Ordering::SeqCst);
+    }
+    let (mut exits, mut batch) = (0, Vec::with_capacity(64));
+    while exits < CHILDREN {
+        batch.extend(inbox.try_iter().take(64));
+        if batch.is_empty() {
+            thread::yield_now();
+            continue;
+        }
+        let mut locked = supervisor.write().unwrap();
+        for (number, _) in batch.drain(..) {
+            exits += u64::from(matches!(locked.exit(number, true, |_| Answer::Running), Reply::Removed(_)));
+        }
+    }
+    exits
+}
+
+/// The nanoseconds of one crew, and its exits.
+fn run_crew(supervisor: &RwLock<Supervisor>, names: &[String], workers: usize) -> (u128, u64) {
+    let start = Instant::now();
+    let (put_job, jobs) = channel::<Note>();
+    let jobs = Mutex::new(jobs);
+    let (post, inbox) = sync_channel::<Note>(1024);
+    let exits = thread::scope(|crew| {
+        for _ in 0..workers {
+            let post = post.clone();
+            crew.spawn(|| work(&jobs, post));
+        }
+        drop(post);
+        let exits = drive(supervisor, names, &put_job, &inbox);
+        drop(put_job);
+        exits
     });
-    let reads = reads.load(Ordering::SeqCst).max(1);
-    (took, asked.load(Ordering::SeqCst) as f64 / reads as f64)
+    (start.elapsed().as_nanos(), exits)
+}
+
+fn measure(workers: usize, readers: usize) {
+    let supervisor = RwLock::new(Supervisor::new(template(Restart::Temporary, 0, CHILDREN as usize)));
+    let names: Vec<String> = (1..=CHILDREN).map(|n| format!("c{n}")).collect();
+    let reading = Reading::default();
+    let (took, exits) = thread::scope(|scope| {
+        for _ in 0..readers {
+            scope.spawn(|| read_until(&supervisor, &reading));
+        }
+        let ran = run_crew(&supervisor, &names, workers);
+        reading.over.store(true, Ordering::SeqCst);
+        ran
+    });
+    println!("child, {workers} workers, {readers} readers: {took} ns, {CHILDREN} times, answer {exits}");
+    if readers > 0 {
+        let reads = reading.reads.load(Ordering::SeqCst);
+        let asked = reading.nanoseconds.load(Ordering::SeqCst);
+        println!("read, {workers} workers, {readers} readers: {asked} ns, {reads} times, answer -");
+    }
 }
 
 fn main() {
     for (workers, readers) in [(1, 0), (4, 0), (1, 2), (4, 2), (1, 4), (4, 4)] {
-        let runs: Vec<_> = (0..3).map(|_| run(workers, readers)).collect();
-        let took = runs.iter().map(|r| r.0).fold(f64::MAX, f64::min);
-        let read = runs.iter().map(|r| r.1).fold(f64::MAX, f64::min);
-        println!(
-            "{workers} workers, {readers} readers: {:.2} microseconds a child, {read:.2} ns a read",
-            took * 1e6 / CHILDREN as f64
-        );
+        measure(workers, readers);
     }
 }
