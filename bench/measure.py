@@ -4,7 +4,6 @@ import re
 import statistics
 import subprocess
 import tempfile
-import time
 
 # What each program writes of each figure: how long so many took, and what came of the work (`-`: it hangs on the
 # schedule), which must be the same on both sides.
@@ -23,41 +22,32 @@ def machine():
     return f"{os.cpu_count()} cores, {models[0] if models else 'unknown processor'}; load {load:.1f} before the first run"
 
 
-def run(words, source=os.devnull):
+def run(launch, words, source=os.devnull):
     """Runs a program to its end. Returns its seconds, its most memory in KiB and the file with what it wrote."""
     out = tempfile.TemporaryFile()
-    with open(source, "rb") as file:
-        start = time.perf_counter()
-        child = subprocess.Popen(words, stdin=file, stdout=out)
-        _, status, usage = os.wait4(child.pid, 0)
-        took = time.perf_counter() - start
-    # (so that Popen does not wait for it again)
-    child.returncode = os.waitstatus_to_exitcode(status)
-    if child.returncode != 0:
-        raise Failed(f"{' '.join(words)} ended with status {child.returncode}")
-    if out.tell() == 0:
+    with open(source, "rb") as file, tempfile.NamedTemporaryFile() as told:
+        launched = subprocess.run([launch, told.name, *words], stdin=file, stdout=out)
+        what = told.read().split()
+    if launched.returncode != 0 or len(what) != 3:
+        raise Failed(f"{' '.join(words)} was not run")
+    status, took, memory = map(int, what)
+    if status != 0:
+        raise Failed(f"{' '.join(words)} ended with status {status}")
+    if memory <= 0:
+        raise Failed(f"{' '.join(words)}: its memory is not known")
+    if out.seek(0, os.SEEK_END) == 0:
         raise Failed(f"{' '.join(words)} wrote nothing")
     out.seek(0)
-    return took, usage.ru_maxrss, out
+    return took / 1e9, memory, out
 
 
-def least_memory():
-    """What wait4 says of a program that takes next to none: it counts this program's own until the other begins."""
-    child = subprocess.Popen(["true"])
-    _, _, usage = os.wait4(child.pid, 0)
-    child.returncode = 0
-    return usage.ru_maxrss
+def mebibytes(kibibytes):
+    return f"{kibibytes / 1024:.1f} MiB"
 
 
-def mebibytes(kibibytes, least):
-    if kibibytes <= least * 1.1:
-        return f"below {least * 1.1 / 1024:.0f} MiB"
-    return f"{kibibytes / 1024:.0f} MiB"
-
-
-def figures(words):
+def figures(launch, words):
     """One run of a program that tells its figures: nanoseconds each and answer by label, and the memory."""
-    _, memory, out = run(words)
+    _, memory, out = run(launch, words)
     lines = out.read().decode().splitlines()
     found = {}
     for line in lines:
@@ -72,15 +62,14 @@ def figures(words):
     return found, memory
 
 
-def compare(programs, rounds):
+def compare(launch, programs, rounds):
     """Runs the programs in turn, ours first, and writes how each peer compares with ours."""
     rows = {name: [] for name, _ in programs}
     memory = {name: 0 for name, _ in programs}
-    least = least_memory()
     for _ in range(rounds):
         for name, words in programs:
-            found, took = figures(words)
-            memory[name] = max(memory[name], took)
+            found, most = figures(launch, words)
+            memory[name] = max(memory[name], most)
             rows[name].append(found)
             check_same_work(rows["ours"][0], found, name)
     alone = {*rows["ours"][0]}
@@ -95,7 +84,7 @@ def compare(programs, rounds):
     for label in sorted(alone):
         took = [it[label][0] for it in rows["ours"]]
         print(f"ours alone, {label}: middle {told(statistics.median(took))}, best {told(min(took))}")
-    memories = ", ".join(f"{name} {mebibytes(it, least)}" for name, it in memory.items())
+    memories = ", ".join(f"{name} {mebibytes(it)}" for name, it in memory.items())
     print(f"most memory: {memories}", flush=True)
 
 

@@ -90,13 +90,13 @@ def is_same(one, other):
             return True
 
 
-def time_text(label, words, peer, name, rounds):
+def time_text(label, programs, name, rounds):
     """The milliseconds and the most memory of both on one text, in turn; both must write the same."""
     times, memory = ([], []), [0, 0]
     for _ in range(rounds):
         outs = []
-        for side, program in enumerate((words, peer)):
-            took, most, out = measure.run(program, name)
+        for side, program in enumerate(programs):
+            took, most, out = measure.run(*program, name)
             times[side].append(took * 1000)
             memory[side] = max(memory[side], most)
             outs.append(out)
@@ -109,19 +109,20 @@ def time_text(label, words, peer, name, rounds):
 
 def run(rounds):
     supload, plain = build.supload(), build.plain("scripts")
-    least = measure.least_memory()
+    launch = build.plain("launch")
     table, memories = {}, []
     with tempfile.TemporaryDirectory() as room:
         for command in ("script", "replay"):
             for size, alive in TEXTS:
                 name = os.path.join(room, "text")
                 label = drawn(command, size, alive, name)
-                times, memory = time_text(label, [supload, command], [plain, command], name, rounds)
+                programs = [(launch, [it, command]) for it in (supload, plain)]
+                times, memory = time_text(label, programs, name, rounds)
                 table[label] = times
                 memories.append((label, memory))
     print(f"plain Rust: best and middle of {rounds} rounds in turn, milliseconds of the whole program")
     measure.write_table(table)
     print("| text | most memory, ours | peer |\n|---|---|---|")
     for label, memory in memories:
-        print(f"| {label} | {' | '.join(measure.mebibytes(it, least) for it in memory)} |")
+        print(f"| {label} | {' | '.join(measure.mebibytes(it) for it in memory)} |")
     print(flush=True)

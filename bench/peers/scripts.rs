@@ -178,7 +178,7 @@ fn replay(input: &mut impl BufRead, out: &mut impl Write) -> io::Result<()> {
     let mut lines = text.lines();
     let header: Vec<&str> = lines.next().unwrap().split(' ').skip(2).collect();
     let entries: Vec<Entry> = lines.map(entry).collect();
-    let mut sup = Supervisor::new(template(&header));
+    let mut sup = Supervisor::growing(template(&header));
     for entry in &entries {
         step(&mut sup, entry.moment, &entry.operation, |_| entry.answer, out)?;
     }
@@ -189,7 +189,7 @@ fn script(input: &mut impl BufRead, out: &mut impl Write) -> io::Result<()> {
     let mut text = String::new();
     input.read_line(&mut text)?;
     let header: Vec<&str> = text.trim_end_matches('\n').split(' ').skip(1).collect();
-    let mut sup = Supervisor::new(template(&header));
+    let mut sup = Supervisor::growing(template(&header));
     loop {
         text.clear();
         if input.read_line(&mut text)? == 0 {

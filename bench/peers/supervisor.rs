@@ -82,6 +82,12 @@ impl Supervisor {
     /// A supervisor whose table is made at once for all the rows that it may have, as ours is.
     pub fn new(template: Template) -> Supervisor {
         let rows = HashMap::with_capacity(template.max);
+        Supervisor { rows, ..Supervisor::growing(template) }
+    }
+
+    /// A supervisor whose table grows with its rows.
+    pub fn growing(template: Template) -> Supervisor {
+        let rows = HashMap::new();
         Supervisor { template, rows, down: false, running: 0, made: 0, latest: 0, attempts: VecDeque::new() }
     }
 
