@@ -11,6 +11,9 @@ SEED = 17
 # Bytes, and how many children are alive once the first lines have started them.
 TEXTS = [(64 << 10, 100), (64 << 10, 1000), (1 << 20, 1000), (1 << 20, 10000), (16 << 20, 1000), (16 << 20, 60000)]
 
+HEAD_OF_SCRIPT = "sup permanent worker 1000 1 65536\n"
+HEAD_OF_HISTORY = "history 2 permanent worker 1000 1 65536 plain never\n"
+
 
 class Drawing:
     """The lines of one text: first the starts, and then a drawn mix that keeps as many children alive."""
@@ -55,8 +58,7 @@ class Drawing:
 
     def write(self, file, size):
         """Writes lines up to this size."""
-        head = "history 2 permanent worker 1000 1 65536 plain never\n" if self.is_history else "sup permanent worker 1000 1 65536\n"
-        total = file.write(head)
+        total = file.write(HEAD_OF_HISTORY if self.is_history else HEAD_OF_SCRIPT)
         while True:
             line, does = self.line()
             total += len(line)
