@@ -104,11 +104,16 @@ def write_table(table, unit=""):
     for label, (ours, peer) in table.items():
         middles = statistics.median(ours), statistics.median(peer)
         bests = min(ours), min(peer)
-        cells = [f"{middles[0] / middles[1]:.2f}", f"{bests[0] / bests[1]:.2f}"]
+        cells = [ratio(*middles), ratio(*bests)]
         for side in (0, 1):
             cells += [told(middles[side]) + unit, told(bests[side]) + unit]
         print(f"| {label} | {' | '.join(cells)} |")
     print(flush=True)
+
+
+def ratio(ours, peer):
+    value = ours / peer
+    return f"{value:.2f}" if value >= 0.1 else f"{value:.4f}"
 
 
 def told(value):
