@@ -10,7 +10,7 @@ use sup_log::Ticket;
 use sup_types::{Reason, Text};
 
 /// A child that was made and is to run, of the desk that N names: its number, the argument with which it was started, and a
-/// ticket of the update that made it. It can't be copied, and is used up by the one run of its body.
+/// ticket of the update that made it. It is given to its body by value.
 #[derive(Drop)]
 pub struct Job<N: Name> {
     /// The number of the child.
