@@ -2,10 +2,8 @@
 //! refused, and looks at what a refusal leaves.
 ghost use Rattle.std.specs.Prelude.{◌≡◌};
 
-use super::batches::stamp_of;
-use super::{
-    Always, batched, call, ground, listed, made, queue, replied, reply_of, template, text,
-};
+use super::batches::{are_left, enter_rest, stamp_of};
+use super::{Always, call, ground, listed, made, queue, replied, reply_of, template, text};
 use std::alloc::Global;
 use std::collections::VecDeque;
 use std::marker::Brand;
@@ -109,14 +107,6 @@ fn are_first(rt: &impl Abort, replies: &[Reply], stamp: Option<u64>) -> usize {
     count
 }
 
-/// The queue has what comes in the batch from this place on, in order.
-fn are_left(rt: &impl Abort, operations: &VecDeque<Operation>, from: usize) {
-    assert!(rt; operations.len() == BATCH.len().saturating_sub(from));
-    for (place, operation) in operations.iter().enumerate() {
-        assert!(rt; *operation == batched(rt, from.saturating_add(place)));
-    }
-}
-
 fn bear_batch<N: Name, R: Wait + Abort>(
     rt: &R,
     alloc: Global,
@@ -139,25 +129,10 @@ fn apply_twice<N: Name, R: Wait + Abort>(
 ) {
     let first = entered(rt, handle.apply_all(rt, alloc, 0, operations));
     assert!(rt; handle.front() == first as u64);
-    are_left(rt, operations, first);
+    are_left(rt, operations, first, BATCH.len());
     assert!(rt; first <= BATCH.len());
-    enter_rest(rt, alloc, handle, operations, &BATCH[first..]);
-    enter_rest(rt, alloc, handle, operations, &[]);
-}
-
-/// What was left is entered, with these replies, where anything was.
-fn enter_rest<N: Name, R: Wait + Abort>(
-    rt: &R,
-    alloc: Global,
-    handle: &mut Handle<'_, N, Always, &R>,
-    operations: &mut VecDeque<Operation>,
-    replies: &[Reply],
-) {
-    let Ok(done) = handle.apply_all(rt, alloc, 0, operations) else {
-        panic!(rt; "the rest is entered");
-    };
-    assert!(rt; done.replies.as_slice() == replies);
-    assert!(rt; (done.ticket.stamp(), handle.front(), operations.len()) == (5, 5, 0));
+    enter_rest(rt, alloc, handle, operations, &BATCH[first..], 5);
+    enter_rest(rt, alloc, handle, operations, &[], 5);
 }
 
 #[test]

@@ -196,15 +196,16 @@ fn is_second<N: Name, R: Wait + Abort>(rt: &R, handle: &mut Handle<'_, N, Always
     assert!(rt; row.is_running() && row.arg.bytes() == b"b".as_slice());
 }
 
-/// The same of a look at the fourth, which a ticket then carries.
+/// The same of a look at the fourth. Its ticket is learnt, and the handle then gives one that carries it.
 fn ask_view<N: Name, R: Wait + Abort>(
     rt: &R,
     first: &mut Handle<'_, N, Always, &R>,
     second: &mut Handle<'_, N, Always, &R>,
 ) {
-    start(rt, first, 4);
+    let done = first.start_child(rt, 0, text(rt, "d"));
     let seen = second.inspect(|view| (view.stamp(), view.counts().active));
     assert!(rt; seen.ok() == Some(Seen::Up((4, 4))));
+    assert!(rt; learns(rt, second, done) == Reply::Started(4));
     assert!(rt; stamp(rt, second) == Some(4));
 }
 

@@ -132,6 +132,7 @@ fn swap<N: Name, R: Wait + Abort>(
     let theirs = passed.lock(rt).replace(mine);
     if let Some(theirs) = theirs {
         assert!(rt; handle.learn(&theirs.ticket).is_ok());
+        assert!(rt; theirs.ticket.stamp() <= handle.front());
     }
 }
 
