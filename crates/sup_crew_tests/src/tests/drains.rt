@@ -17,6 +17,9 @@ const EXITS: [(u64, &str); 3] = [(1, "a"), (2, "b"), (7, "z")];
 
 const REPLIES: [Reply; 3] = [Reply::Removed(1), Reply::Removed(2), Reply::Stray(7)];
 
+/// How many exits a drain entered, and what it was refused.
+type Told = (usize, Option<UpdateFault>);
+
 /// The note of this place.
 fn note(rt: &impl Abort, place: usize) -> Note {
     let (number, arg) = EXITS[place.min(2)];
@@ -34,15 +37,15 @@ fn note(rt: &impl Abort, place: usize) -> Note {
 fn entered(rt: &impl Abort, done: &Drained, from: usize) -> usize {
     let count = done.pairs.len();
     let stamp = match &done.ticket {
-        Some(ticket) => ticket.stamp(),
-        None => 0,
+        Some(ticket) => Some(ticket.stamp()),
+        None => None,
     };
     let wanted = if count == 0 {
-        0
+        None
     } else {
-        from.saturating_add(count).saturating_add(2)
+        Some(from.saturating_add(count).saturating_add(2) as u64)
     };
-    assert!(rt; stamp == wanted as u64);
+    assert!(rt; stamp == wanted);
     assert_pairs(rt, done.pairs.as_slice(), from);
     count
 }
@@ -55,36 +58,32 @@ fn assert_pairs(rt: &impl Abort, pairs: &[(Note, Reply)], from: usize) {
 }
 
 /// What a drain entered from this place on, and what it was refused.
-fn told(
-    rt: &impl Abort,
-    answer: Result<Drained, DrainFault>,
-    from: usize,
-) -> (usize, Option<UpdateFault>) {
+fn told(rt: &impl Abort, answer: Result<Drained, DrainFault>, from: usize) -> Told {
     match answer {
         Ok(done) => (entered(rt, &done, from), None),
         Err(met) => (entered(rt, &met.done, from), Some(met.fault)),
     }
 }
 
-/// Two children are started, the three exits are posted, and the drains come. What is refused for want of memory is made a
-/// second time.
+/// Two children are started, the three exits are posted, and the drains come. The first ends as is wanted; where nothing is
+/// wanted of it, memory may be refused. What else is refused for want of memory is made a second time.
 fn start_and_drain<N: Name, R: Wait + Abort>(
     rt: &R,
     alloc: Global,
     ground: Ground<&R>,
-    is_full: bool,
+    wanted: Option<Told>,
 )
     requires { (ground.press ≡ N.press) × (ground.template ≡ N.template) }
 {
     let desk: Desk<N, Always, &R> = Desk::new(ground, Always);
-    drain_on(rt, alloc, &desk, is_full);
+    drain_on(rt, alloc, &desk, wanted);
 }
 
 fn drain_on<N: Name, R: Wait + Abort>(
     rt: &R,
     alloc: Global,
     desk: &Desk<N, Always, &R>,
-    is_full: bool,
+    wanted: Option<Told>,
 ) {
     let mut handle = match desk.handle(rt) {
         Ok(handle) => handle,
@@ -92,7 +91,7 @@ fn drain_on<N: Name, R: Wait + Abort>(
     };
     start(rt, &mut handle, "a");
     start(rt, &mut handle, "b");
-    drain_by(rt, alloc, &mut handle, is_full);
+    drain_by(rt, alloc, &mut handle, wanted);
 }
 
 fn start<N: Name, R: Wait + Abort>(rt: &R, handle: &mut Handle<'_, N, Always, &R>, arg: &str) {
@@ -106,15 +105,14 @@ fn drain_by<N: Name, R: Wait + Abort>(
     rt: &R,
     alloc: Global,
     handle: &mut Handle<'_, N, Always, &R>,
-    is_full: bool,
+    wanted: Option<Told>,
 ) {
     let (inbox, root) = inbox(rt, alloc);
     let (posters, taker) = split(rt, alloc, &inbox, root);
     post_three(rt, &inbox, posters);
-    if is_full {
-        drain_into_full(rt, alloc, &inbox, taker, handle);
-    } else {
-        drain_all(rt, alloc, &inbox, taker, handle);
+    match wanted {
+        Some(wanted) => drain_twice(rt, alloc, &inbox, taker, handle, wanted),
+        None => drain_all(rt, alloc, &inbox, taker, handle),
     }
 }
 
@@ -154,23 +152,31 @@ fn post_three<R: Wait + Abort>(rt: &R, inbox: &Inbox, posters: Vec<Poster>)
     }
 }
 
-/// The history has room for two exits: the third stays held, however often it is tried.
-fn drain_into_full<N: Name, R: Wait + Abort>(
+/// The first drain ends as is wanted. A second one enters nothing: what is left stays held, however often it is tried.
+fn drain_twice<N: Name, R: Wait + Abort>(
     rt: &R,
     alloc: Global,
     inbox: &Inbox,
     taker: Taker,
     handle: &mut Handle<'_, N, Always, &R>,
+    wanted: Told,
 )
     requires { taker.inbox ≡ inbox.now.id }
 {
     let mut drain = Drain::new(taker);
     let first = told(rt, drain.drain(rt, alloc, inbox, handle, 1, 64), 0);
-    assert!(rt; first == (2, Some(UpdateFault::HistoryFull)));
-    let second = told(rt, drain.drain(rt, alloc, inbox, handle, 1, 64), 2);
-    assert!(rt; second == (0, Some(UpdateFault::HistoryFull)));
-    let held = drain.end().1;
-    assert!(rt; held.as_slice() == [note(rt, 2)].as_slice());
+    assert!(rt; first == wanted);
+    let second = told(rt, drain.drain(rt, alloc, inbox, handle, 1, 64), wanted.0);
+    assert!(rt; second == (0, wanted.1));
+    are_held(rt, drain.end().1.as_slice(), wanted.0);
+}
+
+/// These are the notes from this place on.
+fn are_held(rt: &impl Abort, held: &[Note], from: usize) {
+    assert!(rt; held.len() == EXITS.len().saturating_sub(from));
+    for (place, held) in held.iter().enumerate() {
+        assert!(rt; *held == note(rt, place.saturating_add(from)));
+    }
 }
 
 /// All three are entered: at once, or in two drains where memory is refused to the first.
@@ -205,15 +211,19 @@ fn ground<R: Wait + Abort>(rt: &R, alloc: Global, entries: u64) -> Ground<&R> {
     panic!(rt; "memory")
 }
 
+/// The history has room for two exits, and for all three.
 #[test]
 fn a_full_history_leaves_a_note_held(rt: HostRuntime) {
     let alloc = rt.alloc();
-    start_and_drain::<Brand, HostRuntime>(&rt, alloc, ground(&rt, alloc, 4), true);
+    for (entries, wanted) in [(4, (2, Some(UpdateFault::HistoryFull))), (5, (3, None))] {
+        let ground = ground(&rt, alloc, entries);
+        start_and_drain::<Brand, HostRuntime>(&rt, alloc, ground, Some(wanted));
+    }
 }
 
 /// It passes whichever allocation is refused.
 #[test]
 fn a_drain_enters_later_what_it_was_refused(rt: HostRuntime) {
     let alloc = rt.alloc();
-    start_and_drain::<Brand, HostRuntime>(&rt, alloc, ground(&rt, alloc, 5), false);
+    start_and_drain::<Brand, HostRuntime>(&rt, alloc, ground(&rt, alloc, 5), None);
 }

@@ -153,8 +153,10 @@ fn exits_of_children_that_were_ended_are_strays(rt: HostRuntime) -> Result<(), F
     run_and_end::<Brand, HostRuntime>(&rt, rt.alloc(), ground)
 }
 
-/// Whatever is refused.
+/// It passes whichever allocation is refused: where the first run is refused it, a second one is not.
 #[test]
 fn a_run_bears_a_refusal(rt: HostRuntime) {
-    assert!(rt; run_with(&rt, rt.alloc(), 4) != Some(Err(CrewFault::NoHandle)));
+    let first = run_with(&rt, rt.alloc(), 4);
+    assert!(rt; first != Some(Err(CrewFault::NoHandle)));
+    assert!(rt; first == Some(Ok(())) || run_with(&rt, rt.alloc(), 4) == Some(Ok(())));
 }

@@ -6,7 +6,7 @@ use std::alloc::Global;
 use std::marker::Brand;
 use std::process::Abort;
 use std::sync::Wait;
-use std::sync::atomic::{AtomicBool, Ordering};
+use std::sync::atomic::{AtomicBool, AtomicUsize, Ordering};
 use std::test::*;
 use std::thread;
 use std::thread::Threads;
@@ -17,6 +17,8 @@ use sup_types::{AutoShutdown, Kind, Reason, Restart, Row as Child, Seen, Templat
 /// Each body ends at once, but for that of child 1 where it is to wait until that of child 2 has begun.
 #[derive(Drop)]
 pub struct Ends {
+    /// How often a body was run.
+    runs: AtomicUsize,
     waits: bool,
     second: AtomicBool,
     met: AtomicBool,
@@ -28,6 +30,7 @@ impl Body for Ends {
     ghost may_end = { λ body number arg reason. reason ≡ Normal };
 
     fn run<N: Name>(&self, job: Job<N>, _asker: &mut Asker<N>) -> Reason {
+        self.runs.fetch_add(1, Ordering::SeqCst);
         let number = job.number;
         if number == 2 {
             self.second.store(true, Ordering::SeqCst);
@@ -48,6 +51,7 @@ impl Body for Ends {
 impl Ends {
     pub fn new(waits: bool) -> Ends {
         Ends {
+            runs: AtomicUsize::new(0),
             waits,
             second: AtomicBool::new(false),
             met: AtomicBool::new(false),
@@ -133,10 +137,12 @@ pub fn plan(rt: &impl Abort, alloc: Global, row: &Row) -> Option<Plan>
     })
 }
 
-/// That the bodies met where they were to, that the report says what it is to say, and that each child that was made ended
-/// or stands in one of its lists. How many did not end.
+/// That the bodies met where they were to, that one was run for each child that was made and is not left, that the report
+/// says what it is to say, and that each child that was made ended or stands in one of its lists. How many did not end.
 fn assert_report<N: Name>(rt: &impl Abort, row: &Row, body: &Ends, report: &Report<N>) -> u64 {
     assert!(rt; body.met.load(Ordering::SeqCst) == row.waits);
+    let runs = body.runs.load(Ordering::SeqCst);
+    assert!(rt; runs.wrapping_add(report.left.len()) as u64 == report.made);
     assert_counts(rt, row.counts, report);
     assert!(rt; report.fault == row.fault);
     assert!(rt; report.unstarted.is_empty());
@@ -269,6 +275,7 @@ const ROWS: [Row; 8] = [
     },
     Row {
         max: 2,
+        workers: 1,
         counts: [2, 0, 0, 0, 0, 1],
         exits: Some(2),
         ..USUAL
@@ -420,7 +427,9 @@ pub fn run_with<R: Threads + Wait + Abort + Sync>(
 
 #[test]
 fn a_desk_with_too_few_handles_begins_no_run(rt: HostRuntime) {
-    assert!(rt; run_with(&rt, rt.alloc(), 2) == Some(Err(CrewFault::NoHandle)));
+    for handles in [1, 2, 3] {
+        assert!(rt; run_with(&rt, rt.alloc(), handles) == Some(Err(CrewFault::NoHandle)));
+    }
 }
 
 /// One child, whose end is entered.
