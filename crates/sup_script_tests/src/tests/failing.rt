@@ -88,7 +88,7 @@ fn stops_in_the_line_whose_reply_is_cut(rt: HostRuntime) {
 
 /// How many bytes the replies to the lines of the first so many bytes of the script are: each line but the header has a
 /// reply of one line.
-fn reply_bytes(replies: &[u8], lines: usize) -> usize {
+pub fn reply_bytes(replies: &[u8], lines: usize) -> usize {
     let mut left = lines;
     for (i, byte) in replies.iter().enumerate() {
         if left <= 1 {

@@ -1,4 +1,5 @@
 //! Each growth of a call refused in turn.
+use super::failing::reply_bytes;
 use super::{HISTORY, STRAY};
 use linked_list_allocator::LocalHeap;
 use std::alloc::{AllocError, Global};
@@ -98,13 +99,14 @@ fn run_writes_whole_replies_whatever_is_refused(rt: HostRuntime) -> Result<(), F
         "sup permanent worker 1 5 10\n",
         "exit 1 1 normal\n",
     )?;
-    let mut met = Met::NOWHERE;
+    let (mut met, mut done) = (Met::NOWHERE, false);
     for size in 0..10_000usize {
-        if met.note(run_within(&rt, rt.alloc(), script.as_slice(), size * 64)?) {
+        done = met.note(run_within(&rt, rt.alloc(), script.as_slice(), size * 64)?);
+        if done {
             break;
         }
     }
-    assert!(rt; met == Met::EVERYWHERE);
+    assert!(rt; done && met == Met::EVERYWHERE);
     Ok(())
 }
 
@@ -167,7 +169,7 @@ fn replay_within(
     Ok(ended)
 }
 
-/// The same of a replay: while the text is read, and where its entries are to be answered.
+/// The same of a replay, while the text is read: its replies take less than the reading has given back by then.
 #[test]
 fn replay_writes_whole_replies_whatever_is_refused(rt: HostRuntime) -> Result<(), Fail> {
     let text = long_text(
@@ -175,14 +177,52 @@ fn replay_writes_whole_replies_whatever_is_refused(rt: HostRuntime) -> Result<()
         "history 1 permanent worker 1 5 10\n",
         "1 0 0 exit 1 normal ignore\n",
     )?;
-    let mut met = Met::NOWHERE;
+    let (mut met, mut done) = (Met::NOWHERE, false);
     for size in 0..10_000usize {
-        if met.note(replay_within(&rt, rt.alloc(), text.as_slice(), size * 64)?) {
+        done = met.note(replay_within(&rt, rt.alloc(), text.as_slice(), size * 64)?);
+        if done {
             break;
         }
     }
-    assert!(rt; met.first && met.last);
+    assert!(rt; done && met.first && met.last);
     Ok(())
+}
+
+/// Room for the replies to the worked history text. Where it is refused, it is made a second time.
+fn room(rt: &impl Abort, alloc: Global) -> Vec<u8> {
+    let len = HISTORY.1.len();
+    match Vec::with_capacity(alloc, len) {
+        Ok(out) => out,
+        Err(_) => Vec::with_capacity(alloc, len).expect(rt, "memory"),
+    }
+}
+
+/// Replays the worked history text. Whether memory was there for all of it.
+fn replay_worked(rt: &impl Abort, alloc: Global) -> bool {
+    let mut reader = WatchedReader::new(HISTORY.0.as_bytes());
+    let mut out = WatchedWriter::new(room(rt, alloc));
+    let ended = replay(alloc, &mut reader, &mut out);
+    // (memory that is refused past the last line is that of a read)
+    let lines = match answered(rt, ended) {
+        4 => 0,
+        lines => lines as usize,
+    };
+    assert_replies(rt, lines, out.into_writer().as_slice());
+    ended.is_ok()
+}
+
+/// That the replies to so many lines of the worked history text were written, and no more.
+fn assert_replies(rt: &impl Abort, lines: usize, out: &[u8]) {
+    let replies = HISTORY.1.as_bytes();
+    let count = reply_bytes(replies, lines);
+    assert!(rt; count <= replies.len());
+    assert!(rt; out == &replies[..count]);
+}
+
+/// It passes whichever allocation is refused. The text that waits for its writer grows at each of the three replies.
+#[test]
+fn replay_writes_the_replies_before_a_refusal(rt: HostRuntime) {
+    assert!(rt; replay_worked(&rt, rt.alloc()) || replay_worked(&rt, rt.alloc()));
 }
 
 /// How far a history text came.
