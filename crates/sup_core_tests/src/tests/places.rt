@@ -5,7 +5,7 @@ use std::alloc::Allocator;
 use std::process::Abort;
 use std::test::Fail;
 use sup_core::Sup;
-use sup_types::{Answer, AutoShutdown, Entry, Kind, OutOfMemory, Reply, Restart, Seen};
+use sup_types::{Answer, AutoShutdown, Counts, Entry, Kind, OutOfMemory, Reply, Restart, Seen};
 
 /// The rows have these numbers.
 fn are_listed<A: Allocator + Copy>(
@@ -103,6 +103,14 @@ fn a_child_that_was_found_is_restarted_wherever_it_stands(rt: HostRuntime) -> Re
     Ok(())
 }
 
+/// One child, which runs.
+const ONE: Counts = Counts {
+    specs: 1,
+    active: 1,
+    supervisors: 0,
+    workers: 1,
+};
+
 /// Whether the rows were copied. A supervisor that is refused them is as before.
 fn copies_rows(rt: &impl Abort, heap: &LocalHeap, sup: &Sup<&LocalHeap>) -> bool {
     let used = heap.used();
@@ -110,7 +118,7 @@ fn copies_rows(rt: &impl Abort, heap: &LocalHeap, sup: &Sup<&LocalHeap>) -> bool
         return true;
     }
     assert_eq!(rt; (heap.used(), sup.stamp()), (used, 1));
-    assert!(rt; matches!(sup.counts(), Seen::Up(counts) if counts.workers == 1));
+    assert!(rt; sup.counts() == Seen::Up(ONE));
     false
 }
 
