@@ -6,15 +6,21 @@ use super::{lens, press, started, template};
 use std::process::Abort;
 use std::sync::Wait;
 use sup_log::{Lens, Press};
-use sup_types::OutOfMemory;
+use sup_types::{Counts, OutOfMemory};
 
 /// How many rows a look lists. Where the list is refused the view is as before, and the next look has it.
 fn listed(rt: &impl Abort, lens: &mut Lens, workers: u64) -> Option<usize> {
+    let counts = Counts {
+        specs: 1,
+        active: workers,
+        supervisors: 0,
+        workers,
+    };
     for _ in 0..2 {
         let (rows, seen) = lens
-            .look(|view| (view.rows(), (view.stamp(), view.counts().workers)))
+            .look(|view| (view.rows(), (view.stamp(), view.counts())))
             .ok()?;
-        assert!(rt; seen == (workers, workers));
+        assert!(rt; seen == (workers, counts));
         if let Ok(rows) = rows {
             return Some(rows.len());
         }
