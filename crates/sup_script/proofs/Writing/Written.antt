@@ -1,9 +1,7 @@
 -- Lines that are written word by word.
-use Rattle.std.proofs.Common.{◌≡◌, ℕ, ◌+◌, ◌<◌, ◌≤◌, ◌^◌, ◌/◌, ◌%◌, get_or, take, List, [], ◌∷◌, ◌++◌, length, refl, sym, ap, ◌∙◌, append_assoc, append-nil, arith, map, Result, Ok, Err}
+use Rattle.std.proofs.Common.{◌≡◌, ℕ, ◌+◌, ◌<◌, get_or, take, List, [], ◌∷◌, ◌++◌, length, refl, sym, ap, ◌∙◌, append_assoc, append-nil, arith, map, Result, Ok, Err}
 use Rattle.std.specs.Prelude.{OnErr}
 use Rattle.std.specs.List.{join_with_byte}
-use Rattle.std.specs.Fmt.{decimal}
-use Rattle.std.proofs.lemmas.Fmt.{decimal_step, decimal_digit}
 use Rattle.std.proofs.lemmas.List.{take_more, map_push, length-map, length-take-le}
 use Rattle.sup_script.specs.declared.write.reply.Field.{Field}
 use Rattle.sup_script.specs.Writing.Replies.{Grows, field_word}
@@ -29,17 +27,6 @@ Grows-more xs ys zs more e g = (more ++ g.0, g.1 ∙ ap (λ (l : List ℕ). l ++
 pub grows_on_err : {X E : Type 0} (r : Result X E) (xs ys zs more : List ℕ) → ys ≡ xs ++ more → OnErr r (Grows ys zs) → OnErr r (Grows xs zs)
 grows_on_err (Ok x) xs ys zs more e g = tt
 grows_on_err (Err x) xs ys zs more e g = Grows-more xs ys zs more e g
-
--- ---- a number, digit by digit
-
-pub digits_appended : (n : ℕ) (old mid new : List ℕ) → n < 2 ^ 64 → 10 ≤ n → mid ≡ old ++ decimal (n / 10) → new ≡ mid ++ (48 + n % 10) ∷ [] → new ≡ old ++ decimal n
-digits_appended n old mid new fits large front last =
-    last ∙ ap (λ (l : List ℕ). l ++ (48 + n % 10) ∷ []) front ∙ append_assoc old (decimal (n / 10)) ((48 + n % 10) ∷ []) ∙ ap (λ (l : List ℕ). old ++ l) (sym (decimal_step n large fits))
-
-pub digit_appended : (n : ℕ) (old mid new : List ℕ) → n < 10 → mid ≡ old → new ≡ mid ++ (48 + n % 10) ∷ [] → new ≡ old ++ decimal n
-digit_appended n old mid new small same last =
-    let digit : n % 10 ≡ n = omega arith in
-    last ∙ ap (λ (l : List ℕ). l ++ (48 + n % 10) ∷ []) same ∙ ap (λ d. old ++ (48 + d) ∷ []) digit ∙ ap (λ (l : List ℕ). old ++ l) (sym (decimal_digit n small))
 
 -- ---- a line, word by word
 

@@ -6,6 +6,7 @@ ghost use Rattle.std.specs.Fmt.{decimal};
 ghost use Rattle.sup_core.specs.State.{MatchSeen};
 ghost use Rattle.sup_script.specs.Writing.Replies.{line_of, reply_text, row_text, rows_text, which_text, count_text, refusal_text, status_word, field_word, spaced, Grows};
 
+use itoa::Buffer;
 use std::alloc::{AllocError, Allocator};
 use sup_types::{Counts, OutOfMemory, Refusal, Reply, Row, Seen, Status};
 
@@ -235,9 +236,6 @@ fn append_number<A: Allocator>(out: &mut Vec<u8, A>, number: u64) -> Result<(), 
     ensures ok { OnOk result (out.new.items ≡ out.old.items ++ decimal number) }
     ensures err { OnErr result (Grows out.old.items out.new.items) }
 {
-    if number >= 10 {
-        append_number(out, number / 10)?;
-    }
-    out.push(b'0' + (number % 10) as u8)?;
-    Ok(())
+    let mut digits = Buffer::new();
+    out.extend_from_slice(digits.format(number).as_bytes())
 }
