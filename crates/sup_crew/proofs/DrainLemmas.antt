@@ -1,6 +1,6 @@
 -- What a drain entered, and what it holds.
 use Rattle.std.proofs.Common.{◌≡◌, ℕ, zero, suc, ◌+◌, ◌-◌, ◌<◌, ◌≤◌, List, [], ◌∷◌, ◌++◌, length, length-append, take, get_or, refl, sym, ap, ◌∙◌, arith, append_assoc, subst, Option, Some, None, min, ◌⊎◌, inl, inr}
-use Rattle.std.specs.Prelude.{remove, IfSome, IfNone}
+use Rattle.std.specs.Prelude.{IfSome, IfNone}
 use native.Mathlib.Decide.{dec_le}
 use mathlib.Core.Logic.{dite}
 use Rattle.std.proofs.Math.Seq.{take-append_seam}
@@ -69,10 +69,6 @@ notes_of-length (p ∷ ps) = ap suc (notes_of-length ps)
 pub replies_of-length : (ps : List (Note × Reply)) → length (replies_of ps) ≡ length ps
 replies_of-length [] = refl
 replies_of-length (p ∷ ps) = ap suc (replies_of-length ps)
-
-pub uncons : (xs rest : List Note) (x : Note) → 0 < length xs → x ≡ get_or xs 0 x → rest ≡ remove xs 0 → xs ≡ x ∷ rest
-uncons [] rest x some is e = absurd (omega arith)
-uncons (y ∷ ys) rest x some is e = λ i. sym is i ∷ sym e i
 
 -- the first note with its reply
 pub notes-next : (pairs pairs' : List (Note × Reply)) (held held' all : List Note) (note : Note) (reply : Reply) → pairs' ≡ pairs ++ (note, reply) ∷ [] → held ≡ note ∷ held' → notes_of pairs ++ held ≡ all → notes_of pairs' ++ held' ≡ all

@@ -105,8 +105,12 @@ fn pair_up(
     ensures notes { notes_of result.items ++ held.new.items ≡ held.old.items }
 {
     let mut pairs = pairs;
-    for reply in replies {
-        let note = held.remove(0);
+    let count = replies.len();
+    let mut rest = replies.into_iter();
+    for note in held.drain(..count) {
+        let Some(reply) = rest.next() else {
+            unreachable!()
+        };
         // Names the reason: the borrow checker of this kit asks where its type is declared.
         let reason = note.reason;
         pairs.push_reserved((Note { reason, ..note }, reply));
