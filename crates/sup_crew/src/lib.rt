@@ -7,8 +7,8 @@
 //! child, and nothing else. Each child that it made, with its argument, ended by one of these exits, or is told of by a note
 //! that is held, left in the inbox or was not posted, or its job is left; and the report's numbers are those of the driver's
 //! updates by what was replied. A [`Drain`] can be used alone: it enters each note that it took once, in order, by one
-//! publication for up to 64 of them, or holds it. A body is given its [`Job`] by value, which can't be copied, and asks through
-//! an [`Asker`](sup_desk::Asker), which makes no update and has seen that the body's child was made.
+//! publication for up to 64 of them, or holds it. A body is given its [`Job`] by value, and asks through an
+//! [`Asker`](sup_desk::Asker), which makes no update and has seen that the body's child was made.
 //!
 //! ```text
 //! let plan = Plan { children, workers: 4, inbox: 64, turns: 1 << 20, moment: 0 };
