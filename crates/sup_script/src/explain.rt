@@ -3,12 +3,12 @@
 //! A fault names its line by a number. An [`Explanation`] shows the line, marks the place in it, and says what may stand
 //! there. It reads the line word by word with the functions that read commands and entries.
 pub mod faulty;
+mod place;
 mod shape;
 mod walk;
-mod wanted;
 
+use crate::explain::place::{END, Form, Place};
 use crate::explain::walk::{Misfit, first_misfit, first_out_of_range, mark_of};
-use crate::explain::wanted::Wanted;
 use crate::fault::{Fault, ScriptFault};
 use crate::read::words::read_number;
 pub use faulty::FaultyLine;
@@ -20,20 +20,38 @@ use strsim::osa_distance;
 /// What is wrong at a place of a line.
 #[derive(Clone, Copy)]
 enum Wrong {
-    LineEnds,
-    EmptyWord,
+    /// What these words say.
+    Said(&'static str),
     OddByte(u8),
     TextOf(usize),
-    TextIsLonger,
-    NoNumber,
-    TooMuch,
-    Unknown,
     Near(&'static str),
-    OutOfRange,
-    PermanentIsSignificant,
-    SignificantStaysUp,
-    Unended,
 }
+
+const LINE_ENDS: Wrong = Wrong::Said("the line ends here");
+
+const EMPTY_WORD: Wrong = Wrong::Said(
+    "no word stands here: there is one space between two words, and none at a line's beginning or end",
+);
+
+const TEXT_IS_LONGER: Wrong = Wrong::Said("this text has more than 40 bytes");
+
+const NO_NUMBER: Wrong = Wrong::Said(
+    "this is no number: digits alone, no sign, no leading zero, at most 18446744073709551615",
+);
+
+const TOO_MUCH: Wrong = Wrong::Said("the line has more words than it may have");
+
+const UNKNOWN: Wrong = Wrong::Said("this can't stand here");
+
+const OUT_OF_RANGE: Wrong = Wrong::Said("this number is out of its range");
+
+const PERMANENT_IS_SIGNIFICANT: Wrong = Wrong::Said("a permanent child can't be significant");
+
+const SIGNIFICANT_STAYS_UP: Wrong = Wrong::Said(
+    "a significant child needs the automatic shutdown `any` or `all`",
+);
+
+const UNENDED: Wrong = Wrong::Said("the line lacks its line feed");
 
 /// What is wrong with a line of a script or of a history text, where, and what may stand there. It is shown by three
 /// lines: the line itself, a mark under the place with what is wrong, and what was expected.
@@ -43,7 +61,7 @@ pub struct Explanation<'a> {
     from: usize,
     marked: usize,
     wrong: Wrong,
-    wanted: Wanted,
+    place: Place,
 }
 
 impl<'a> Explanation<'a> {
@@ -79,8 +97,8 @@ fn explain_line<A: Allocator + Copy>(
             line,
             from: line.bytes().len(),
             marked: 1,
-            wrong: Wrong::Unended,
-            wanted: Wanted::End,
+            wrong: UNENDED,
+            place: END,
         },
     }
 }
@@ -88,7 +106,7 @@ fn explain_line<A: Allocator + Copy>(
 /// Explains why no template has the parts that a first line names.
 fn explain_template(format: Format, line: &FaultyLine) -> Option<Explanation<'_>> {
     if let Some(misfit) = first_out_of_range(format, line.bytes()) {
-        return Some(explain_at(line, &misfit, Wrong::OutOfRange));
+        return Some(explain_at(line, &misfit, OUT_OF_RANGE));
     }
     let misfit = mark_of(format, line.bytes())?;
     let is_permanent = line
@@ -96,9 +114,9 @@ fn explain_template(format: Format, line: &FaultyLine) -> Option<Explanation<'_>
         .split(|byte| *byte == b' ')
         .any(|word| word == b"permanent".as_slice());
     if is_permanent {
-        return Some(explain_at(line, &misfit, Wrong::PermanentIsSignificant));
+        return Some(explain_at(line, &misfit, PERMANENT_IS_SIGNIFICANT));
     }
-    Some(explain_at(line, &misfit, Wrong::SignificantStaysUp))
+    Some(explain_at(line, &misfit, SIGNIFICANT_STAYS_UP))
 }
 
 fn explain_at<'a>(line: &'a FaultyLine, misfit: &Misfit, wrong: Wrong) -> Explanation<'a> {
@@ -111,32 +129,29 @@ fn explain_at<'a>(line: &'a FaultyLine, misfit: &Misfit, wrong: Wrong) -> Explan
         from: line.bytes().len().saturating_sub(misfit.left),
         marked,
         wrong,
-        wanted: misfit.wanted,
+        place: misfit.place,
     }
 }
 
 /// What is wrong with the word at a place of a line, which may be cut behind it.
 fn wrong_at<A: Allocator + Copy>(alloc: A, misfit: &Misfit, is_cut: bool) -> Wrong {
     let Some(word) = misfit.word else {
-        return Wrong::LineEnds;
+        return LINE_ENDS;
     };
-    if misfit.wanted == Wanted::End {
-        return Wrong::TooMuch;
+    if let Form::End = misfit.place.form {
+        return TOO_MUCH;
     }
     if word.is_empty() {
-        return Wrong::EmptyWord;
+        return EMPTY_WORD;
     }
     if let Some(byte) = word.iter().copied().find(|byte| !byte.is_ascii_graphic()) {
         return Wrong::OddByte(byte);
     }
-    match misfit.wanted {
-        Wanted::Text => wrong_text(word, is_cut),
-        Wanted::Reason => wrong_text(term_of(word), is_cut),
-        wanted if wanted.is_number() => wrong_number(word),
-        wanted => match nearest(alloc, word, wanted.choices()) {
-            Some(choice) => Wrong::Near(choice),
-            None => Wrong::Unknown,
-        },
+    match misfit.place.form {
+        Form::OneOf(choices) => nearest(alloc, word, choices).map_or(UNKNOWN, Wrong::Near),
+        Form::Text => wrong_text(word, is_cut),
+        Form::Reason => wrong_text(term_of(word), is_cut),
+        _ => wrong_number(word),
     }
 }
 
@@ -147,25 +162,25 @@ fn term_of(word: &[u8]) -> &[u8] {
 
 fn wrong_text(text: &[u8], is_cut: bool) -> Wrong {
     if text.len() <= 40 {
-        return Wrong::Unknown;
+        return UNKNOWN;
     }
     if is_cut {
-        return Wrong::TextIsLonger;
+        return TEXT_IS_LONGER;
     }
     Wrong::TextOf(text.len())
 }
 
 fn wrong_number(word: &[u8]) -> Wrong {
     if read_number(word).is_some() {
-        return Wrong::OutOfRange;
+        return OUT_OF_RANGE;
     }
-    Wrong::NoNumber
+    NO_NUMBER
 }
 
 /// The most changes of a character by which a word is taken for another one.
 const MOST_CHANGES: usize = 2;
 
-/// The choice that is likely meant: one that is few changes away.
+/// The choice that is likely meant: one that is few changes away, and fewer than it has characters.
 fn nearest<A: Allocator + Copy>(
     alloc: A,
     word: &[u8],
@@ -176,7 +191,7 @@ fn nearest<A: Allocator + Copy>(
     let mut least = MOST_CHANGES + 1;
     for choice in choices {
         let changes = osa_distance(alloc, word, choice).ok()?;
-        if changes < least {
+        if changes < least && changes < choice.len() {
             least = changes;
             found = Some(*choice);
         }
@@ -187,10 +202,7 @@ fn nearest<A: Allocator + Copy>(
 impl fmt::Display for Wrong {
     fn fmt<W: fmt::Write>(&self, f: &mut fmt::Formatter<W>) -> fmt::Result {
         match self {
-            Wrong::LineEnds => f.write_str("the line ends here"),
-            Wrong::EmptyWord => f.write_str(
-                "no word stands here: there is one space between two words, and none at a line's beginning or end",
-            ),
+            Wrong::Said(words) => f.write_str(words),
             Wrong::OddByte(byte) => {
                 write!(
                     f,
@@ -198,19 +210,7 @@ impl fmt::Display for Wrong {
                 )
             }
             Wrong::TextOf(length) => write!(f, "this text has {length} bytes, and 40 are allowed"),
-            Wrong::TextIsLonger => f.write_str("this text has more than 40 bytes"),
-            Wrong::NoNumber => f.write_str(
-                "this is no number: digits alone, no sign, no leading zero, at most 18446744073709551615",
-            ),
-            Wrong::TooMuch => f.write_str("the line has more words than it may have"),
-            Wrong::Unknown => f.write_str("this can't stand here"),
             Wrong::Near(choice) => write!(f, "did you mean `{choice}`?"),
-            Wrong::OutOfRange => f.write_str("this number is out of its range"),
-            Wrong::PermanentIsSignificant => f.write_str("a permanent child can't be significant"),
-            Wrong::SignificantStaysUp => {
-                f.write_str("a significant child needs the automatic shutdown `any` or `all`")
-            }
-            Wrong::Unended => f.write_str("the line lacks its line feed"),
         }
     }
 }
@@ -231,7 +231,7 @@ impl fmt::Display for Explanation<'_> {
         for _ in 0..self.marked {
             f.write_char('^')?;
         }
-        let (wrong, wanted) = (self.wrong, self.wanted.in_words());
+        let (wrong, wanted) = (self.wrong, self.place.in_words);
         write!(f, " {wrong}\n  expected {wanted}\n")
     }
 }

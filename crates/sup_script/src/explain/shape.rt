@@ -1,6 +1,9 @@
 //! The words of which each kind of line consists.
 
-use crate::explain::wanted::Wanted;
+use crate::explain::place::{
+    ANSWER, AUTO, CHILD, CODE, COMMAND, HANDLE, HISTORY, INTENSITY, KIND, MARK, MOMENT, OPERATION,
+    PERIOD, Place, REASON, RESTART, ROWS, SERIAL, SUP, TEXT, VERSION,
+};
 
 /// Which text a line is of.
 #[derive(Clone, Copy, Debug)]
@@ -11,74 +14,65 @@ pub enum Format {
     History,
 }
 
-static HEADER: [Wanted; 6] = [
-    Wanted::Sup,
-    Wanted::Restart,
-    Wanted::Kind,
-    Wanted::Intensity,
-    Wanted::Period,
-    Wanted::Rows,
-];
+static SCRIPT: [Place; 1] = [SUP];
 
-static FIRST: [Wanted; 7] = [
-    Wanted::History,
-    Wanted::Version,
-    Wanted::Restart,
-    Wanted::Kind,
-    Wanted::Intensity,
-    Wanted::Period,
-    Wanted::Rows,
-];
+static HISTORY_TEXT: [Place; 2] = [HISTORY, VERSION];
 
-static SHUTDOWN: [Wanted; 2] = [Wanted::Mark, Wanted::Auto];
+static PARTS: [Place; 5] = [RESTART, KIND, INTENSITY, PERIOD, ROWS];
 
-static COMMAND: [Wanted; 1] = [Wanted::Command];
+static SHUTDOWN: [Place; 2] = [MARK, AUTO];
 
-static ENTRY: [Wanted; 3] = [Wanted::Handle, Wanted::Serial, Wanted::Moment];
+static LINE: [Place; 1] = [COMMAND];
 
-static START: [Wanted; 2] = [Wanted::Moment, Wanted::Text];
+static START: [Place; 2] = [MOMENT, TEXT];
 
-static EXIT: [Wanted; 3] = [Wanted::Moment, Wanted::Child, Wanted::Reason];
+static EXIT: [Place; 3] = [MOMENT, CHILD, REASON];
 
-static OF_CHILD: [Wanted; 2] = [Wanted::Moment, Wanted::Child];
+static OF_CHILD: [Place; 2] = [MOMENT, CHILD];
 
-static STOP: [Wanted; 1] = [Wanted::Moment];
+static STOP: [Place; 1] = [MOMENT];
 
-static BY_ID: [Wanted; 1] = [Wanted::Text];
+static BY_ID: [Place; 1] = [TEXT];
 
-static CODE: [Wanted; 1] = [Wanted::Code];
+static NOTHING: [Place; 0] = [];
 
-static ANSWER: [Wanted; 1] = [Wanted::Answer];
+static ENTRY: [Place; 4] = [HANDLE, SERIAL, MOMENT, OPERATION];
 
-static NOTHING: [Wanted; 0] = [];
+static STARTED: [Place; 2] = [TEXT, ANSWER];
 
-/// The words with which the first line or a later one of a format begins.
-pub fn beginning(format: Format, is_first: bool) -> &'static [Wanted] {
-    match (format, is_first) {
-        (Format::Script, true) => &HEADER,
-        (Format::Script, false) => &COMMAND,
-        (Format::History, true) => &FIRST,
-        (Format::History, false) => &ENTRY,
+static EXITED: [Place; 3] = [CHILD, REASON, ANSWER];
+
+static CHILD_ANSWERED: [Place; 2] = [CHILD, ANSWER];
+
+static ANSWERED: [Place; 1] = [ANSWER];
+
+static FAILED: [Place; 1] = [CODE];
+
+/// The words with which the first line of a format begins.
+pub fn naming(format: Format) -> &'static [Place] {
+    match format {
+        Format::Script => &SCRIPT,
+        Format::History => &HISTORY_TEXT,
     }
 }
 
+/// The parts of a template that every first line has.
+pub fn parts() -> &'static [Place] {
+    &PARTS
+}
+
 /// The last two words of a first line.
-pub fn shutdown() -> &'static [Wanted] {
+pub fn shutdown() -> &'static [Place] {
     &SHUTDOWN
 }
 
-/// The answer of an entry.
-pub fn answer() -> &'static [Wanted] {
-    &ANSWER
-}
-
-/// The code behind an answer.
-pub fn code() -> &'static [Wanted] {
-    &CODE
+/// The words of a script's line up to its command.
+pub fn command() -> &'static [Place] {
+    &LINE
 }
 
 /// The words behind the name of a command.
-pub fn behind_command(word: &[u8]) -> &'static [Wanted] {
+pub fn behind_command(word: &[u8]) -> &'static [Place] {
     match word {
         b"start" => &START,
         b"exit" => &EXIT,
@@ -89,12 +83,25 @@ pub fn behind_command(word: &[u8]) -> &'static [Wanted] {
     }
 }
 
-/// The words behind the operation of an entry, whose moment stands before it.
-pub fn behind_operation(word: &[u8]) -> &'static [Wanted] {
+/// The words of an entry up to its operation.
+pub fn entry() -> &'static [Place] {
+    &ENTRY
+}
+
+/// The words behind the operation of an entry. The last is its answer.
+pub fn behind_operation(word: &[u8]) -> &'static [Place] {
     match word {
-        b"start" => &START[1..],
-        b"exit" => &EXIT[1..],
-        b"retry" | b"terminate" => &OF_CHILD[1..],
+        b"start" => &STARTED,
+        b"exit" => &EXITED,
+        b"retry" | b"terminate" => &CHILD_ANSWERED,
+        _ => &ANSWERED,
+    }
+}
+
+/// The words behind the answer of an entry.
+pub fn behind_answer(word: &[u8]) -> &'static [Place] {
+    match word {
+        b"failed" => &FAILED,
         _ => &NOTHING,
     }
 }

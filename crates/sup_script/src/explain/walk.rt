@@ -1,9 +1,10 @@
 //! The first place of a line at which its words are not those of its format.
 
+use crate::explain::place::{END, MARK, Place};
 use crate::explain::shape::{
-    Format, answer, beginning, behind_command, behind_operation, code, shutdown,
+    Format, behind_answer, behind_command, behind_operation, command, entry, naming, parts,
+    shutdown,
 };
-use crate::explain::wanted::Wanted;
 use crate::read::words::next_word;
 
 /// A place at which a line is wrong.
@@ -14,15 +15,21 @@ pub struct Misfit<'a> {
     /// How many bytes of the line there are from there on.
     pub left: usize,
     /// What may stand there.
-    pub wanted: Wanted,
+    pub place: Place,
+}
+
+/// The words of a line that were gone over: the last of them, and what is left of the line.
+#[derive(Clone, Copy)]
+struct Walked<'a> {
+    last: &'a [u8],
+    rest: Option<&'a [u8]>,
 }
 
 /// The first place at which a line has no word of its format.
 pub fn first_misfit(format: Format, is_first: bool, line: &[u8]) -> Option<Misfit<'_>> {
     let walked = match (format, is_first) {
-        (Format::Script, true) => walk_header(line),
+        (_, true) => walk_first(format, line),
         (Format::Script, false) => walk_command(line),
-        (Format::History, true) => walk_first(line),
         (Format::History, false) => walk_entry(line),
     };
     walked.err()
@@ -30,11 +37,11 @@ pub fn first_misfit(format: Format, is_first: bool, line: &[u8]) -> Option<Misfi
 
 /// The first place at which a first line has a number that is out of its range.
 pub fn first_out_of_range(format: Format, line: &[u8]) -> Option<Misfit<'_>> {
-    let mut rest = Some(line);
-    for wanted in beginning(format, true) {
+    let mut rest = walk(Some(line), naming(format)).ok()?.rest;
+    for place in parts() {
         let (word, after) = next_word(rest?);
-        if !wanted.is_in_range(word) {
-            return Some(misfit_at(rest, *wanted));
+        if !place.form.is_in_range(word) {
+            return Some(misfit_at(rest, *place));
         }
         rest = after;
     }
@@ -43,88 +50,63 @@ pub fn first_out_of_range(format: Format, line: &[u8]) -> Option<Misfit<'_>> {
 
 /// The mark of a first line that has one.
 pub fn mark_of(format: Format, line: &[u8]) -> Option<Misfit<'_>> {
-    let rest = walk(Some(line), beginning(format, true)).ok()?;
-    Some(misfit_at(rest, Wanted::Mark))
+    let named = walk(Some(line), naming(format)).ok()?;
+    let walked = walk(named.rest, parts()).ok()?;
+    Some(misfit_at(walked.rest, MARK))
 }
 
-fn walk_header(line: &[u8]) -> Result<(), Misfit<'_>> {
-    let rest = walk(Some(line), beginning(Format::Script, true))?;
-    if rest.is_none() {
-        return Ok(());
+fn walk_first(format: Format, line: &[u8]) -> Result<(), Misfit<'_>> {
+    let named = walk(Some(line), naming(format))?;
+    let walked = walk(named.rest, parts())?;
+    let may_end = match format {
+        Format::Script => walked.rest.is_none(),
+        Format::History => named.last == b"1".as_slice(),
+    };
+    if may_end {
+        return ends(walked);
     }
-    ends(walk(rest, shutdown())?)
+    ends(walk(walked.rest, shutdown())?)
 }
 
 fn walk_command(line: &[u8]) -> Result<(), Misfit<'_>> {
-    let rest = walk(Some(line), beginning(Format::Script, false))?;
-    ends(walk(rest, behind_command(first_word(Some(line))))?)
-}
-
-fn walk_first(line: &[u8]) -> Result<(), Misfit<'_>> {
-    let rest = walk(Some(line), beginning(Format::History, true))?;
-    let (_, versioned) = next_word(line);
-    if first_word(versioned) == b"1".as_slice() {
-        return ends(rest);
-    }
-    ends(walk(rest, shutdown())?)
+    let named = walk(Some(line), command())?;
+    ends(walk(named.rest, behind_command(named.last))?)
 }
 
 fn walk_entry(line: &[u8]) -> Result<(), Misfit<'_>> {
-    let rest = walk(Some(line), beginning(Format::History, false))?;
-    let operation = first_word(rest);
-    let rest = walk(rest, &[Wanted::Operation])?;
-    let rest = walk(rest, behind_operation(operation))?;
-    let answered = first_word(rest);
-    let rest = walk(rest, answer())?;
-    if answered == b"failed".as_slice() {
-        return ends(walk(rest, code())?);
-    }
-    ends(rest)
+    let named = walk(Some(line), entry())?;
+    let answered = walk(named.rest, behind_operation(named.last))?;
+    ends(walk(answered.rest, behind_answer(answered.last))?)
 }
 
-/// Goes over the words at these places, and returns what is left of the line.
-fn walk<'a>(rest: Option<&'a [u8]>, places: &[Wanted]) -> Result<Option<&'a [u8]>, Misfit<'a>> {
-    let mut rest = rest;
-    for wanted in places {
-        let Some(left) = rest else {
-            return Err(misfit_at(rest, *wanted));
+/// Goes over the words at these places.
+fn walk<'a>(rest: Option<&'a [u8]>, places: &[Place]) -> Result<Walked<'a>, Misfit<'a>> {
+    let mut walked = Walked { last: &[], rest };
+    for place in places {
+        let Some(left) = walked.rest else {
+            return Err(misfit_at(None, *place));
         };
-        let (word, after) = next_word(left);
-        if !wanted.fits(word) {
-            return Err(misfit_at(rest, *wanted));
+        let (last, rest) = next_word(left);
+        if !place.form.fits(last) {
+            return Err(misfit_at(walked.rest, *place));
         }
-        rest = after;
+        walked = Walked { last, rest };
     }
-    Ok(rest)
+    Ok(walked)
 }
 
 /// That nothing is left of the line.
-fn ends(rest: Option<&[u8]>) -> Result<(), Misfit<'_>> {
-    if rest.is_none() {
+fn ends(walked: Walked<'_>) -> Result<(), Misfit<'_>> {
+    if walked.rest.is_none() {
         return Ok(());
     }
-    Err(misfit_at(rest, Wanted::End))
+    Err(misfit_at(walked.rest, END))
 }
 
-fn misfit_at(rest: Option<&[u8]>, wanted: Wanted) -> Misfit<'_> {
-    match rest {
-        Some(left) => Misfit {
-            word: Some(next_word(left).0),
-            left: left.len(),
-            wanted,
-        },
-        None => Misfit {
-            word: None,
-            left: 0,
-            wanted,
-        },
-    }
-}
-
-/// The first of the words that are left, or no byte.
-fn first_word(rest: Option<&[u8]>) -> &[u8] {
-    match rest {
-        Some(left) => next_word(left).0,
-        None => &[],
+fn misfit_at(rest: Option<&[u8]>, place: Place) -> Misfit<'_> {
+    Misfit {
+        word: rest.map(|left| next_word(left).0),
+        left: rest.map_or(0, |left| left.len()),
+        place,
     }
 }
