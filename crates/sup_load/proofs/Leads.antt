@@ -72,6 +72,7 @@ pub no_order : (command : Command) (rows : List Row) → command ≡ Some (codes
 unfolding first_byte rows_in
 no_order command rows is outside (order.Script answer) other = let bad : ◌≡◌ {A = ℕ} 115 108 = ap first_byte (sym other.1 ∙ is) in absurd (omega arith)
 no_order command rows is outside (order.Replay answer) other = let bad : ◌≡◌ {A = ℕ} 114 108 = ap first_byte (sym other.1 ∙ is) in absurd (omega arith)
+no_order command rows is outside (order.Serve answer) other = let bad : ◌≡◌ {A = ℕ} 115 108 = ap first_byte (sym other.1 ∙ is) in absurd (omega arith)
 no_order command rows is outside (order.Load load) other =
     let same : rows ≡ other.0 = ap rows_in (sym is ∙ other.1) in
     outside load.workers load.children load.readers load.turns

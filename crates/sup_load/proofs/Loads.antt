@@ -191,6 +191,8 @@ load_of kinds command rows w n r t none is are within (Ok (order.Script d)) lead
     let bad : ◌≡◌ {A = ℕ} 115 108 = ap first_byte (sym leads.1.1 ∙ is) in absurd (omega arith)
 load_of kinds command rows w n r t none is are within (Ok (order.Replay d)) leads =
     let bad : ◌≡◌ {A = ℕ} 114 108 = ap first_byte (sym leads.1.1 ∙ is) in absurd (omega arith)
+load_of kinds command rows w n r t none is are within (Ok (order.Serve d)) leads =
+    let bad : ◌≡◌ {A = ℕ} 115 108 = ap first_byte (sym leads.1.1 ∙ is) in absurd (omega arith)
 load_of kinds command rows w n r t none is are within (Ok (order.Load load)) leads =
     let same : leads.1.0 ≡ rows = ap rows_in (sym leads.1.1 ∙ is) in
     let those = subst (λ (R : List Row). AreNumbers R load.workers load.children load.readers load.turns) same leads.1.2 in

@@ -4,10 +4,12 @@ use Rattle.std.specs.Prelude.{Ok, Err}
 use Rattle.clap.specs.Kinds.{Kinds}
 use Rattle.clap.specs.Values.{kind_of}
 use Rattle.clap.specs.declared.error.Error.{Error}
-use Rattle.sup_load.specs.Answered.{IsDone, IsReply, IsShownAs}
-use Rattle.sup_load.specs.Orders.{Command, LeadsTo}
+use Rattle.sup_load.specs.Answered.{IsDone, IsReply, IsServed, IsServing, IsShownAs}
+use Rattle.sup_load.specs.Orders.{Command, IsOrder, LeadsTo}
 use Rattle.sup_load.specs.declared.program.Status.{Status}
 use Rattle.sup_load.specs.declared.words.Order.{Order}
+use Rattle.sup_load.specs.declared.words.Order.TheVariants as order
+use Rattle.sup_serve.specs.declared.server.Notices.{Notices}
 
 module _ (kinds : Kinds) (command : Command) (remaining left contents held : Option (List ℕ)) (has_failed : Bool) (given : ℕ) (has_refused : Bool) (s : Status) where
   -- the order was done
@@ -20,3 +22,8 @@ module _ (kinds : Kinds) (command : Command) (remaining left contents held : Opt
   pub error_as : (e : Error) → LeadsTo kinds command (Err e) → left ≡ remaining → IsShownAs (kind_of e) contents held has_refused s
       → IsReply kinds command remaining left contents held has_failed given has_refused s
   error_as e led same shown = inr (kind_of e, led, same, shown)
+
+-- the server served
+pub serving_as : (kinds : Kinds) (command : Command) (has_failed has_refused : Bool) (s : Status) (o : Order) (n : Notices) → o ≡ order.Serve n
+    → LeadsTo kinds command (Ok o) → IsServed has_failed has_refused s → IsServing kinds command has_failed has_refused s
+serving_as kinds command has_failed has_refused s o n same led served = (n, led.0, subst (IsOrder command) same led.1, served)

@@ -1,4 +1,5 @@
--- How the program answers: a script or a history text on standard input, a load, or words that are no order.
+-- How the program answers: a script, a history text or the lines of a server on standard input, a load, or words that are no
+-- order.
 use Rattle.std.specs.Prelude.{◌≡◌, ◌⊎◌, ℕ, Bool, true, List, [], Option, Result, Ok, Err, IfErr}
 use Rattle.std.specs.Io.KnownBytes.{Appends}
 use Rattle.sup_script.specs.Running.Causes.{HasCause}
@@ -20,6 +21,7 @@ use Rattle.sup_load.specs.declared.program.Status.{Status}
 use Rattle.sup_load.specs.declared.program.Status.TheVariants as status
 use Rattle.sup_load.specs.declared.words.Order.{Order}
 use Rattle.sup_load.specs.declared.words.Order.TheVariants as order
+use Rattle.sup_serve.specs.declared.server.Notices.{Notices}
 
 -- a script was run, the status is that of the run's outcome, and a fault has its cause
 pub record IsScriptAnswered (remaining left contents held : Option (List ℕ)) (has_failed : Bool) (given : ℕ) (has_refused : Bool) (status : Status) : Type 0 where
@@ -40,6 +42,11 @@ pub record IsLoadAnswered (contents held : Option (List ℕ)) (has_refused : Boo
   pub outcome : Result (Unit {0}) LoadFault
   pub loaded : IsLoaded contents held has_refused outcome
   pub status_is : status ≡ status_of_load outcome
+
+-- lines were served: the words were no mistake, and a failure is of the input or of the output
+pub record IsServed (has_failed has_refused : Bool) (s : Status) : Type 0 where
+  pub understood : s ≡ status.BadInput → ⊥
+  pub cause : s ≡ status.Failed → (has_failed ≡ true) ⊎ (has_refused ≡ true)
 
 -- how a help text was written
 abbrev pub IsWritten : Option (List ℕ) → Option (List ℕ) → Bool → Result (Unit {0}) LoadFault → Type 0
@@ -69,6 +76,12 @@ IsDone (order.Replay detail) remaining left contents held has_failed given has_r
     IsReplayAnswered remaining left contents held has_failed given has_refused status
 IsDone (order.Load load) remaining left contents held has_failed given has_refused status =
     (left ≡ remaining) × IsLoadAnswered contents held has_refused status
+IsDone (order.Serve notices) remaining left contents held has_failed given has_refused status = IsServed has_failed has_refused status
+
+-- the words are those of a server, which served
+abbrev pub IsServing : Kinds → Command → Bool → Bool → Status → Type 0
+IsServing kinds command has_failed has_refused status =
+    (notices : Notices) × (kinds ≡ []) × IsOrder command (order.Serve notices) × IsServed has_failed has_refused status
 
 -- words that are no order, by the kind of their error: a help text or the version is written where it is asked for, and
 -- nothing where memory is wanting or the words are refused

@@ -26,6 +26,14 @@ setting_rule s = number_rule (name_of s) (least_of s) (most_of s)
 abbrev pub text_app : List ℕ → App
 text_app name = with_rule (new_app name) explain_rule
 
+-- `--status`, which takes no value
+abbrev pub status_rule : Rule
+status_rule = record (new_rule (codes "status")) { long = Some (codes "status"); action = Some SetTrue }
+
+-- the server: it may say by itself how many sessions there are
+abbrev pub serve_app : App
+serve_app = with_rule (new_app (codes "serve")) status_rule
+
 -- the load, with its four numbers
 abbrev pub load_app : App
 load_app = with_rule (with_rule (with_rule (with_rule (new_app (codes "load"))
@@ -38,5 +46,5 @@ bare_app = record (new_app (codes "supload")) {
 }
 
 abbrev pub supload_app : App
-supload_app = with_subcommand (with_subcommand (with_subcommand bare_app
-    (text_app (codes "script")).top) (text_app (codes "replay")).top) load_app.top
+supload_app = with_subcommand (with_subcommand (with_subcommand (with_subcommand bare_app
+    (text_app (codes "script")).top) (text_app (codes "replay")).top) load_app.top) serve_app.top

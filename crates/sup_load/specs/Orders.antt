@@ -14,6 +14,8 @@ use Rattle.sup_load.specs.declared.words.Detail.{Detail}
 use Rattle.sup_load.specs.declared.words.Detail.TheVariants as detail
 use Rattle.sup_load.specs.declared.words.Order.{Order}
 use Rattle.sup_load.specs.declared.words.Order.TheVariants as order
+use Rattle.sup_serve.specs.declared.server.Notices.{Notices}
+use Rattle.sup_serve.specs.declared.server.Notices.TheVariants as notices
 
 -- the command that clap found among the words, with a row for each of its options
 abbrev pub Command : Type 0
@@ -23,6 +25,11 @@ Command = Option (Text × List Row)
 pub record IsDetail (rows : List Row) (answer : Detail) : Type 0 where
   pub given : one_of (codes "explain") rows ≡ Some (codes "true") → answer ≡ detail.Explained
   pub left_out : one_of (codes "explain") rows ≡ Some (codes "false") → answer ≡ detail.Number
+
+-- notices are given where `--status` was
+pub record IsNotices (rows : List Row) (answer : Notices) : Type 0 where
+  pub given : one_of (codes "status") rows ≡ Some (codes "true") → answer ≡ notices.On
+  pub left_out : one_of (codes "status") rows ≡ Some (codes "false") → answer ≡ notices.Off
 
 -- the option of this name has a text, whose digits write n, perhaps behind a plus
 pub record HasNumber (rows : List Row) (name : Text) (n : ℕ) : Type 0 where
@@ -45,6 +52,7 @@ IsOrder command (order.Script answer) = (rows : List Row) × (command ≡ Some (
 IsOrder command (order.Replay answer) = (rows : List Row) × (command ≡ Some (codes "replay", rows)) × IsDetail rows answer
 IsOrder command (order.Load load) = (rows : List Row) × (command ≡ Some (codes "load", rows))
     × AreNumbers rows load.workers load.children load.readers load.turns
+IsOrder command (order.Serve answer) = (rows : List Row) × (command ≡ Some (codes "serve", rows)) × IsNotices rows answer
 
 -- no order is the command's
 pub record IsNoOrder (command : Command) (kind : ErrorKind) : Type 0 where

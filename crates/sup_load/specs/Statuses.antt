@@ -7,6 +7,8 @@ use Rattle.sup_load.specs.declared.fault.LoadFault.{LoadFault}
 use Rattle.sup_load.specs.declared.fault.LoadFault.TheVariants as load
 use Rattle.sup_load.specs.declared.fault.StopFault.{StopFault}
 use Rattle.sup_load.specs.declared.fault.StopFault.TheVariants as stop
+use Rattle.sup_serve.specs.declared.fault.ServeFault.{ServeFault}
+use Rattle.sup_serve.specs.declared.fault.ServeFault.TheVariants as serve
 use Rattle.sup_load.specs.declared.program.Status.{Status}
 use Rattle.sup_load.specs.declared.program.Status.TheVariants as status
 
@@ -56,6 +58,13 @@ status_of_stop_fault stop.BadTemplate = status.BadInput
 abbrev pub status_of_load_fault : LoadFault → Status
 status_of_load_fault (load.Stopped fault) = status_of_stop_fault fault
 status_of_load_fault load.WriteFault = status.Failed
+
+-- the status of a server that stopped with the fault of this number
+abbrev pub status_of_serve_fault : ServeFault → Status
+status_of_serve_fault serve.OutOfMemory = status.OtherFault
+status_of_serve_fault (serve.Crew fault) = status.OtherFault
+status_of_serve_fault serve.Read = status.Failed
+status_of_serve_fault serve.Write = status.Failed
 
 -- how a load ended
 abbrev pub status_of_load : Result (Unit {0}) LoadFault → Status

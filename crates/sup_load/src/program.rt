@@ -1,9 +1,10 @@
 //! The whole program, over any reader and writers.
 
 ghost use Rattle.std.specs.Prelude.{◌≡◌, ◌⊎◌, ℕ, List, [], ◌∷◌, codes, false, map, true};
-ghost use Rattle.sup_load.specs.Answered.{IsScriptAnswered, IsReplayAnswered, IsLoadAnswered, IsShown, IsShownAs, IsWritten, IsAnswered, IsLoadReply, IsReplyTo};
+ghost use Rattle.sup_load.specs.Answered.{IsScriptAnswered, IsReplayAnswered, IsLoadAnswered, IsShown, IsShownAs, IsWritten, IsAnswered, IsLoadReply, IsReplyTo, IsServed, IsServing};
 ghost use Rattle.sup_load.specs.Settings.{Given, IsWhole, words_of};
 ghost use Rattle.clap.specs.Values.{kind_of};
+ghost use Rattle.sup_load.specs.Orders.{command_at, kinds_at};
 ghost use Rattle.sup_load.specs.Statuses.{status_of, status_of_load, status_number};
 ghost use Rattle.sup_load.specs.declared.program.Status.{Status as AStatus};
 ghost use Rattle.sup_load.specs.declared.program.Status.TheVariants.{Failed};
@@ -12,16 +13,19 @@ use crate::fault::{LoadFault, StopFault};
 use crate::load::{Load, run_load, write_text};
 use crate::words::{Detail, Order, read_words};
 use clap::error::{Error, ErrorKind};
-use std::alloc::{AllocError, Global};
+use std::alloc::{AllocError, AllocGlobal, Global};
 use std::convert::AsStr;
 use std::io;
 use std::io::{Read, Write};
+use std::random::RandomSource;
 use std::sync::Wait;
 use std::thread::Threads;
+use std::time::Clock;
 use sup_script::{
     Explanation, Fault, FaultyLine, Format, ScriptFault, ScriptStarter, WatchedReader,
     WatchedWriter, replay_with_line, run_with_line,
 };
+use sup_serve::{Notices, ServeFault, serve};
 
 /// How the program ended.
 #[derive(Clone, Copy, Debug, PartialEq, Eq)]
@@ -37,7 +41,7 @@ pub enum Status {
 }
 
 impl Status {
-    ghost use Rattle.sup_load.specs.Statuses.{status_number, status_of_fault, status_of_load_fault};
+    ghost use Rattle.sup_load.specs.Statuses.{status_number, status_of_fault, status_of_load_fault, status_of_serve_fault};
 
     /// The exit status of the process: 0, 2, 3 or 4, in the order of the variants.
     pub fn number(self) -> u8
@@ -72,14 +76,24 @@ impl Status {
             LoadFault::WriteFault => Status::Failed,
         }
     }
+
+    /// The status of a server that stopped with this fault.
+    fn of_server(fault: ServeFault) -> Status
+        ensures { result ≡ status_of_serve_fault fault }
+    {
+        match fault {
+            ServeFault::Read | ServeFault::Write => Status::Failed,
+            ServeFault::OutOfMemory | ServeFault::Crew(_) => Status::OtherFault,
+        }
+    }
 }
 
 /// Does what the words ask for, of which the first is the program's name, and answers the exit status. The replies, or
 /// a help text, go to `out`; the line of a fault, and words that are refused, go to `err`. A failed write to `err`
 /// changes nothing.
 ///
-/// It waits, for a load's threads and locks alone.
-pub fn run_words<T: Threads + Wait + Sync, S: AsStr, R: Read, W: Write, E: Write>(
+/// It waits, for the threads and locks of a load or a server alone.
+pub fn run_words<T, S, R, W, E>(
     rt: &T,
     alloc: Global,
     words: &[S],
@@ -87,6 +101,12 @@ pub fn run_words<T: Threads + Wait + Sync, S: AsStr, R: Read, W: Write, E: Write
     out: &mut WatchedWriter<W>,
     err: &mut E,
 ) -> u8
+where
+    T: Threads + Wait + Clock + RandomSource + AllocGlobal + Sync,
+    S: AsStr,
+    R: Read,
+    W: Write,
+    E: Write,
     requires calls { reader.old.calls ≡ 0 }
     requires none { reader.old.given ≡ 0 }
     requires unfailed { reader.old.has_failed ≡ false }
@@ -105,17 +125,18 @@ pub fn run_words<T: Threads + Wait + Sync, S: AsStr, R: Read, W: Write, E: Write
     ensures words { (status : AStatus) × (result ≡ status_number status)
         × IsReplyTo (map S.text words.now) (R.remaining reader.old.reader) (R.remaining reader.new.reader) (W.contents out.old.writer)
         (W.contents out.new.writer) reader.new.has_failed reader.new.given out.new.has_refused status }
-    // Whatever the words, it does one of four things.
+    // Whatever the words, it does one of four things, or they are those of a server.
     ensures one { (status : AStatus) × (result ≡ status_number status)
-        × IsAnswered (R.remaining reader.old.reader) (R.remaining reader.new.reader) (W.contents out.old.writer) (W.contents out.new.writer)
-        reader.new.has_failed reader.new.given out.new.has_refused status }
+        × (IsAnswered (R.remaining reader.old.reader) (R.remaining reader.new.reader) (W.contents out.old.writer) (W.contents out.new.writer)
+        reader.new.has_failed reader.new.given out.new.has_refused status
+        ⊎ IsServing (kinds_at (map S.text words.now)) (command_at (map S.text words.now)) reader.new.has_failed out.new.has_refused status) }
     ensures cause { result ≡ 3 → (reader.new.has_failed ≡ true) ⊎ (out.new.has_refused ≡ true) }
 {
     answer_words(rt, alloc, words, reader, out, err).number()
 }
 
 /// Does what the words ask for, as [`run_words`].
-fn answer_words<T: Threads + Wait + Sync, S: AsStr, R: Read, W: Write, E: Write>(
+fn answer_words<T, S, R, W, E>(
     rt: &T,
     alloc: Global,
     words: &[S],
@@ -123,6 +144,12 @@ fn answer_words<T: Threads + Wait + Sync, S: AsStr, R: Read, W: Write, E: Write>
     out: &mut WatchedWriter<W>,
     err: &mut E,
 ) -> Status
+where
+    T: Threads + Wait + Clock + RandomSource + AllocGlobal + Sync,
+    S: AsStr,
+    R: Read,
+    W: Write,
+    E: Write,
     requires calls { reader.old.calls ≡ 0 }
     requires none { reader.old.given ≡ 0 }
     requires unfailed { reader.old.has_failed ≡ false }
@@ -139,13 +166,15 @@ fn answer_words<T: Threads + Wait + Sync, S: AsStr, R: Read, W: Write, E: Write>
         → IsLoadReply (R.remaining reader.old.reader) (R.remaining reader.new.reader) (W.contents out.old.writer) (W.contents out.new.writer)
         out.new.has_refused result }
     ensures one { IsAnswered (R.remaining reader.old.reader) (R.remaining reader.new.reader) (W.contents out.old.writer) (W.contents out.new.writer)
-        reader.new.has_failed reader.new.given out.new.has_refused result }
+        reader.new.has_failed reader.new.given out.new.has_refused result
+        ⊎ IsServing (kinds_at (map S.text words.now)) (command_at (map S.text words.now)) reader.new.has_failed out.new.has_refused result }
     ensures cause { result ≡ Failed → (reader.new.has_failed ≡ true) ⊎ (out.new.has_refused ≡ true) }
 {
     match read_words(alloc, words) {
         Ok(Order::Script(detail)) => answer_script(alloc, detail, reader, out, err),
         Ok(Order::Replay(detail)) => answer_history(alloc, detail, reader, out, err),
         Ok(Order::Load(load)) => answer_load(rt, alloc, load, out, err),
+        Ok(Order::Serve(notices)) => answer_serve(rt, alloc, notices, reader, out, err),
         Err(error) => show(alloc, &error, out, err),
     }
 }
@@ -250,6 +279,31 @@ fn answer_load<T: Threads + Wait + Sync, W: Write, E: Write>(
     ensures cause { result ≡ Failed → out.new.has_refused ≡ true }
 {
     told_load(run_load(rt, alloc, load, out), err)
+}
+
+/// Serves sessions. The fault that stopped the server, if there is one, is a line on standard error.
+fn answer_serve<T, R, W, E>(
+    rt: &T,
+    alloc: Global,
+    notices: Notices,
+    reader: &mut WatchedReader<R>,
+    out: &mut WatchedWriter<W>,
+    err: &mut E,
+) -> Status
+where
+    T: Threads + Wait + Clock + RandomSource + AllocGlobal + Sync,
+    R: Read,
+    W: Write,
+    E: Write,
+    ensures { IsServed reader.new.has_failed out.new.has_refused result }
+{
+    match serve(rt, alloc, reader, out, notices) {
+        Ok(()) => Status::Done,
+        Err(fault) => {
+            let _ = writeln!(err, "fault {}", fault.number());
+            Status::of_server(fault)
+        }
+    }
 }
 
 /// Tells the fault of a load, if there is one, by a line on standard error.

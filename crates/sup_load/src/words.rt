@@ -5,9 +5,9 @@ ghost use Rattle.clap.specs.Kinds.{IsAmong};
 ghost use Rattle.clap.specs.Words.{app_of, found_of, kind_of, rows_of, rule_of, subcommand_rows_of};
 ghost use Rattle.clap.specs.declared.builder.command.Command.TheViews.{out-Command as fields_of};
 ghost use Rattle.clap.specs.declared.error.kind.ErrorKind.TheVariants.{OutOfMemory};
-ghost use Rattle.sup_load.specs.Grammar.{load_app, number_rule, supload_app, text_app};
+ghost use Rattle.sup_load.specs.Grammar.{load_app, number_rule, serve_app, supload_app, text_app};
 ghost use Rattle.sup_load.specs.Loads.{IsWithin};
-ghost use Rattle.sup_load.specs.Orders.{AreNumbers, IsDetail, IsLoadOf, IsNoOrder, IsOrder, WordsLeadTo};
+ghost use Rattle.sup_load.specs.Orders.{AreNumbers, IsDetail, IsLoadOf, IsNoOrder, IsNotices, IsOrder, WordsLeadTo};
 ghost use Rattle.sup_load.specs.Settings.{Given, IsWhole, words_of};
 ghost use Rattle.sup_load.specs.declared.words.Order.TheVariants as order;
 ghost use Rattle.sup_load.specs.declared.words.Detail.TheVariants as detail;
@@ -18,6 +18,7 @@ use clap::error::{Error, ErrorKind};
 use clap::{Arg, ArgAction, ArgMatches, Command};
 use std::alloc::{AllocError, Global};
 use std::convert::AsStr;
+use sup_serve::Notices;
 
 /// How much is said of a fault in a text.
 #[derive(Clone, Copy, Debug, PartialEq, Eq)]
@@ -37,6 +38,8 @@ pub enum Order {
     Replay(Detail),
     /// To run a crew beside readers.
     Load(Load),
+    /// To serve sessions.
+    Serve(Notices),
 }
 
 const ABOUT: &str =
@@ -128,6 +131,52 @@ run and of exits that were held back; and `reads Q`, the number of questions tha
 Example:
   supload load --workers 4 --children 100 --readers 2 --turns 50";
 
+const SERVE: &str =
+    "Serves sessions: reads a command a line on standard input, and answers each at once";
+
+const SERVE_HELP: &str =
+    "Serves sessions: reads a command a line on standard input, and answers each at once on standard output.
+
+Each session is a child of a supervisor. One that crashed runs again under a new number, with nothing counted, at most
+5 times within 10 seconds; then all sessions end, and the supervisor is down. There are at most 65536 at a time.
+
+  open NAME          `opened N`: a session of this name runs under the number N
+  tell N TEXT        `session N messages M`: session N answers how many texts it was told
+  crash N            `crashing N`: session N crashes as soon as it reads that
+  close N            `closing N`: session N is told to end
+  who                `session N NAME` for each that is listed, and `end K` with how many
+  count              `sessions K`
+  quit               ends the server, as the end of the input does
+
+A name and a text have 1 to 40 visible characters of ASCII. An answer may be `error no session N`, `error full`,
+`error down` or another `error`; a line that is no command is answered by what was expected. When all sessions have
+ended, the last line says how many were opened, restarted and ended, and whether all are told of.
+
+Example:
+  supload serve <<END
+  open ann
+  tell 1 hello
+  close 1
+  END
+writes
+  opened 1
+  session 1 messages 1
+  closing 1
+  opened 1 restarted 0 ended 1, all told";
+
+const SERVE_FAULTS: &str = "A fault is one line on standard error: `fault N`, with its number:
+   1  out of memory, or a thread was refused
+   5  all handles were made
+   6  there is no place for a reader
+  10  standard input could not be read
+  11  standard output could not be written
+
+Exit status:
+  0  the input ended, or asked to quit
+  2  the words are wrong
+  3  fault 10 or 11
+  4  any other fault";
+
 const STATUSES: &str = "Exit status:
   0  all was answered
   2  the words or a line are wrong, or the input is too long
@@ -212,6 +261,7 @@ fn read_matches(alloc: Global, matches: &ArgMatches) -> Result<Order, Error>
             Some(load) => Ok(Order::Load(load)),
             None => Err(refused(alloc, ErrorKind::ValueValidation, "a number is missing")),
         },
+        Some(("serve", words)) => Ok(Order::Serve(read_notices(words))),
         _ => Err(refused(
             alloc,
             ErrorKind::InvalidSubcommand,
@@ -238,6 +288,17 @@ fn read_detail(words: &ArgMatches) -> Detail
         Detail::Explained
     } else {
         Detail::Number
+    }
+}
+
+/// Whether the server says by itself how many sessions there are.
+fn read_notices(words: &ArgMatches) -> Notices
+    ensures { IsNotices (rows_of (found_of words.now)) result }
+{
+    if words.get_flag("status") {
+        Notices::On
+    } else {
+        Notices::Off
     }
 }
 
@@ -329,6 +390,20 @@ fn text_command<'a>(
         .arg(explain)
 }
 
+fn serve_command<'a>(alloc: Global) -> Result<Command<'a>, AllocError>
+    ensures { IfOk result (λ c. (app_of c ≡ serve_app) × ((fields_of c).has_globals ≡ false)) }
+{
+    let status = Arg::new(alloc, "status")
+        .long("status")
+        .help("Says how many sessions there are, behind an answer where that has changed")
+        .action(ArgAction::SetTrue);
+    Command::new(alloc, "serve")
+        .about(SERVE)
+        .long_about(SERVE_HELP)
+        .after_help(SERVE_FAULTS)
+        .arg(status)
+}
+
 fn command<'a>(alloc: Global) -> Result<Command<'a>, AllocError>
     ensures { IfOk result (λ c. app_of c ≡ supload_app) }
 {
@@ -340,5 +415,6 @@ fn command<'a>(alloc: Global) -> Result<Command<'a>, AllocError>
         .subcommand_required(true)
         .subcommand(text_command(alloc, "script", SCRIPT, SCRIPT_HELP)?)?
         .subcommand(text_command(alloc, "replay", REPLAY, REPLAY_HELP)?)?
-        .subcommand(load_command(alloc)?)
+        .subcommand(load_command(alloc)?)?
+        .subcommand(serve_command(alloc)?)
 }

@@ -61,6 +61,13 @@ impl<W: Write> WatchedWriter<W> {
         }
     }
 
+    /// Whether the writer refused.
+    pub fn has_refused(&self) -> bool
+        ensures { result ≡ self.now.has_refused }
+    {
+        self.has_refused
+    }
+
     /// The writer.
     pub fn into_writer(self) -> W
         ensures { result ≡ self.writer }
@@ -110,16 +117,37 @@ impl<R: Read> WatchedReader<R> {
             × (n ≡ 0 → IsAtEnd (R.remaining self.new.reader))) }
     {
         self.calls += 1;
+        let count = self.read_on(piece)?;
+        self.given += count as u64;
+        Some(count)
+    }
+
+    /// Reads once more of a stream without an end, and counts neither the call nor the bytes: how many bytes the reader gave,
+    /// none only at its end, or None where it failed.
+    pub fn read_on(&mut self, piece: &mut [u8]) -> Option<usize>
+        requires room { 0 < length piece.old }
+        ensures calls { (self.new.calls ≡ self.old.calls) × (self.new.given ≡ self.old.given) }
+        ensures bytes { MatchOption result
+            ((self.new.has_failed ≡ true) × Keeps (R.remaining self.old.reader) (R.remaining self.new.reader))
+            (λ n. (n ≤ length piece.new) × (length piece.new ≡ length piece.old)
+            × (self.new.has_failed ≡ self.old.has_failed)
+            × Consumes (R.remaining self.old.reader) (R.remaining self.new.reader) (take n piece.new)
+            × (n ≡ 0 → IsAtEnd (R.remaining self.new.reader))) }
+    {
         match self.reader.read(piece) {
-            Ok(count) => {
-                self.given += count as u64;
-                Some(count)
-            }
+            Ok(count) => Some(count),
             Err(_) => {
                 self.has_failed = true;
                 None
             }
         }
+    }
+
+    /// Whether the reader failed.
+    pub fn has_failed(&self) -> bool
+        ensures { result ≡ self.now.has_failed }
+    {
+        self.has_failed
     }
 
     /// How many bytes the reader gave.

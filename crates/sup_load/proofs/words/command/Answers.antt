@@ -1,4 +1,4 @@
--- The program has its three commands.
+-- The program has its four commands.
 use Rattle.std.proofs.Common.{◌≡◌, ◌∙◌, true, ap, ap₂, codes}
 use Rattle.std.proofs.lemmas.Result.{IfOk-weaker}
 use Rattle.clap.specs.Simple.{app_of_fields, on_top}
@@ -25,6 +25,8 @@ returns c =
     let script = c.in_ok-text_command.ensures in
     let replay = c.in_ok-text_command-2.ensures in
     let load = c.in_ok-load_command.ensures in
+    let serve = c.in_ok-serve_command.ensures in
     let one = c.in_ok-subcommand.ensures.shape script.1 ∙ ap₂ with_subcommand start (ap top_of script.0) in
     let two = c.in_ok-subcommand-2.ensures.shape replay.1 ∙ ap₂ with_subcommand one (ap top_of replay.0) in
-    IfOk-weaker c.subcommand-3.result _ _ (λ r h. h.shape load.1 ∙ ap₂ with_subcommand two (ap top_of load.0)) c.subcommand-3.ensures
+    let three = c.in_ok-subcommand-3.ensures.shape load.1 ∙ ap₂ with_subcommand two (ap top_of load.0) in
+    IfOk-weaker c.subcommand-4.result _ _ (λ r h. h.shape serve.1 ∙ ap₂ with_subcommand three (ap top_of serve.0)) c.subcommand-4.ensures

@@ -1,0 +1,72 @@
+//! What a line asks for.
+use std::str;
+use sup_types::Text;
+
+/// What may be asked of the server.
+#[derive(Clone, Copy, Debug, PartialEq, Eq)]
+pub enum Command {
+    /// A session of this name is to be opened.
+    Open(Text),
+    /// The session with this number is told this text.
+    Tell(u64, Text),
+    /// The session with this number is to crash.
+    Crash(u64),
+    /// The session with this number is to end.
+    Close(u64),
+    /// Which sessions are there?
+    Who,
+    /// How many sessions are there?
+    Count,
+    /// The server is to end.
+    Quit,
+}
+
+const A_COMMAND: &str =
+    "`open NAME`, `tell NUMBER TEXT`, `crash NUMBER`, `close NUMBER`, `who`, `count` or `quit`";
+
+const A_NAME: &str = "`open NAME`, with a name of 1 to 40 visible characters of ASCII";
+
+const A_TEXT: &str =
+    "`tell NUMBER TEXT`, with the number of a session and a text of 1 to 40 visible characters of ASCII";
+
+const A_CRASH: &str = "`crash NUMBER`, with the number of a session";
+
+const A_CLOSE: &str = "`close NUMBER`, with the number of a session";
+
+/// The command that a line spells, or what was expected of it.
+pub fn read_command(line: &[u8]) -> Result<Command, &'static str> {
+    let (word, rest) = split(line);
+    match word {
+        b"open" => Text::new(rest).map(Command::Open).ok_or(A_NAME),
+        b"tell" => read_tell(rest).ok_or(A_TEXT),
+        b"crash" => read_number(rest).map(Command::Crash).ok_or(A_CRASH),
+        b"close" => read_number(rest).map(Command::Close).ok_or(A_CLOSE),
+        _ => read_word(line).ok_or(A_COMMAND),
+    }
+}
+
+fn read_word(line: &[u8]) -> Option<Command> {
+    match line {
+        b"who" => Some(Command::Who),
+        b"count" => Some(Command::Count),
+        b"quit" => Some(Command::Quit),
+        _ => None,
+    }
+}
+
+fn read_tell(rest: &[u8]) -> Option<Command> {
+    let (number, text) = split(rest);
+    Some(Command::Tell(read_number(number)?, Text::new(text)?))
+}
+
+fn read_number(word: &[u8]) -> Option<u64> {
+    str::from_utf8(word).ok()?.parse().ok()
+}
+
+/// The bytes before the first space, and those after it.
+fn split(line: &[u8]) -> (&[u8], &[u8]) {
+    match line.iter().position(|byte| *byte == b' ') {
+        Some(at) => (&line[..at], &line[at + 1..]),
+        None => (line, &[]),
+    }
+}

@@ -1,0 +1,92 @@
+//! The lines of an input.
+ghost use Rattle.std.specs.Prelude.{◌≤◌};
+
+use std::io::Read;
+use std::sync::Wait;
+use sup_script::WatchedReader;
+
+/// The most bytes of a line that are kept. No line that asks for something is as long.
+const MOST_KEPT: usize = 128;
+
+/// A line without its line feed: at most its first 128 bytes.
+#[derive(Clone, Copy)]
+pub struct Line {
+    bytes: [u8; 128],
+    len: usize,
+    ghost few: { len ≤ 128 },
+}
+
+impl Line {
+    fn new() -> Line {
+        Line {
+            bytes: [0; 128],
+            len: 0,
+        }
+    }
+
+    fn push(&mut self, byte: u8) {
+        if self.len < MOST_KEPT {
+            self.bytes[self.len] = byte;
+            self.len += 1;
+        }
+    }
+
+    /// The bytes that are kept.
+    pub fn bytes(&self) -> &[u8] {
+        &self.bytes[..self.len]
+    }
+}
+
+/// The lines of an input, which is read in pieces.
+#[derive(Drop)]
+pub struct Lines<'a, I> {
+    input: &'a mut WatchedReader<I>,
+    piece: [u8; 512],
+    from: usize,
+    to: usize,
+    ghost left: { from ≤ to },
+    ghost within: { to ≤ 512 },
+}
+
+impl<'a, I: Read> Lines<'a, I> {
+    /// The lines of an input of which nothing was read.
+    pub fn new(input: &'a mut WatchedReader<I>) -> Lines<'a, I> {
+        Lines {
+            input,
+            piece: [0; 512],
+            from: 0,
+            to: 0,
+        }
+    }
+
+    /// The next line, which the input's end ends, too. None where the input has ended or fails.
+    pub fn next<R: Wait>(&mut self, rt: &R) -> Option<Line> {
+        let mut line = Line::new();
+        let mut is_begun = false;
+        for _ in rt.forever() {
+            match self.next_byte() {
+                Some(b'\n') => return Some(line),
+                Some(byte) => {
+                    line.push(byte);
+                    is_begun = true;
+                }
+                None => return is_begun.then_some(line),
+            }
+        }
+        unreachable!()
+    }
+
+    fn next_byte(&mut self) -> Option<u8> {
+        if self.from == self.to {
+            self.from = 0;
+            self.to = 0;
+            self.to = self.input.read_on(&mut self.piece)?;
+            if self.to == 0 {
+                return None;
+            }
+        }
+        let byte = self.piece[self.from];
+        self.from += 1;
+        Some(byte)
+    }
+}

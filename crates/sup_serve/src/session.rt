@@ -1,0 +1,94 @@
+//! Sessions: what the children do.
+ghost use Rattle.std.specs.Prelude.{⊤};
+
+use futures::channel::oneshot::Sender;
+use futures::task::{Context, Poll};
+use futures::{Future, Stream};
+use sup_live::{Behaviour, Mailbox};
+use sup_types::{Reason, Text, Word};
+
+/// What a session answers to a text.
+#[derive(Clone, Copy, Debug)]
+pub struct Heard {
+    /// The number of the session.
+    pub number: u64,
+    /// How many texts it was told, with this one.
+    pub messages: u64,
+}
+
+/// What a session is sent.
+#[derive(Drop)]
+pub enum Message {
+    /// A text, and where the answer goes.
+    Text(Text, Sender<Heard>),
+    /// It is to crash.
+    Crash,
+}
+
+/// Makes sessions.
+#[derive(Drop)]
+pub struct Sessions;
+
+impl Behaviour for Sessions {
+    type Message = Message;
+
+    type Child = Session;
+
+    fn begin(&self, number: u64, _name: &Text, mailbox: Mailbox<Message>) -> Session
+        ensures { ⊤ }
+    {
+        Session {
+            number,
+            messages: 0,
+            mailbox,
+        }
+    }
+}
+
+/// A session: it counts what it is told.
+#[derive(Drop)]
+pub struct Session {
+    number: u64,
+    messages: u64,
+    mailbox: Mailbox<Message>,
+}
+
+impl Session {
+    /// The reason for which it ends by this message, if it does.
+    fn hear(&mut self, message: Message) -> Option<Reason> {
+        match message {
+            Message::Text(_text, answer) => {
+                self.messages = self.messages.saturating_add(1);
+                // (nobody may wait for the answer any more)
+                let _ = answer.send(Heard {
+                    number: self.number,
+                    messages: self.messages,
+                });
+                None
+            }
+            Message::Crash => Some(crash()),
+        }
+    }
+}
+
+impl Future for Session {
+    type Output = Reason;
+
+    fn poll(&mut self, cx: &mut Context<'_>) -> Poll<Reason> {
+        match self.mailbox.poll_next(cx) {
+            Poll::Pending => Poll::Pending,
+            Poll::Ready(None) => Poll::Ready(Reason::Shutdown),
+            Poll::Ready(Some(message)) => match self.hear(message) {
+                Some(reason) => Poll::Ready(reason),
+                None => cx.yield_now(),
+            },
+        }
+    }
+}
+
+fn crash() -> Reason {
+    match Word::new(b"crash") {
+        Some(word) => Reason::Other(word),
+        None => Reason::Normal,
+    }
+}
