@@ -1,5 +1,5 @@
-//! Readers and writers that fail, growth that is refused, and the values of the layer one by one. Scripts and histories with
-//! their replies are stored cases of the program.
+//! Readers and writers that are interrupted, growth that is refused, and the values of the layer one by one. Scripts and
+//! histories with their replies, and a stream that fails after each of its bytes, are stored cases of the program.
 ghost use Rattle.std.specs.Prelude.{◌≤◌, length};
 
 mod failing;
@@ -10,12 +10,6 @@ mod values;
 
 use std::process::Abort;
 use sup_script::{Fault, ScriptFault};
-
-/// A child whose restart fails for a while, and what the script writes.
-const FAILED_RESTART: (&str, &str) = (
-    "sup permanent worker 5 10 10\nstart 0 gap:5:9\nexit 6 1 x\ncount\nretry 7 1\nretry 9 1\ncount\n",
-    "ok 1\nrestarting 1 1\ncount specs 1 active 0 supervisors 0 workers 1\nrestarting 1 1\nrestarted 1 2\ncount specs 1 active 1 supervisors 0 workers 1\n",
-);
 
 /// A history text, and what its replay writes.
 const HISTORY: (&str, &str) = (

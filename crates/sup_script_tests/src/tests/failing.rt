@@ -1,6 +1,6 @@
 //! Readers and writers that fail, and texts that are too long.
 use super::fakes::{Counting, Looking, Narrow, Pieces, Stuck};
-use super::{FAILED_RESTART, STRAY, expect_end, line_feeds};
+use super::{STRAY, expect_end};
 use std::alloc::Global;
 use std::io::Read;
 use std::process::Abort;
@@ -84,54 +84,6 @@ fn stops_in_the_line_whose_reply_is_cut(rt: HostRuntime) {
     let mut stuck = WatchedWriter::new(Stuck);
     let result = run(rt.alloc(), &mut reader, &mut stuck, &ScriptStarter);
     expect_end(&rt, result, Some((Fault::WriteFault, 2)));
-}
-
-/// How many bytes the replies to the lines of the first so many bytes of the script are: each line but the header has a
-/// reply of one line.
-pub fn reply_bytes(replies: &[u8], lines: usize) -> usize {
-    let mut left = lines;
-    for (i, byte) in replies.iter().enumerate() {
-        if left <= 1 {
-            return i;
-        }
-        if *byte == b'\n' {
-            left -= 1;
-        }
-    }
-    replies.len()
-}
-
-#[test]
-fn stops_at_each_failed_read(rt: HostRuntime) {
-    let (script, replies) = (FAILED_RESTART.0.as_bytes(), FAILED_RESTART.1.as_bytes());
-    for calls in 0..script.len() + 1 {
-        let reader = Pieces {
-            left: script,
-            most: 1,
-            calls,
-        };
-        let whole = line_feeds(&script[..calls]);
-        let count = reply_bytes(replies, whole);
-        assert!(rt; count <= replies.len());
-        let fault = (Fault::ReadFault, whole as u64 + 1);
-        run_from(&rt, rt.alloc(), reader, fault, &replies[..count]);
-    }
-}
-
-#[test]
-fn stops_at_each_failed_write(rt: HostRuntime) {
-    let (script, replies) = (FAILED_RESTART.0.as_bytes(), FAILED_RESTART.1.as_bytes());
-    for calls in 0..replies.len() {
-        for most in [1, 3, 10_000] {
-            let reader = Pieces {
-                left: script,
-                most,
-                calls: usize::MAX,
-            };
-            let line = line_feeds(&replies[..calls]) as u64 + 2;
-            run_narrowly(&rt, rt.alloc(), reader, calls, line, &replies[..calls]);
-        }
-    }
 }
 
 #[test]

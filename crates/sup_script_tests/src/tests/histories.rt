@@ -1,54 +1,10 @@
 //! Worked history texts: what they spell, what they replay, and what is written again.
-use super::fakes::{Narrow, Pieces};
-use super::{HISTORY, expect_end, line_feeds};
+use super::{HISTORY, line_feeds};
 use std::alloc::Global;
 use std::process::Abort;
 use std::test::Fail;
-use sup_script::{
-    Fault, History, HistoryFault, WatchedReader, WatchedWriter, read_history, replay, write_history,
-};
+use sup_script::{Fault, History, HistoryFault, read_history, write_history};
 use sup_types::OutOfMemory;
-
-#[test]
-fn a_failed_read_writes_nothing(rt: HostRuntime) {
-    let text = HISTORY.0.as_bytes();
-    for calls in 0..text.len() + 1 {
-        let whole = line_feeds(&text[..calls]) as u64;
-        replay_pieces(&rt, rt.alloc(), calls, whole + 1);
-    }
-}
-
-/// Replays from a reader that fails after so many calls: it stops in this line and has written nothing.
-fn replay_pieces(rt: &impl Abort, alloc: Global, calls: usize, line: u64) {
-    let mut reader = WatchedReader::new(Pieces {
-        left: HISTORY.0.as_bytes(),
-        most: 1,
-        calls,
-    });
-    let mut out = WatchedWriter::new(Vec::new(alloc));
-    let ended = replay(alloc, &mut reader, &mut out);
-    expect_end(rt, ended, Some((Fault::ReadFault, line)));
-    assert!(rt; out.into_writer().is_empty());
-}
-
-#[test]
-fn a_failed_write_has_the_line_of_its_entry(rt: HostRuntime) {
-    let replies = HISTORY.1.as_bytes();
-    for calls in 0..replies.len() {
-        let line = line_feeds(&replies[..calls]) as u64 + 2;
-        replay_narrowly(&rt, rt.alloc(), calls, line, &replies[..calls]);
-    }
-}
-
-/// Replays to a writer that fails after so many calls: it holds these bytes, and the replay stops in this line.
-fn replay_narrowly(rt: &impl Abort, alloc: Global, calls: usize, line: u64, written: &[u8]) {
-    let held = Vec::new(alloc);
-    let mut reader = WatchedReader::new(HISTORY.0.as_bytes());
-    let mut writer = WatchedWriter::new(Narrow { held, calls });
-    let ended = replay(alloc, &mut reader, &mut writer);
-    expect_end(rt, ended, Some((Fault::WriteFault, line)));
-    assert!(rt; writer.into_writer().held.as_slice() == written);
-}
 
 #[test]
 fn reads_whole_lines_alone(rt: HostRuntime) {

@@ -1,5 +1,4 @@
 //! Each growth of a call refused in turn.
-use super::failing::reply_bytes;
 use super::{HISTORY, STRAY};
 use linked_list_allocator::LocalHeap;
 use std::alloc::{AllocError, Global};
@@ -209,6 +208,21 @@ fn replay_worked(rt: &impl Abort, alloc: Global) -> bool {
     };
     assert_replies(rt, lines, out.into_writer().as_slice());
     ended.is_ok()
+}
+
+/// How many bytes the replies to the lines of the first so many bytes of the script are: each line but the header has a
+/// reply of one line.
+fn reply_bytes(replies: &[u8], lines: usize) -> usize {
+    let mut left = lines;
+    for (i, byte) in replies.iter().enumerate() {
+        if left <= 1 {
+            return i;
+        }
+        if *byte == b'\n' {
+            left -= 1;
+        }
+    }
+    replies.len()
 }
 
 /// That the replies to so many lines of the worked history text were written, and no more.
