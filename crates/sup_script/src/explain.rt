@@ -1,7 +1,7 @@
 //! Why a line has a fault, in words that a person can act on.
 //!
 //! A fault names its line by a number. An [`Explanation`] shows the line, marks the place in it, and says what may stand
-//! there. It reads the line word by word with the functions that read commands and entries.
+//! there. It reads the line word by word: numbers, texts and reasons with the functions that read them in commands and entries.
 pub mod faulty;
 mod place;
 mod shape;
