@@ -1,5 +1,5 @@
 //! What a line asks for.
-use std::str;
+use sup_script::read_number;
 use sup_types::Text;
 
 /// What may be asked of the server.
@@ -57,10 +57,6 @@ fn read_word(line: &[u8]) -> Option<Command> {
 fn read_tell(rest: &[u8]) -> Option<Command> {
     let (number, text) = split(rest);
     Some(Command::Tell(read_number(number)?, Text::new(text)?))
-}
-
-fn read_number(word: &[u8]) -> Option<u64> {
-    str::from_utf8(word).ok()?.parse().ok()
 }
 
 /// The bytes before the first space, and those after it.

@@ -59,7 +59,8 @@ impl<'a, I: Read> Lines<'a, I> {
         }
     }
 
-    /// The next line, which the input's end ends, too. None where the input has ended or fails.
+    /// The next line, which the input's end ends, too. None where the input has ended or failed: a line in which it fails is
+    /// none.
     pub fn next<R: Wait>(&mut self, rt: &R) -> Option<Line> {
         let mut line = Line::new();
         let mut is_begun = false;
@@ -70,7 +71,7 @@ impl<'a, I: Read> Lines<'a, I> {
                     line.push(byte);
                     is_begun = true;
                 }
-                None => return is_begun.then_some(line),
+                None => return (is_begun && !self.input.has_failed()).then_some(line),
             }
         }
         unreachable!()

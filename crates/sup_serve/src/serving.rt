@@ -1,5 +1,5 @@
 //! Serving.
-ghost use Rattle.std.specs.Prelude.{◌≡◌, true, IfErr};
+ghost use Rattle.std.specs.Prelude.{◌≡◌, true, false, IfErr, OnOk};
 ghost use Rattle.sup_serve.specs.declared.fault.ServeFault.TheVariants as fault;
 
 use crate::fault::ServeFault;
@@ -33,7 +33,7 @@ struct Account {
 /// written: how many were opened, restarted and ended. It waits.
 ///
 /// Read and Write: the input or the output failed; the sessions were told to end, too, and what was answered before is
-/// written. Where the crew can't run nothing is read.
+/// written. OutOfMemory: the same, for want of memory, or nothing was read. Crew: the crew could not run, and nothing was read.
 pub fn serve<R, I, W>(
     rt: &R,
     alloc: Global,
@@ -45,6 +45,7 @@ where
     R: Threads + Wait + Clock + RandomSource + AllocGlobal + Sync,
     I: Read,
     W: Write,
+    ensures ok { OnOk result (input.new.has_failed ≡ false) }
     ensures read { IfErr result (λ e. e ≡ fault.Read → input.new.has_failed ≡ true) }
     ensures write { IfErr result (λ e. e ≡ fault.Write → out.new.has_refused ≡ true) }
 {

@@ -89,6 +89,6 @@ impl Future for Session {
 fn crash() -> Reason {
     match Word::new(b"crash") {
         Some(word) => Reason::Other(word),
-        None => Reason::Normal,
+        None => unreachable!(),
     }
 }
