@@ -19,7 +19,7 @@ use Rattle.clap.proofs.OnLiterals.{clap_on_literals}
 use Rattle.sup_load.specs.Grammar.{supload_app}
 use Rattle.sup_load.specs.Loads.{IsWithin}
 use Rattle.sup_load.specs.Orders.{AreNumbers, Command, IsNoOrder, IsOrder, LeadsTo, WordsLeadTo, command_at, kinds_at}
-use Rattle.sup_load.specs.declared.words.Detail.TheVariants as detail
+use Rattle.sup_script.specs.declared.runs.answer.Detail.TheVariants as detail
 use Rattle.sup_load.specs.declared.words.Order.{Order}
 use Rattle.sup_load.specs.declared.words.Order.TheVariants as order
 

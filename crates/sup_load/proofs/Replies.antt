@@ -6,7 +6,7 @@ use Rattle.clap.specs.Values.{kind_of}
 use Rattle.clap.specs.declared.error.Error.{Error}
 use Rattle.sup_load.specs.Answered.{IsDone, IsReply, IsServed, IsServing, IsShownAs}
 use Rattle.sup_load.specs.Orders.{Command, IsOrder, LeadsTo}
-use Rattle.sup_load.specs.declared.program.Status.{Status}
+use Rattle.sup_script.specs.declared.runs.answer.Status.{Status}
 use Rattle.sup_load.specs.declared.words.Order.{Order}
 use Rattle.sup_load.specs.declared.words.Order.TheVariants as order
 use Rattle.sup_serve.specs.declared.server.Notices.{Notices}

@@ -7,8 +7,8 @@ use Rattle.sup_load.specs.Answered.{IsShown, IsShownAs, IsWritten}
 use Rattle.sup_load.specs.Statuses.{status_of_load}
 use Rattle.sup_load.specs.declared.fault.LoadFault.{LoadFault}
 use Rattle.sup_load.specs.declared.fault.LoadFault.TheVariants as load
-use Rattle.sup_load.specs.declared.program.Status.{Status}
-use Rattle.sup_load.specs.declared.program.Status.TheVariants as status
+use Rattle.sup_script.specs.declared.runs.answer.Status.{Status}
+use Rattle.sup_script.specs.declared.runs.answer.Status.TheVariants as status
 
 written : (contents held : Option (List ℕ)) (has_refused : Bool) (result : Result (Unit {0}) LoadFault) → IsWritten contents held has_refused result
     → IsShown contents held has_refused (status_of_load result) × (status_of_load result ≡ status.BadInput → ⊥)

@@ -1,41 +1,23 @@
 -- How the program answers: a script, a history text or the lines of a server on standard input, a load, or words that are no
 -- order.
-use Rattle.std.specs.Prelude.{◌≡◌, ◌⊎◌, ℕ, Bool, true, List, [], Option, Result, Ok, Err, IfErr}
+use Rattle.std.specs.Prelude.{◌≡◌, ◌⊎◌, ℕ, Bool, true, List, [], Option, Result, Ok, Err}
 use Rattle.std.specs.Io.KnownBytes.{Appends}
-use Rattle.sup_script.specs.Running.Causes.{HasCause}
-use Rattle.sup_script.specs.Running.Replays.{IsReplay}
-use Rattle.sup_script.specs.Running.Runs.{IsRun}
-use Rattle.sup_script.specs.Starter.{script_answer}
-use Rattle.sup_script.specs.declared.fault.ScriptFault.{ScriptFault}
+use Rattle.sup_script.specs.Running.Answers.{IsScriptAnswered, IsReplayAnswered}
 use Rattle.clap.specs.Kinds.{Kinds}
 use Rattle.clap.specs.Walk.{Text}
 use Rattle.clap.specs.declared.error.kind.ErrorKind.{ErrorKind}
 use Rattle.clap.specs.declared.error.kind.ErrorKind.TheVariants.{DisplayHelp, DisplayVersion, OutOfMemory}
 use Rattle.sup_load.specs.Orders.{Command, IsOrder, IsRefusal, command_at, kinds_at}
 use Rattle.sup_load.specs.Reports.{IsLoaded}
-use Rattle.sup_load.specs.Statuses.{status_of, status_of_load, status_of_stop_fault}
+use Rattle.sup_load.specs.Statuses.{status_of_load, status_of_stop_fault}
 use Rattle.sup_load.specs.declared.fault.LoadFault.{LoadFault}
 use Rattle.sup_load.specs.declared.fault.LoadFault.TheVariants as load
 use Rattle.sup_load.specs.declared.fault.StopFault.TheVariants as stop
-use Rattle.sup_load.specs.declared.program.Status.{Status}
-use Rattle.sup_load.specs.declared.program.Status.TheVariants as status
+use Rattle.sup_script.specs.declared.runs.answer.Status.{Status}
+use Rattle.sup_script.specs.declared.runs.answer.Status.TheVariants as status
 use Rattle.sup_load.specs.declared.words.Order.{Order}
 use Rattle.sup_load.specs.declared.words.Order.TheVariants as order
 use Rattle.sup_serve.specs.declared.server.Notices.{Notices}
-
--- a script was run, the status is that of the run's outcome, and a fault has its cause
-pub record IsScriptAnswered (remaining left contents held : Option (List ℕ)) (has_failed : Bool) (given : ℕ) (has_refused : Bool) (status : Status) : Type 0 where
-  pub outcome : Result (Unit {0}) ScriptFault
-  pub run : IsRun script_answer remaining left contents held outcome
-  pub cause : IfErr outcome (λ e. HasCause has_failed given has_refused e.fault)
-  pub status_is : status ≡ status_of outcome
-
--- the same of a history text, which was replayed
-pub record IsReplayAnswered (remaining left contents held : Option (List ℕ)) (has_failed : Bool) (given : ℕ) (has_refused : Bool) (status : Status) : Type 0 where
-  pub outcome : Result (Unit {0}) ScriptFault
-  pub replay : IsReplay remaining left contents held outcome
-  pub cause : IfErr outcome (λ e. HasCause has_failed given has_refused e.fault)
-  pub status_is : status ≡ status_of outcome
 
 -- a load was run and told, and the status is that of its outcome
 pub record IsLoadAnswered (contents held : Option (List ℕ)) (has_refused : Bool) (status : Status) : Type 0 where

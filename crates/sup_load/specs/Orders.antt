@@ -10,8 +10,8 @@ use Rattle.clap.specs.declared.error.Error.{Error}
 use Rattle.clap.specs.declared.error.kind.ErrorKind.{ErrorKind}
 use Rattle.clap.specs.declared.error.kind.ErrorKind.TheVariants.{InvalidSubcommand, OutOfMemory, ValueValidation}
 use Rattle.sup_load.specs.Grammar.{supload_app}
-use Rattle.sup_load.specs.declared.words.Detail.{Detail}
-use Rattle.sup_load.specs.declared.words.Detail.TheVariants as detail
+use Rattle.sup_script.specs.declared.runs.answer.Detail.{Detail}
+use Rattle.sup_script.specs.declared.runs.answer.Detail.TheVariants as detail
 use Rattle.sup_load.specs.declared.words.Order.{Order}
 use Rattle.sup_load.specs.declared.words.Order.TheVariants as order
 use Rattle.sup_serve.specs.declared.server.Notices.{Notices}

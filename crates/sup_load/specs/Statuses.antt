@@ -1,36 +1,13 @@
--- The exit statuses of the program.
+-- The exit statuses of a load and of a server.
 use Rattle.std.specs.Prelude.{ℕ, Result, Ok, Err}
-use Rattle.sup_script.specs.declared.fault.Fault.{Fault}
-use Rattle.sup_script.specs.declared.fault.Fault.TheVariants as fault
-use Rattle.sup_script.specs.declared.fault.ScriptFault.{ScriptFault}
 use Rattle.sup_load.specs.declared.fault.LoadFault.{LoadFault}
 use Rattle.sup_load.specs.declared.fault.LoadFault.TheVariants as load
 use Rattle.sup_load.specs.declared.fault.StopFault.{StopFault}
 use Rattle.sup_load.specs.declared.fault.StopFault.TheVariants as stop
 use Rattle.sup_serve.specs.declared.fault.ServeFault.{ServeFault}
 use Rattle.sup_serve.specs.declared.fault.ServeFault.TheVariants as serve
-use Rattle.sup_load.specs.declared.program.Status.{Status}
-use Rattle.sup_load.specs.declared.program.Status.TheVariants as status
-
-abbrev pub status_number : Status → ℕ
-status_number status.Done = 0
-status_number status.BadInput = 2
-status_number status.Failed = 3
-status_number status.OtherFault = 4
-
--- what is wrong with the input, what failed outside, and want of memory are told apart
-abbrev pub status_of_fault : Fault → Status
-status_of_fault fault.OutOfMemory = status.OtherFault
-status_of_fault fault.BadTemplate = status.BadInput
-status_of_fault fault.BadLine = status.BadInput
-status_of_fault fault.ReadFault = status.Failed
-status_of_fault fault.WriteFault = status.Failed
-status_of_fault fault.TooLong = status.BadInput
-
--- how a run ended
-abbrev pub status_of : Result (Unit {0}) ScriptFault → Status
-status_of (Ok u) = status.Done
-status_of (Err e) = status_of_fault e.fault
+use Rattle.sup_script.specs.declared.runs.answer.Status.{Status}
+use Rattle.sup_script.specs.declared.runs.answer.Status.TheVariants as status
 
 -- the numbers of the faults, which are the same wherever a fault is answered
 abbrev pub stop_fault_number : StopFault → ℕ

@@ -1,17 +1,18 @@
 //! The whole program, over any reader and writers.
 
 ghost use Rattle.std.specs.Prelude.{◌≡◌, ◌⊎◌, ℕ, List, [], ◌∷◌, codes, false, map, true};
-ghost use Rattle.sup_load.specs.Answered.{IsScriptAnswered, IsReplayAnswered, IsLoadAnswered, IsShown, IsShownAs, IsWritten, IsAnswered, IsLoadReply, IsReplyTo, IsServed, IsServing};
+ghost use Rattle.sup_script.specs.Running.Answers.{IsScriptAnswered, IsReplayAnswered, status_number};
+ghost use Rattle.sup_load.specs.Answered.{IsLoadAnswered, IsShown, IsShownAs, IsWritten, IsAnswered, IsLoadReply, IsReplyTo, IsServed, IsServing};
 ghost use Rattle.sup_load.specs.Settings.{Given, IsWhole, words_of};
 ghost use Rattle.clap.specs.Values.{kind_of};
 ghost use Rattle.sup_load.specs.Orders.{command_at, kinds_at};
-ghost use Rattle.sup_load.specs.Statuses.{status_of, status_of_load, status_number};
-ghost use Rattle.sup_load.specs.declared.program.Status.{Status as AStatus};
-ghost use Rattle.sup_load.specs.declared.program.Status.TheVariants.{Failed};
+ghost use Rattle.sup_load.specs.Statuses.{status_of_load, status_of_load_fault, status_of_serve_fault};
+ghost use Rattle.sup_script.specs.declared.runs.answer.Status.{Status as AStatus};
+ghost use Rattle.sup_script.specs.declared.runs.answer.Status.TheVariants.{Failed};
 
 use crate::fault::{LoadFault, StopFault};
 use crate::load::{Load, run_load, write_text};
-use crate::words::{Detail, Order, read_words};
+use crate::words::{Order, read_words};
 use clap::error::{Error, ErrorKind};
 use std::alloc::{AllocError, AllocGlobal, Global};
 use std::convert::AsStr;
@@ -21,70 +22,27 @@ use std::random::RandomSource;
 use std::sync::Wait;
 use std::thread::Threads;
 use std::time::Clock;
-use sup_script::{
-    Explanation, Fault, FaultyLine, Format, ScriptFault, ScriptStarter, WatchedReader,
-    WatchedWriter, replay_with_line, run_with_line,
-};
+use sup_script::{Format, Status, WatchedReader, WatchedWriter, answer_text};
 use sup_serve::{Notices, ServeFault, serve};
 
-/// How the program ended.
-#[derive(Clone, Copy, Debug, PartialEq, Eq)]
-pub enum Status {
-    /// All was answered.
-    Done,
-    /// The words, a line or the header are wrong, or the input is too long.
-    BadInput,
-    /// Reading or writing failed.
-    Failed,
-    /// Any other fault, as want of memory.
-    OtherFault,
+/// The status of a load that stopped with this fault.
+fn load_status(fault: LoadFault) -> Status
+    ensures { result ≡ status_of_load_fault fault }
+{
+    match fault {
+        LoadFault::Stopped(StopFault::BadTemplate) => Status::BadInput,
+        LoadFault::Stopped(_) => Status::OtherFault,
+        LoadFault::WriteFault => Status::Failed,
+    }
 }
 
-impl Status {
-    ghost use Rattle.sup_load.specs.Statuses.{status_number, status_of_fault, status_of_load_fault, status_of_serve_fault};
-
-    /// The exit status of the process: 0, 2, 3 or 4, in the order of the variants.
-    pub fn number(self) -> u8
-        ensures { result ≡ status_number self }
-    {
-        match self {
-            Status::Done => 0,
-            Status::BadInput => 2,
-            Status::Failed => 3,
-            Status::OtherFault => 4,
-        }
-    }
-
-    /// The status of a run that stopped with this fault.
-    fn of(fault: Fault) -> Status
-        ensures { result ≡ status_of_fault fault }
-    {
-        match fault {
-            Fault::BadTemplate | Fault::BadLine | Fault::TooLong => Status::BadInput,
-            Fault::ReadFault | Fault::WriteFault => Status::Failed,
-            Fault::OutOfMemory => Status::OtherFault,
-        }
-    }
-
-    /// The status of a load that stopped with this fault.
-    fn of_load(fault: LoadFault) -> Status
-        ensures { result ≡ status_of_load_fault fault }
-    {
-        match fault {
-            LoadFault::Stopped(StopFault::BadTemplate) => Status::BadInput,
-            LoadFault::Stopped(_) => Status::OtherFault,
-            LoadFault::WriteFault => Status::Failed,
-        }
-    }
-
-    /// The status of a server that stopped with this fault.
-    fn of_server(fault: ServeFault) -> Status
-        ensures { result ≡ status_of_serve_fault fault }
-    {
-        match fault {
-            ServeFault::Read | ServeFault::Write => Status::Failed,
-            ServeFault::OutOfMemory | ServeFault::Crew(_) => Status::OtherFault,
-        }
+/// The status of a server that stopped with this fault.
+fn server_status(fault: ServeFault) -> Status
+    ensures { result ≡ status_of_serve_fault fault }
+{
+    match fault {
+        ServeFault::Read | ServeFault::Write => Status::Failed,
+        ServeFault::OutOfMemory | ServeFault::Crew(_) => Status::OtherFault,
     }
 }
 
@@ -171,8 +129,8 @@ where
     ensures cause { result ≡ Failed → (reader.new.has_failed ≡ true) ⊎ (out.new.has_refused ≡ true) }
 {
     match read_words(alloc, words) {
-        Ok(Order::Script(detail)) => answer_script(alloc, detail, reader, out, err),
-        Ok(Order::Replay(detail)) => answer_history(alloc, detail, reader, out, err),
+        Ok(Order::Script(detail)) => answer_text(alloc, Format::Script, detail, reader, out, err),
+        Ok(Order::Replay(detail)) => answer_text(alloc, Format::History, detail, reader, out, err),
         Ok(Order::Load(load)) => answer_load(rt, alloc, load, out, err),
         Ok(Order::Serve(notices)) => answer_serve(rt, alloc, notices, reader, out, err),
         Err(error) => show(alloc, &error, out, err),
@@ -187,84 +145,6 @@ pub fn refuse_words<E: Write>(error: &io::Error, err: &mut E) -> u8 {
         return Status::BadInput.number();
     }
     told_load(Err(LoadFault::from(AllocError)), err).number()
-}
-
-/// Answers a script. The status is that of the outcome of its run.
-fn answer_script<R: Read, W: Write, E: Write>(
-    alloc: Global,
-    detail: Detail,
-    reader: &mut WatchedReader<R>,
-    out: &mut WatchedWriter<W>,
-    err: &mut E,
-) -> Status
-    requires calls { reader.old.calls ≡ 0 }
-    requires none { reader.old.given ≡ 0 }
-    requires unfailed { reader.old.has_failed ≡ false }
-    requires unrefused { out.old.has_refused ≡ false }
-    ensures { IsScriptAnswered (R.remaining reader.old.reader) (R.remaining reader.new.reader) (W.contents out.old.writer) (W.contents out.new.writer)
-        reader.new.has_failed reader.new.given out.new.has_refused result }
-{
-    let mut line = FaultyLine::new();
-    let outcome = run_with_line(alloc, reader, out, &ScriptStarter, &mut line);
-    let status = told(outcome, err);
-    explain(alloc, detail, Format::Script, outcome, &line, err);
-    status
-}
-
-/// Replays a history text. The status is that of the outcome of its replay.
-fn answer_history<R: Read, W: Write, E: Write>(
-    alloc: Global,
-    detail: Detail,
-    reader: &mut WatchedReader<R>,
-    out: &mut WatchedWriter<W>,
-    err: &mut E,
-) -> Status
-    requires calls { reader.old.calls ≡ 0 }
-    requires none { reader.old.given ≡ 0 }
-    requires unfailed { reader.old.has_failed ≡ false }
-    requires unrefused { out.old.has_refused ≡ false }
-    ensures { IsReplayAnswered (R.remaining reader.old.reader) (R.remaining reader.new.reader) (W.contents out.old.writer) (W.contents out.new.writer)
-        reader.new.has_failed reader.new.given out.new.has_refused result }
-{
-    let mut line = FaultyLine::new();
-    let outcome = replay_with_line(alloc, reader, out, &mut line);
-    let status = told(outcome, err);
-    explain(alloc, detail, Format::History, outcome, &line, err);
-    status
-}
-
-/// Tells the fault of a run, if there is one, by a line on standard error.
-fn told<E: Write>(outcome: Result<(), ScriptFault>, err: &mut E) -> Status
-    ensures { result ≡ status_of outcome }
-{
-    match outcome {
-        Ok(()) => Status::Done,
-        Err(stop) => {
-            let _ = writeln!(err, "{stop}");
-            Status::of(stop.fault)
-        }
-    }
-}
-
-/// Explains the fault of a run, if there is one and that is asked for, by further lines on standard error.
-fn explain<E: Write>(
-    alloc: Global,
-    detail: Detail,
-    format: Format,
-    outcome: Result<(), ScriptFault>,
-    line: &FaultyLine,
-    err: &mut E,
-) {
-    let (Detail::Explained, Err(stop)) = (detail, outcome) else {
-        return;
-    };
-    let text = match Explanation::new(alloc, format, stop, line) {
-        Some(explanation) => format!(in alloc; "{explanation}"),
-        None => format!(in alloc; "  {}\n", stop.fault),
-    };
-    if let Ok(text) = text {
-        let _ = err.write_all(text.as_bytes());
-    }
 }
 
 /// Runs a load. The fault that stopped it, if there is one, is a line on standard error.
@@ -301,7 +181,7 @@ where
         Ok(()) => Status::Done,
         Err(fault) => {
             let _ = writeln!(err, "fault {}", fault.number());
-            Status::of_server(fault)
+            server_status(fault)
         }
     }
 }
@@ -314,7 +194,7 @@ fn told_load<E: Write>(outcome: Result<(), LoadFault>, err: &mut E) -> Status
         Ok(()) => Status::Done,
         Err(fault) => {
             let _ = writeln!(err, "{fault}");
-            Status::of_load(fault)
+            load_status(fault)
         }
     }
 }

@@ -10,7 +10,7 @@ ghost use Rattle.sup_load.specs.Loads.{IsWithin};
 ghost use Rattle.sup_load.specs.Orders.{AreNumbers, IsDetail, IsLoadOf, IsNoOrder, IsNotices, IsOrder, WordsLeadTo};
 ghost use Rattle.sup_load.specs.Settings.{Given, IsWhole, words_of};
 ghost use Rattle.sup_load.specs.declared.words.Order.TheVariants as order;
-ghost use Rattle.sup_load.specs.declared.words.Detail.TheVariants as detail;
+ghost use Rattle.sup_script.specs.declared.runs.answer.Detail.TheVariants as detail;
 
 use crate::load::Load;
 use clap::builder::ValueParser;
@@ -18,16 +18,8 @@ use clap::error::{Error, ErrorKind};
 use clap::{Arg, ArgAction, ArgMatches, Command};
 use std::alloc::{AllocError, Global};
 use std::convert::AsStr;
+use sup_script::Detail;
 use sup_serve::Notices;
-
-/// How much is said of a fault in a text.
-#[derive(Clone, Copy, Debug, PartialEq, Eq)]
-pub enum Detail {
-    /// Its number and its line.
-    Number,
-    /// These, and an explanation.
-    Explained,
-}
 
 /// What the program is asked to do.
 #[derive(Clone, Copy, Debug, PartialEq, Eq)]

@@ -6,3 +6,4 @@ pub mod Causes
 pub mod Answering
 pub mod Pieces
 pub mod Replays
+pub mod Answers

@@ -39,6 +39,7 @@ pub use fault::{Fault, ScriptFault};
 pub use read::command::{Command, read_line};
 pub use read::history::{History, HistoryFault, read_history};
 pub use read::words::read_number;
+pub use runs::answer::{Detail, Status, answer_text};
 pub use runs::replays::{replay, replay_with_line};
 pub use runs::script::{run, run_with_line};
 pub use runs::watch::{WatchedReader, WatchedWriter};

@@ -10,14 +10,14 @@ use Rattle.sup_load.proofs.program.answer_words.Goals as goal
 pub returns-in-Ok-Script-clause-words : goal.returns-in-Ok-Script-clause-words
 returns-in-Ok-Script-clause-words g c =
     let words = map g.S.AsStr.text c.args.words.now in
-    done_as (kinds_at words) (command_at words) _ _ _ _ _ _ _ c.answer_script.result
-    c.in-Ok-Script.field-0 (order.Script c.in-Ok-Script.detail) c.in-Ok-Script.field-0-is c.in-Ok-Script.ensures.words c.answer_script.ensures
+    done_as (kinds_at words) (command_at words) _ _ _ _ _ _ _ c.answer_text.result
+    c.in-Ok-Script.field-0 (order.Script c.in-Ok-Script.detail) c.in-Ok-Script.field-0-is c.in-Ok-Script.ensures.words c.answer_text.ensures.answered
 
 pub returns-in-Ok-Replay-clause-words : goal.returns-in-Ok-Replay-clause-words
 returns-in-Ok-Replay-clause-words g c =
     let words = map g.S.AsStr.text c.args.words.now in
-    done_as (kinds_at words) (command_at words) _ _ _ _ _ _ _ c.answer_history.result
-    c.in-Ok-Replay.field-0 (order.Replay c.in-Ok-Replay.detail) c.in-Ok-Replay.field-0-is c.in-Ok-Replay.ensures.words c.answer_history.ensures
+    done_as (kinds_at words) (command_at words) _ _ _ _ _ _ _ c.answer_text-in-Ok-Replay.result
+    c.in-Ok-Replay.field-0 (order.Replay c.in-Ok-Replay.detail) c.in-Ok-Replay.field-0-is c.in-Ok-Replay.ensures.words c.answer_text-in-Ok-Replay.ensures.answered
 
 pub returns-in-Ok-Load-clause-words : goal.returns-in-Ok-Load-clause-words
 returns-in-Ok-Load-clause-words g c =
@@ -37,10 +37,10 @@ returns-in-Err-clause-words g c =
     error_as (kinds_at words) (command_at words) _ _ _ _ _ _ _ c.show.result c.in-Err.error c.in-Err.ensures.words refl c.show.ensures.kind
 
 pub returns-in-Ok-Script-clause-one : goal.returns-in-Ok-Script-clause-one
-returns-in-Ok-Script-clause-one g c = inl (inl c.answer_script.ensures)
+returns-in-Ok-Script-clause-one g c = inl (inl c.answer_text.ensures.answered)
 
 pub returns-in-Ok-Replay-clause-one : goal.returns-in-Ok-Replay-clause-one
-returns-in-Ok-Replay-clause-one g c = inl (inr (inl c.answer_history.ensures))
+returns-in-Ok-Replay-clause-one g c = inl (inr (inl c.answer_text-in-Ok-Replay.ensures.answered))
 
 pub returns-in-Ok-Load-clause-one : goal.returns-in-Ok-Load-clause-one
 returns-in-Ok-Load-clause-one g c = inl (inr (inr (refl, inl c.answer_load.ensures.loaded)))

@@ -1,7 +1,7 @@
 -- The two commands that need no option.
 use Rattle.std.proofs.Common.{List, ℕ, sym, subst, Ok}
 use Rattle.sup_load.specs.Orders.{WordsLeadTo}
-use Rattle.sup_load.specs.declared.words.Detail.TheVariants as detail
+use Rattle.sup_script.specs.declared.runs.answer.Detail.TheVariants as detail
 use Rattle.sup_load.specs.declared.words.Order.TheVariants as order
 use Rattle.sup_load.proofs.Loads.{load_leads}
 use Rattle.sup_load.proofs.Leads.{script_leads, replay_leads}
