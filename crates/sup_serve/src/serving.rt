@@ -50,6 +50,21 @@ where
     ensures write { IfErr result (λ e. e ≡ fault.Write → out.new.has_refused ≡ true) }
 {
     let account = serve_lines(rt, alloc, input, out, notices);
+    conclude(alloc, input, out, account)
+}
+
+/// How serving ended, by what failed meanwhile: where nothing did, the account is written. It stands apart from what serves,
+/// so that its contract is proved, and its mutants are refused, without that.
+fn conclude<I: Read, W: Write>(
+    alloc: Global,
+    input: &WatchedReader<I>,
+    out: &mut WatchedWriter<W>,
+    account: Result<Account, ServeFault>,
+) -> Result<(), ServeFault>
+    ensures ok { OnOk result (input.now.has_failed ≡ false) }
+    ensures read { IfErr result (λ e. e ≡ fault.Read → input.now.has_failed ≡ true) }
+    ensures write { IfErr result (λ e. e ≡ fault.Write → out.new.has_refused ≡ true) }
+{
     if input.has_failed() {
         return Err(ServeFault::Read);
     }
