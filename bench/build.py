@@ -19,7 +19,11 @@ USES = {
     "desk": "sup_types sup_desk",
     "inbox": "sup_types sup_inbox crossbeam_queue atomic_table",
     "crew": "sup_types sup_desk sup_crew",
+    "live": "sup_types sup_desk sup_live futures anyhow",
 }
+
+# The words that our program is given as `rt run` runs it, once it is built.
+WORDS = {"live": ["1000"]}
 
 
 def said(words, folder, log):
@@ -91,7 +95,7 @@ def ours(name):
     # (so that this folder is the top of a repository)
     subprocess.run(["git", "init", "-q"], cwd=ROOM, check=True)
     jobs = os.environ.get("BENCH_JOBS", "2")
-    said(["rt", "run", "--jobs", jobs], crate, f"{ROOM}/{name}.log")
+    said(["rt", "run", "--jobs", jobs, "--", *WORDS.get(name, [])], crate, f"{ROOM}/{name}.log")
     return [f"{crate}/out/bench_{name}"]
 
 
@@ -113,15 +117,15 @@ def plain(name):
 def peers(name):
     """The peers of a name: what each is called, and the words that run it."""
     made = [("plain Rust", [plain(name)])]
-    if name == "crew":
-        made += erlang()
+    if name in ("crew", "live"):
+        made += erlang(name)
     return made
 
 
-def erlang():
+def erlang(name):
     """OTP's own supervisor, where Erlang is installed."""
     if not (shutil.which("erl") and shutil.which("erlc")):
         print("Erlang's supervisor is left out: no `erl` is installed")
         return []
-    said(["erlc", "-o", f"{ROOM}/peers", f"{HERE}/peers/crew.erl"], HERE, f"{ROOM}/crew_erl.log")
-    return [("Erlang", ["erl", "-noshell", "-pa", f"{ROOM}/peers", "-s", "crew", "main"])]
+    said(["erlc", "-o", f"{ROOM}/peers", f"{HERE}/peers/{name}.erl"], HERE, f"{ROOM}/{name}_erl.log")
+    return [("Erlang", ["erl", "-noshell", "-pa", f"{ROOM}/peers", "-s", name, "main"])]

@@ -1,13 +1,17 @@
 """Runs programs in turn, and tells their figures: the ratio first, then middle and best of each."""
+import collections
 import os
 import re
 import statistics
 import subprocess
 import tempfile
 
-# What each program writes of each figure: how long so many took, and what came of the work (`-`: it hangs on the
-# schedule), which must be the same on both sides.
-LINE = re.compile(r"(.+): (\d+) ns, (\d+) times, answer (\S+)")
+# What each program writes of each figure: how long so many took, or how many bytes, and what came of the work (`-`: it hangs
+# on the schedule), which must be the same on both sides.
+LINE = re.compile(r"(.+): (\d+) (ns|bytes), (\d+) times, answer (\S+)")
+
+# A figure: how much each took, of what, and the work.
+Figure = collections.namedtuple("Figure", "each unit work")
 
 
 class Failed(Exception):
@@ -45,56 +49,72 @@ def mebibytes(kibibytes):
     return f"{kibibytes / 1024:.1f} MiB"
 
 
-def figures(launch, words):
-    """One run of a program that tells its figures: nanoseconds each and answer by label, and the memory."""
-    _, memory, out = run(launch, words)
-    lines = out.read().decode().splitlines()
-    found = {}
-    for line in lines:
-        match = LINE.fullmatch(line)
-        if not match:
-            raise Failed(f"{words[0]} wrote '{line}'")
-        label, took, times, answer = match.groups()
-        if label in found or int(took) == 0 or int(times) == 0:
-            raise Failed(f"{words[0]} gave no figure of '{label}'")
-        work = "-" if answer == "-" else f"{times} times, answer {answer}"
-        found[label] = (int(took) / int(times), work)
-    return found, memory
+def figures(launch, runs):
+    """One run of a program that tells its figures, or one after another with other words each: the figures by label, and the
+    most memory."""
+    found, most = {}, 0
+    for words in runs:
+        _, memory, out = run(launch, words)
+        most = max(most, memory)
+        for line in out.read().decode().splitlines():
+            label, figure = figure_of(words[0], line)
+            if label in found:
+                raise Failed(f"{words[0]} gave two figures of '{label}'")
+            found[label] = figure
+    return found, most
+
+
+def figure_of(program, line):
+    """The label and the figure of a line."""
+    match = LINE.fullmatch(line)
+    if not match:
+        raise Failed(f"{program} wrote '{line}'")
+    label, took, unit, times, answer = match.groups()
+    if int(took) == 0 or int(times) == 0:
+        raise Failed(f"{program} gave no figure of '{label}'")
+    work = "-" if answer == "-" else f"{times} times, answer {answer}"
+    return label, Figure(int(took) / int(times), unit, work)
 
 
 def compare(launch, programs, rounds):
-    """Runs the programs in turn, ours first, and writes how each peer compares with ours."""
+    """Runs the programs in turn, ours first, and writes how each peer compares with ours. A program is a name, and the words of
+    each of its runs."""
     rows = {name: [] for name, _ in programs}
     memory = {name: 0 for name, _ in programs}
     for _ in range(rounds):
-        for name, words in programs:
-            found, most = figures(launch, words)
+        for name, runs in programs:
+            found, most = figures(launch, runs)
             memory[name] = max(memory[name], most)
             rows[name].append(found)
             check_same_work(rows["ours"][0], found, name)
     alone = {*rows["ours"][0]}
     for name, _ in programs[1:]:
         alone -= rows[name][0].keys()
-        print(f"{name}: best and middle of {rounds} rounds in turn, ns each")
-        table = {}
-        for label in rows["ours"][0]:
-            if label in rows[name][0]:
-                table[label] = [[it[label][0] for it in rows[side]] for side in ("ours", name)]
-        write_table(table)
+        for unit in ("ns", "bytes"):
+            table = table_of(rows, name, unit)
+            if table:
+                print(f"{name}: best and middle of {rounds} rounds in turn, {unit} each")
+                write_table(table)
     for label in sorted(alone):
-        took = [it[label][0] for it in rows["ours"]]
+        took = [it[label].each for it in rows["ours"]]
         print(f"ours alone, {label}: middle {told(statistics.median(took))}, best {told(min(took))}")
     memories = ", ".join(f"{name} {mebibytes(it)}" for name, it in memory.items())
     print(f"most memory: {memories}", flush=True)
+
+
+def table_of(rows, name, unit):
+    """What all runs of ours and of a peer took, by label, of the labels with this unit that both have."""
+    labels = [label for label, it in rows["ours"][0].items() if it.unit == unit and label in rows[name][0]]
+    return {label: [[it[label].each for it in rows[side]] for side in ("ours", name)] for label in labels}
 
 
 def check_same_work(ours, theirs, name):
     """Ours and a peer must have done the same work, so many times, with the same outcome."""
     if not theirs.keys() <= ours.keys():
         raise Failed(f"{name} gave a figure that ours does not have: {sorted(theirs.keys() - ours.keys())}")
-    for label, (_, work) in theirs.items():
-        if work != ours[label][1]:
-            raise Failed(f"{label}: ours {ours[label][1]}, {name} {work}")
+    for label, figure in theirs.items():
+        if figure[1:] != ours[label][1:]:
+            raise Failed(f"{label}: ours {ours[label].work}, {name} {figure.work}")
 
 
 def write_table(table, unit=""):
