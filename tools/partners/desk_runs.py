@@ -62,24 +62,29 @@ def build():
 
 
 def place_of(file):
-    """Where a file of desk/ lies in the program's crate: a source, or a proof file of the function that it is named after."""
+    """Where a source file of a program, or a proof file of the function that it is named after, lies in the program's crate."""
     name = file.removesuffix(".txt")
     return f"src/{name}" if name.endswith(".rt") else f"proofs/{name.removesuffix('.antt')}/Invariants.antt"
 
 
 def copy_crates(room, *left_out):
     """Copies the crates that the program needs, and writes its own beside them."""
-    for crate in CRATES:
+    copy_program(room, CRATES, SOURCES, "desk_stress: sup_types sup_log sup_desk sup_script", *left_out)
+
+
+def copy_program(room, crates, sources, line, *left_out):
+    """Copies these crates, and makes one of the sources beside them, with its line of crates.txt."""
+    for crate in crates:
         shutil.copytree(f"{runs.TOP}/crates/{crate}", f"{room}/crates/{crate}", ignore=shutil.ignore_patterns(*left_out))
-    for file in (it for it in os.listdir(SOURCES) if it.endswith(".txt")):
-        place = f"{room}/crates/desk_stress/{place_of(file)}"
+    for file in (it for it in os.listdir(sources) if it.endswith(".txt")):
+        place = f"{room}/crates/{line.partition(':')[0]}/{place_of(file)}"
         os.makedirs(os.path.dirname(place), exist_ok=True)
-        shutil.copy(f"{SOURCES}/{file}", place)
+        shutil.copy(f"{sources}/{file}", place)
     shutil.copy(f"{runs.TOP}/HANDLES", room)
-    with open(f"{runs.TOP}/crates.txt", encoding="utf-8") as it:
-        lines = [line for line in it if re.split("[ :]", line)[0] in CRATES]
+    with open(f"{runs.TOP}/crates.txt", encoding="utf-8") as crates_file:
+        below = [it for it in crates_file if re.split("[ :]", it)[0] in crates]
     with open(f"{room}/crates.txt", "w", encoding="utf-8") as it:
-        it.writelines([*lines, "desk_stress: sup_types sup_log sup_desk sup_script\n"])
+        it.writelines([*below, f"{line}\n"])
 
 
 def records_of_wrong(crate, mutant, seeds):
