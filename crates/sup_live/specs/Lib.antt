@@ -1,3 +1,1 @@
 pub mod Leads
-pub mod Offices
-pub mod Outboxes

@@ -2,18 +2,15 @@
 ghost use Rattle.std.specs.Prelude.{◌≡◌, ◌+◌, ◌<◌, ◌≤◌, [], true, IfSome, vec_len, vec_capacity, length};
 ghost use Rattle.sup_live.specs.Leads.{exits_among, are_driven};
 
-use crate::alive::Alive;
-use crate::behaviour::Behaviour;
 use crate::lead::Lead;
-use crate::outbox::Office;
 use crate::tally::Tally;
-use crate::yard::Yard;
 use std::alloc::{AllocError, Global};
 use std::marker::PhantomData;
 use std::sync::Wait;
 use std::time::{Clock, Duration};
 use sup_crew::{Drain, DrainFault, HELD};
 use sup_desk::{Caller, Handle, Name, UpdateFault};
+use sup_door::{Alive, Behaviour, Office, Yard};
 use sup_inbox::{Note, Taker};
 use sup_types::{Reply, Starter, Text};
 
@@ -146,7 +143,7 @@ impl<'d, N: Name, S: Starter + Drop, Q: Wait + Drop, I: Office> Driver<'d, N, S,
         }
         match self
             .lead
-            .drain(rt, yard.alloc, &yard.hub.inbox, moment, limit)
+            .drain(rt, yard.alloc(), yard.hub().inbox(), moment, limit)
         {
             Ok(done) => Ok(self.answer_all(yard, moment, done.pairs)),
             Err(DrainFault { done, fault }) => {
@@ -196,9 +193,9 @@ impl<'d, N: Name, S: Starter + Drop, Q: Wait + Drop, I: Office> Driver<'d, N, S,
             }),
             Reply::GaveUp | Reply::ShutDown(_) | Reply::Down => {
                 self.go_down(yard, moment);
-                yard.hub.free_room(place);
+                yard.hub().free_room(place);
             }
-            _ => yard.hub.free_room(place),
+            _ => yard.hub().free_room(place),
         }
     }
 
@@ -262,7 +259,7 @@ impl<'d, N: Name, S: Starter + Drop, Q: Wait + Drop, I: Office> Driver<'d, N, S,
             Ok(false) => {}
             Err(fault) => self.refused(fault),
         }
-        yard.hub.post_waiting()
+        yard.hub().post_waiting()
     }
 
     /// One turn. Whether the crew is to close.
@@ -271,7 +268,7 @@ impl<'d, N: Name, S: Starter + Drop, Q: Wait + Drop, I: Office> Driver<'d, N, S,
         rt: &R,
         yard: &Yard<'h, I, B, P, Alive<'h, I, B, P>>,
     ) -> bool {
-        let hub = yard.hub;
+        let hub = yard.hub();
         let moment = yard.now(rt);
         if self.enter(rt, yard, moment) {
             return false;
@@ -279,11 +276,11 @@ impl<'d, N: Name, S: Starter + Drop, Q: Wait + Drop, I: Office> Driver<'d, N, S,
         if let Err(fault) = self.retry_due(rt, yard, moment) {
             self.refused(fault);
         }
-        if self.fault.is_some() || hub.counts.is_closing() {
+        if self.fault.is_some() || hub.counts().is_closing() {
             return true;
         }
-        if self.is_starved || !self.retries.is_empty() || hub.rooms.is_any_told() {
-            hub.rooms.expire(&hub.rt, moment);
+        if self.is_starved || !self.retries.is_empty() || hub.is_any_told() {
+            hub.expire(moment);
             hub.doze(Duration::from_millis(DOZE_MILLIS));
         } else {
             hub.sleep();
@@ -306,7 +303,9 @@ impl<'d, N: Name, S: Starter + Drop, Q: Wait + Drop, I: Office> Driver<'d, N, S,
                     self.is_down = true;
                     return;
                 }
-                Err(UpdateFault::OutOfMemory) => yard.hub.doze(Duration::from_millis(DOZE_MILLIS)),
+                Err(UpdateFault::OutOfMemory) => yard
+                    .hub()
+                    .doze(Duration::from_millis(DOZE_MILLIS)),
                 Err(fault) => {
                     self.fault = Some(fault);
                     return;
@@ -322,13 +321,13 @@ impl<'d, N: Name, S: Starter + Drop, Q: Wait + Drop, I: Office> Driver<'d, N, S,
         yard: &Yard<'h, I, B, P, Alive<'h, I, B, P>>,
         goal: Goal,
     ) {
-        let hub = yard.hub;
+        let hub = yard.hub();
         for _ in rt.forever() {
             let moment = yard.now(rt);
             // Asked first: what was posted before it was reached is then entered.
             let is_reached = match goal {
-                Goal::Ended(until) => hub.counts.have_all_ended() || until <= moment,
-                Goal::Gone => hub.counts.have_all_gone(),
+                Goal::Ended(until) => hub.counts().have_all_ended() || until <= moment,
+                Goal::Gone => hub.counts().have_all_gone(),
             };
             if self.enter(rt, yard, moment) {
                 continue;
@@ -336,7 +335,7 @@ impl<'d, N: Name, S: Starter + Drop, Q: Wait + Drop, I: Office> Driver<'d, N, S,
             if is_reached {
                 return;
             }
-            hub.rooms.expire(&hub.rt, moment);
+            hub.expire(moment);
             hub.doze(Duration::from_millis(DOZE_MILLIS));
         }
     }
@@ -351,8 +350,8 @@ impl<'d, N: Name, S: Starter + Drop, Q: Wait + Drop, I: Office> Driver<'d, N, S,
         self.stop(rt, yard);
         let moment = yard.now(rt);
         yard.end_all(moment);
-        self.enter_until(rt, yard, Goal::Ended(moment.saturating_add(yard.grace)));
-        yard.tasks.shut_down();
+        self.enter_until(rt, yard, Goal::Ended(yard.until(moment)));
+        yard.shut_down();
         self.enter_until(rt, yard, Goal::Gone);
         if self.is_starved && self.fault.is_none() {
             self.fault = Some(UpdateFault::OutOfMemory);

@@ -3,15 +3,12 @@ ghost use Rattle.std.specs.Prelude.{◌≡◌, ◌+◌, ◌≤◌, [], true, len
 ghost use Rattle.sup_crew.specs.Calls.{exits};
 ghost use Rattle.sup_live.specs.Leads.{exits_among, are_driven};
 
-use crate::alive::Alive;
-use crate::behaviour::Behaviour;
-use crate::outbox::Office;
-use crate::yard::Yard;
 use std::alloc::Global;
 use std::marker::PhantomData;
 use std::sync::Wait;
 use sup_crew::{Drain, DrainFault, Drained};
 use sup_desk::{Caller, Handle, Name, UpdateFault};
+use sup_door::{Alive, Behaviour, Office, Yard};
 use sup_inbox::{Inbox, Taker};
 use sup_types::{Reply, Starter, Text};
 

@@ -2,7 +2,7 @@
 //!
 //! A [`Behaviour`] makes a child: a future of the kit's `futures`, which reads its [`Mailbox`] and is ready with the reason of
 //! its end. A [`Program`] has a [`Door`]: it starts children, sends to them, ends them, asks by every query of a handle, and
-//! makes other doors. [`run_live`] runs the program in the calling thread. Beside it a driver enters the exits, runs children
+//! makes other doors (these stand in `sup_door`, and are passed on here). [`run_live`] runs the program in the calling thread. Beside it a driver enters the exits, runs children
 //! that were restarted at once under their new number, and tries failed restarts again. Few worker threads poll all children.
 //!
 //! ```text
@@ -23,35 +23,17 @@
 //! the exits that were entered: [`Report::adds_up`] counts them.
 #![tactic(auto)]
 
-mod alive;
-mod behaviour;
-mod clock;
-mod counts;
-mod door;
 mod driver;
-mod due;
-mod hub;
 mod lead;
-mod mailbox;
-mod outbox;
 mod plan;
 mod program;
 mod report;
-mod rooms;
 mod run;
 mod tally;
-mod yard;
 
-pub use alive::Alive;
-pub use behaviour::Behaviour;
-pub use clock::Moments;
-pub use door::Door;
-pub use hub::Hub;
-pub use mailbox::Mailbox;
-pub use outbox::Office;
 pub use plan::{LiveFault, Plan};
 pub use program::Program;
 pub use report::Report;
 pub use run::run_live;
+pub use sup_door::{Alive, Behaviour, Door, Hub, Mailbox, Moments, Office, Yard};
 pub use tally::Tally;
-pub use yard::Yard;

@@ -1,12 +1,9 @@
 //! Programs: what is done with a crew.
-use crate::alive::Alive;
-use crate::behaviour::Behaviour;
-use crate::door::Door;
-use crate::outbox::Office;
 use std::sync::Wait;
 use std::thread::Threads;
 use std::time::Clock;
 use sup_desk::Name;
+use sup_door::{Alive, Behaviour, Door, Office};
 use sup_types::Starter;
 
 /// What is done with a crew while it runs: in the thread that runs the crew, which it may leave only to threads that it joins.

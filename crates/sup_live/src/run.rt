@@ -4,21 +4,12 @@ ghost use Rattle.sup_live.specs.Leads.{exits_among, are_driven};
 ghost use Rattle.sup_inbox.specs.Ends.{AreOf};
 ghost use denote.Param.Send.{IsSend};
 
-use crate::alive::Alive;
-use crate::behaviour::Behaviour;
-use crate::clock::Moments;
-use crate::door::Door;
 use crate::driver::{Driven, Driver};
-use crate::hub::Hub;
-use crate::outbox::Office;
 use crate::plan::{LiveFault, Plan};
 use crate::program::Program;
 use crate::report::Report;
-use crate::yard::Yard;
 use arrayvec::ArrayVec;
 use futures::Future;
-use futures::executor::TaskSet;
-use futures::task::Doorbell;
 use std::alloc::{AllocGlobal, Global};
 use std::collections::VecDeque;
 use std::marker::Brand;
@@ -29,6 +20,7 @@ use std::thread::{Scope, Threads};
 use std::time::Clock;
 use sup_crew::HELD;
 use sup_desk::{Caller, Desk, Handle, Name};
+use sup_door::{Alive, Behaviour, Door, Hub, Moments, Office, Yard};
 use sup_inbox::{Inbox, InboxFull, Note, Poster, Taker, settle};
 use sup_types::{OutOfMemory, Starter};
 
@@ -56,13 +48,8 @@ where
     R: Threads + Wait + Clock + Sync,
 {
     for worker in 0..workers {
-        let begun = scope.spawn(move || {
-            yard.tasks.work(rt, worker);
-            yard.hub.counts.worker_went();
-            yard.hub.ring();
-        });
-        if begun.is_err() {
-            yard.hub.counts.worker_went();
+        if scope.spawn(move || yard.work(rt, worker)).is_err() {
+            yard.hub().counts().worker_went();
         }
     }
 }
@@ -90,18 +77,18 @@ where
     T: Program<N, B> + Drop,
     R: Threads + Wait + Clock + Sync,
 {
-    let Ok(holds) = yard.tasks.hold(yard.alloc) else {
+    let Ok(holds) = yard.hold() else {
         return Err(LiveFault::OutOfMemory);
     };
     start_workers(scope, rt, yard, workers);
-    if yard.hub.counts.have_all_gone() {
+    if yard.hub().counts().have_all_gone() {
         return Err(LiveFault::NoThread);
     }
     let Ok(driving) = scope.spawn(move || driver.drive(rt, yard)) else {
-        yard.tasks.shut_down();
+        yard.shut_down();
         return Err(LiveFault::NoThread);
     };
-    let mut door = Door { desk, handle, yard };
+    let mut door = Door::new(desk, handle, yard);
     let outcome = program.run(rt, &mut door);
     door.close();
     let driven = driving.join(rt);
@@ -179,16 +166,8 @@ where
     let handle = desk.handle(rt)?;
     let door = desk.handle(rt)?;
     let driver = Driver::new(alloc, handle, taker, plan.retry_after)?;
-    let Ok(tasks) = TaskSet::new(rt, Doorbell::parking(), plan.workers) else {
+    let Ok(yard) = Yard::new(rt, alloc, hub, behaviour, moments, plan.grace, plan.workers) else {
         return Err(LiveFault::OutOfMemory);
-    };
-    let yard = Yard {
-        alloc,
-        hub,
-        behaviour,
-        moments,
-        grace: plan.grace,
-        tasks,
     };
     let joined = run_threads(rt, desk, &yard, driver, door, program, plan.workers);
     end_yard(yard);
@@ -247,11 +226,11 @@ where
     B::Child: Send,
     T: Program<N, B> + Drop,
     R: Threads + Wait + Clock + RandomSource + AllocGlobal + Sync,
-    requires inbox { parts.inbox.id ≡ I.inbox }
+    requires inbox { (parts.inbox.id ≡ I.inbox) × (parts.inbox.capacity ≡ I.capacity) }
     requires posters { AreOf I.inbox parts.posters.items × (vec_len parts.posters ≡ I.posters) }
     requires taker { parts.taker ≡ record { inbox = I.inbox; posters = I.posters; taken = [] } }
     requires empty { (parts.room.posters.items ≡ []) × (parts.room.waiting.items ≡ []) × (parts.room.left.items ≡ []) × (parts.room.held.items ≡ []) }
-    requires room { (I.posters ≤ vec_capacity parts.room.posters) × (I.posters ≤ vec_capacity parts.room.waiting) × (parts.inbox.capacity ≤ vec_capacity parts.room.left) × (64 ≤ vec_capacity parts.room.held) }
+    requires room { (I.posters ≤ vec_capacity parts.room.posters) × (I.posters ≤ vec_capacity parts.room.waiting) × (I.capacity ≤ vec_capacity parts.room.left) × (64 ≤ vec_capacity parts.room.held) }
     ensures driven { IfOk result (λ r. are_driven r.driver.calls ≡ true) }
     ensures counted { IfOk result (λ r. r.exits ≡ length (exits_among r.driver.calls)) }
 {
@@ -292,7 +271,7 @@ fn report<N: Name, I: Office, M: Drop, P: Wait + Drop, T: Drop, R: Wait>(
     room: Room,
 ) -> Report<N, T>
     requires empty { (room.posters.items ≡ []) × (room.waiting.items ≡ []) × (room.left.items ≡ []) × (room.held.items ≡ []) }
-    requires room { (I.posters ≤ vec_capacity room.posters) × (I.posters ≤ vec_capacity room.waiting) × (hub.inbox.capacity ≤ vec_capacity room.left) × (64 ≤ vec_capacity room.held) }
+    requires room { (I.posters ≤ vec_capacity room.posters) × (I.posters ≤ vec_capacity room.waiting) × (I.capacity ≤ vec_capacity room.left) × (64 ≤ vec_capacity room.held) }
     ensures driven { are_driven result.driver.calls ≡ true }
     ensures counted { result.exits ≡ length (exits_among result.driver.calls) }
 {
@@ -301,7 +280,7 @@ fn report<N: Name, I: Office, M: Drop, P: Wait + Drop, T: Drop, R: Wait>(
         door,
         outcome,
     } = joined;
-    let (made, lost) = (hub.counts.made(), hub.counts.lost());
+    let (made, lost) = (hub.counts().made(), hub.counts().lost());
     let (caller, drain, exits, tally, fault) = driven.parts();
     let (taker, kept) = drain.end();
     let (inbox, posters, unposted) = hub.end(room.posters, room.waiting);

@@ -2,4 +2,4 @@
 use Rattle.sup_live.proofs.run.run_live.Given as goal
 
 abbrev pub ghosts-run_office : goal.ghosts-run_office
-ghosts-run_office g a = record { inbox = a.parts.inbox.id; posters = a.parts.taker.posters }
+ghosts-run_office g a = record { inbox = a.parts.inbox.id; capacity = a.parts.inbox.capacity; posters = a.parts.taker.posters }

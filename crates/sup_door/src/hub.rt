@@ -2,7 +2,7 @@
 ghost use Rattle.std.specs.Prelude.{◌≡◌, ◌≤◌, ◌+◌, [], IfOk, vec_len, vec_capacity};
 ghost use Rattle.sup_inbox.specs.Ends.{AreOf};
 
-use crate::counts::Counts;
+use crate::counts::CrewCounts;
 use crate::due::Due;
 use crate::outbox::{Office, Outbox};
 use crate::rooms::Rooms;
@@ -18,12 +18,13 @@ use sup_types::{OutOfMemory, Reason};
 #[derive(Drop)]
 pub struct Hub<I: Office, M: Drop, P: Wait + Drop> {
     pub(crate) rt: P,
-    pub(crate) inbox: Inbox,
+    inbox: Inbox,
     outboxes: Vec<Mutex<Outbox<I>>>,
     pub(crate) rooms: Rooms<M>,
-    pub(crate) counts: Counts,
+    pub(crate) counts: CrewCounts,
     bell: Parker,
     ghost named: { inbox.id ≡ I.inbox },
+    ghost holds: { inbox.capacity ≡ I.capacity },
     ghost all: { vec_len outboxes ≡ I.posters },
 }
 
@@ -64,15 +65,15 @@ fn posters_of<I: Office>(
 }
 
 impl<I: Office, M: Drop, P: Wait + Drop> Hub<I, M, P> {
-    /// A hub of an inbox that I names, with an outbox for each of its posters.
-    pub(crate) fn new(
+    /// A hub of an inbox that I names, with an outbox for each of its posters, for so many workers.
+    pub fn new(
         rt: P,
         alloc: Global,
         inbox: Inbox,
         posters: Vec<Poster>,
         workers: u64,
     ) -> Result<Hub<I, M, P>, OutOfMemory>
-        requires named { inbox.id ≡ I.inbox }
+        requires named { (inbox.id ≡ I.inbox) × (inbox.capacity ≡ I.capacity) }
         requires posters { AreOf I.inbox posters.items × (vec_len posters ≡ I.posters) }
     {
         let outboxes = outboxes_of(alloc, posters)?;
@@ -82,7 +83,7 @@ impl<I: Office, M: Drop, P: Wait + Drop> Hub<I, M, P> {
             inbox,
             outboxes,
             rooms,
-            counts: Counts::new(workers),
+            counts: CrewCounts::new(workers),
             bell: Parker::new(),
         })
     }
@@ -98,8 +99,8 @@ impl<I: Office, M: Drop, P: Wait + Drop> Hub<I, M, P> {
         Ok(place)
     }
 
-    /// Gives the room of one child back.
-    pub(crate) fn free_room(&self, place: usize) {
+    /// Gives the room of one child back, in the outbox of this place.
+    pub fn free_room(&self, place: usize) {
         if let Some(outbox) = self.outboxes.get(place) {
             outbox.lock(&self.rt).free_room();
         }
@@ -129,7 +130,7 @@ impl<I: Office, M: Drop, P: Wait + Drop> Hub<I, M, P> {
     }
 
     /// Posts the exits that wait, for as long as the inbox has room. Whether any was posted.
-    pub(crate) fn post_waiting(&self) -> bool {
+    pub fn post_waiting(&self) -> bool {
         let mut posted = false;
         for outbox in &self.outboxes {
             if outbox.lock(&self.rt).post_waiting(&self.rt, &self.inbox) {
@@ -145,24 +146,46 @@ impl<I: Office, M: Drop, P: Wait + Drop> Hub<I, M, P> {
     }
 
     /// Sleeps until it is woken. Only the driver sleeps here.
-    pub(crate) fn sleep(&self) {
+    pub fn sleep(&self) {
         self.bell.park(&self.rt);
     }
 
-    /// Sleeps until it is woken, or for this time.
-    pub(crate) fn doze(&self, time: Duration) {
+    /// Sleeps until it is woken, or for this time. Only the driver sleeps here.
+    pub fn doze(&self, time: Duration) {
         self.bell.park_timeout(&self.rt, time);
     }
 
+    /// Lets the children go that were told to end, and whose time is over at this moment.
+    pub fn expire(&self, moment: u64) {
+        self.rooms.expire(&self.rt, moment);
+    }
+
+    /// Whether a child that was told to end is still alive.
+    pub fn is_any_told(&self) -> bool {
+        self.rooms.is_any_told()
+    }
+
+    /// What its threads count.
+    pub fn counts(&self) -> &CrewCounts {
+        &self.counts
+    }
+
+    /// The inbox.
+    pub fn inbox(&self) -> &Inbox
+        ensures { (result.now.id ≡ I.inbox) × (result.now.capacity ≡ I.capacity) }
+    {
+        &self.inbox
+    }
+
     /// The inbox with its posters again, and the exits that wait, in lists that have room for them.
-    pub(crate) fn end(
+    pub fn end(
         self,
         posters: Vec<Poster>,
         waiting: Vec<VecDeque<InboxFull>>,
     ) -> (Inbox, Vec<Poster>, Vec<VecDeque<InboxFull>>)
         requires empty { (posters.items ≡ []) × (waiting.items ≡ []) }
         requires room { (I.posters ≤ vec_capacity posters) × (I.posters ≤ vec_capacity waiting) }
-        ensures inbox { result.0.id ≡ I.inbox }
+        ensures inbox { (result.0.id ≡ I.inbox) × (result.0.capacity ≡ I.capacity) }
         ensures posters { AreOf I.inbox result.1.items × (vec_len result.1 ≡ I.posters) }
     {
         let Hub {

@@ -1,6 +1,6 @@
 //! Outboxes: exits on their way to the inbox, of which none is refused.
 ghost use Rattle.std.specs.Prelude.{◌≡◌, [], ◌∷◌, ◌++◌, IfErr, OnOk};
-ghost use Rattle.sup_live.specs.Outboxes.{told};
+ghost use Rattle.sup_door.specs.Outboxes.{told};
 
 use std::alloc::Global;
 use std::collections::VecDeque;
@@ -9,21 +9,25 @@ use std::sync::Wait;
 use sup_inbox::{Inbox, InboxFull, Poster};
 use sup_types::OutOfMemory;
 
-/// Names an inbox, and says how many posters it has. A value behind a lock is known by its type alone, so the type says
-/// which inbox it posts to.
+/// Names an inbox, and says how many notes it holds at most and how many posters it has. A value behind a lock is known by
+/// its type alone, so the type says which inbox it posts to.
 pub trait Office {
     ghost use Rattle.std.specs.Prelude.{ℕ};
     ghost use Rattle.atomic_table.specs.Seated.{TableId};
 
     ghost inbox: { TableId };
 
+    ghost capacity: { ℕ };
+
     ghost posters: { ℕ };
 }
 
 impl Office for Brand {
-    ghost use Rattle.sup_live.specs.Offices.{no_inbox};
+    ghost use Rattle.sup_door.specs.Offices.{no_inbox};
 
     ghost inbox = { no_inbox };
+
+    ghost capacity = { 0 };
 
     ghost posters = { 0 };
 }

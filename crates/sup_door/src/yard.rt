@@ -1,5 +1,5 @@
 //! Yards: where children run.
-ghost use Rattle.std.specs.Prelude.{◌≡◌, IfOk};
+ghost use Rattle.std.specs.Prelude.{◌≡◌, ◌≤◌, IfOk};
 ghost use mathlib.Core.List.{IsPrefix};
 
 use crate::alive::{Alive, not_run};
@@ -12,43 +12,65 @@ use crate::rooms::wired;
 use futures::Future;
 use futures::executor::TaskSet;
 use futures::future::Abortable;
-use std::alloc::{AllocError, Global};
+use futures::task::{Doorbell, Hold};
+use std::alloc::{AllocError, AllocGlobal, Global};
+use std::random::RandomSource;
 use std::sync::Wait;
 use std::time::Clock;
 use sup_desk::{Handle, Name};
-use sup_types::{Seen, Starter, Text};
+use sup_types::{OutOfMemory, Seen, Starter, Text};
 
 /// The tasks of a crew, with what they share.
 #[derive(Drop)]
 pub struct Yard<'h, I: Office, B: Behaviour, P: Wait + Drop, F: Future> {
-    pub(crate) alloc: Global,
+    alloc: Global,
     pub(crate) hub: &'h Hub<I, B::Message, P>,
-    pub(crate) behaviour: &'h B,
-    pub(crate) moments: Moments<'h>,
+    behaviour: &'h B,
+    moments: Moments<'h>,
     /// For how many seconds a child may go on after it was told to end.
-    pub(crate) grace: u64,
-    pub(crate) tasks: TaskSet<F>,
+    grace: u64,
+    tasks: TaskSet<F>,
 }
 
 impl<'h, I: Office, B: Behaviour, P: Wait + Drop, F: Future> Yard<'h, I, B, P, F> {
+    /// What the threads of the crew share.
+    pub fn hub(&self) -> &'h Hub<I, B::Message, P> {
+        self.hub
+    }
+
+    /// Where the crew takes memory.
+    pub fn alloc(&self) -> Global {
+        self.alloc
+    }
+
     /// The moment now, in seconds.
-    pub(crate) fn now<R: Clock>(&self, rt: &R) -> u64 {
+    pub fn now<R: Clock>(&self, rt: &R) -> u64 {
         self.moments.now(rt)
+    }
+
+    /// Until when a child may go on that is told to end at this moment, in seconds.
+    pub fn until(&self, moment: u64) -> u64
+        ensures { moment ≤ result }
+    {
+        moment.saturating_add(self.grace)
     }
 
     /// Tells a child to end, and the driver to see that it does.
     pub(crate) fn end(&self, number: u64, moment: u64) {
         let hub = self.hub;
-        hub.rooms
-            .end(&hub.rt, number, moment.saturating_add(self.grace));
+        hub.rooms.end(&hub.rt, number, self.until(moment));
         hub.ring();
     }
 
+    /// Makes the workers go, and lets all children go that are left.
+    pub fn shut_down(&self) {
+        self.tasks.shut_down();
+    }
+
     /// Tells all children to end, and the driver to see that they do.
-    pub(crate) fn end_all(&self, moment: u64) {
+    pub fn end_all(&self, moment: u64) {
         let hub = self.hub;
-        hub.rooms
-            .end_all(&hub.rt, moment.saturating_add(self.grace));
+        hub.rooms.end_all(&hub.rt, self.until(moment));
         hub.ring();
     }
 
@@ -65,6 +87,43 @@ impl<'h, I: Office, B: Behaviour, P: Wait + Drop, F: Future> Yard<'h, I, B, P, F
 }
 
 impl<'h, I: Office, B: Behaviour, P: Wait + Drop> Yard<'h, I, B, P, Alive<'h, I, B, P>> {
+    /// A yard in which no child runs, for so many workers. Its children may go on for `grace` seconds after they were told
+    /// to end.
+    pub fn new<R: RandomSource + AllocGlobal>(
+        rt: &R,
+        alloc: Global,
+        hub: &'h Hub<I, B::Message, P>,
+        behaviour: &'h B,
+        moments: Moments<'h>,
+        grace: u64,
+        workers: usize,
+    ) -> Result<Yard<'h, I, B, P, Alive<'h, I, B, P>>, OutOfMemory> {
+        let Ok(tasks) = TaskSet::new(rt, Doorbell::parking(), workers) else {
+            return Err(OutOfMemory);
+        };
+        Ok(Yard {
+            alloc,
+            hub,
+            behaviour,
+            moments,
+            grace,
+            tasks,
+        })
+    }
+
+    /// While this is there, workers wait for children that are still to come.
+    pub fn hold(&self) -> Result<Vec<Hold<'_>>, AllocError> {
+        self.tasks.hold(self.alloc)
+    }
+
+    /// Runs children, as the worker with this number, until the yard is shut down, or no hold of it and no child is left. Then
+    /// the worker has gone.
+    pub fn work<R: Wait>(&self, rt: &R, worker: usize) {
+        self.tasks.work(rt, worker);
+        self.hub.counts.worker_went();
+        self.hub.ring();
+    }
+
     /// Runs a child that was made. Where that is refused, its exit is paid at once.
     fn spawn(&self, due: Due) {
         self.hub.counts.child_made();
@@ -83,7 +142,7 @@ impl<'h, I: Office, B: Behaviour, P: Wait + Drop> Yard<'h, I, B, P, Alive<'h, I,
 
     /// Runs a child that was made, whose exit has room in the outbox of this place. One that is listed no more is told to
     /// end: who ends a child enters that first, and then looks for its room.
-    pub(crate) fn begin<N: Name, S: Starter + Drop, Q: Wait + Drop>(
+    pub fn begin<N: Name, S: Starter + Drop, Q: Wait + Drop>(
         &self,
         handle: &mut Handle<'_, N, S, Q>,
         moment: u64,

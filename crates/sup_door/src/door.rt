@@ -35,9 +35,9 @@ pub struct Door<
     P: Wait + Drop,
     F: Future,
 > {
-    pub(crate) desk: &'d Desk<N, S, Q>,
-    pub(crate) handle: Handle<'d, N, S, Q>,
-    pub(crate) yard: &'t Yard<'h, I, B, P, F>,
+    desk: &'d Desk<N, S, Q>,
+    handle: Handle<'d, N, S, Q>,
+    yard: &'t Yard<'h, I, B, P, F>,
 }
 
 impl<
@@ -72,6 +72,17 @@ impl<
     B: Behaviour,
     P: Wait + Drop,
 > Door<'t, 'h, 'd, N, S, Q, I, B, P, Alive<'h, I, B, P>> {
+    /// A door by this handle of the desk, to the children of the yard. The handle is one that no door has.
+    pub fn new(
+        desk: &'d Desk<N, S, Q>,
+        handle: Handle<'d, N, S, Q>,
+        yard: &'t Yard<'h, I, B, P, Alive<'h, I, B, P>>,
+    ) -> Door<'t, 'h, 'd, N, S, Q, I, B, P, Alive<'h, I, B, P>>
+        ensures { result ≡ handle.entry }
+    {
+        Door { desk, handle, yard }
+    }
+
     /// Starts a child with this argument. At `Started` it runs, and is sent to under its number. Room for its exit is made
     /// first.
     pub fn start_child<R: Wait + Clock>(&mut self, rt: &R, arg: Text) -> Result<Done, UpdateFault>

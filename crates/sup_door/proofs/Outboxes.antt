@@ -2,7 +2,7 @@
 use Rattle.std.proofs.Common.{◌≡◌, List, [], ◌∷◌, ◌++◌, refl, ap, sym, ◌∙◌}
 use Rattle.sup_inbox.specs.declared.note.Note.{Note}
 use Rattle.sup_inbox.specs.declared.inbox.InboxFull.{InboxFull}
-use Rattle.sup_live.specs.Outboxes.{exit_told, told}
+use Rattle.sup_door.specs.Outboxes.{exit_told, told}
 use Rattle.atomic_table.specs.Seated.{TableId}
 use Rattle.sup_inbox.specs.Ends.{Posting, AreOf}
 use Rattle.sup_inbox.specs.PostingLaws.{are_of-snoc}

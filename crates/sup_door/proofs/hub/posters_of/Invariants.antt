@@ -3,7 +3,7 @@ use Rattle.std.specs.Prelude.{vec_items, vec_len}
 use Rattle.std.specs.Vec.{vec_capacity}
 use Rattle.std.specs.Vec.Iter.{into_iter_len}
 use Rattle.sup_inbox.specs.Ends.{AreOf}
-use Rattle.sup_live.proofs.hub.posters_of.Given as goal
+use Rattle.sup_door.proofs.hub.posters_of.Given as goal
 
 abbrev pub invariant-loop-outbox : goal.invariant-loop-outbox
 invariant-loop-outbox g l = record {

@@ -1,9 +1,9 @@
 //! What the threads of a crew count.
 use std::sync::atomic::{AtomicBool, AtomicU64, Ordering};
 
-/// Counts that the threads of a crew share.
+/// Counts that the threads of a crew share. No contract can say what they hold while other threads count, too.
 #[derive(Drop)]
-pub(crate) struct Counts {
+pub struct CrewCounts {
     made: AtomicU64,
     paid: AtomicU64,
     lost: AtomicU64,
@@ -12,10 +12,10 @@ pub(crate) struct Counts {
     closing: AtomicBool,
 }
 
-impl Counts {
+impl CrewCounts {
     /// Those of a crew with so many workers, which begins.
-    pub(crate) fn new(workers: u64) -> Counts {
-        Counts {
+    pub(crate) fn new(workers: u64) -> CrewCounts {
+        CrewCounts {
             made: AtomicU64::new(0),
             paid: AtomicU64::new(0),
             lost: AtomicU64::new(0),
@@ -40,8 +40,8 @@ impl Counts {
         self.lost.fetch_add(1, Ordering::SeqCst);
     }
 
-    /// One worker went.
-    pub(crate) fn worker_went(&self) {
+    /// One worker went, or could not be started.
+    pub fn worker_went(&self) {
         self.workers.fetch_sub(1, Ordering::SeqCst);
     }
 
@@ -56,28 +56,28 @@ impl Counts {
     }
 
     /// Whether the crew is to close.
-    pub(crate) fn is_closing(&self) -> bool {
+    pub fn is_closing(&self) -> bool {
         self.closing.load(Ordering::SeqCst)
     }
 
     /// How many children were made.
-    pub(crate) fn made(&self) -> u64 {
+    pub fn made(&self) -> u64 {
         self.made.load(Ordering::SeqCst)
     }
 
     /// How many exits were lost for want of memory.
-    pub(crate) fn lost(&self) -> u64 {
+    pub fn lost(&self) -> u64 {
         self.lost.load(Ordering::SeqCst)
     }
 
     /// Whether each child that was made has ended.
-    pub(crate) fn have_all_ended(&self) -> bool {
+    pub fn have_all_ended(&self) -> bool {
         let paid = self.paid.load(Ordering::SeqCst);
         paid == self.made()
     }
 
     /// Whether no worker is left.
-    pub(crate) fn have_all_gone(&self) -> bool {
+    pub fn have_all_gone(&self) -> bool {
         self.workers.load(Ordering::SeqCst) == 0
     }
 }

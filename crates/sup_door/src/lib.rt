@@ -1,0 +1,45 @@
+//! Children that are alive, and the doors by which a program reaches them.
+//!
+//! A [`Behaviour`] makes a child: a future of the kit's `futures`, which reads its [`Mailbox`] and is ready with the reason of
+//! its end. A [`Door`] starts children, sends to them, ends them, asks by every query of a handle, and makes other doors. The
+//! children of one crew run in a [`Yard`]. What its threads share lies in a [`Hub`]: the inbox of exits with its posters, and
+//! where each child is reached. This crate runs nothing by itself: `sup_live` has the threads, and the driver that enters
+//! exits.
+//!
+//! ```text
+//! let yard = Yard::new(&rt, rt.alloc(), &hub, &behaviour, Moments::Monotonic, 5, 4)?;
+//! let mut door = Door::new(&desk, desk.handle(&rt)?, &yard);
+//! let done = door.start_child(&rt, arg)?;
+//! // in another thread, which runs the child
+//! yard.work(&rt, 0);
+//! ```
+//!
+//! What the layer above may rely on: an update by a door has the contract of a handle's, and a query that of an asker's. The
+//! exit of a child is a value that can be neither copied nor let go, so a child that ends, however it does, has paid it once.
+//! An exit that an outbox was given was posted, or waits there, in order.
+//!
+//! That a child is polled, that a message comes and that a thread wakes is promised by no contract: the kit's executor and
+//! channels are trusted for it, and tests show it.
+#![tactic(auto)]
+
+mod alive;
+mod behaviour;
+mod clock;
+mod counts;
+mod door;
+mod due;
+mod hub;
+mod mailbox;
+mod outbox;
+mod rooms;
+mod yard;
+
+pub use alive::Alive;
+pub use behaviour::Behaviour;
+pub use clock::Moments;
+pub use counts::CrewCounts;
+pub use door::Door;
+pub use hub::Hub;
+pub use mailbox::Mailbox;
+pub use outbox::Office;
+pub use yard::Yard;
