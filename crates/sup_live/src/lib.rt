@@ -2,8 +2,10 @@
 //!
 //! A [`Behaviour`] makes a child: a future of the kit's `futures`, which reads its [`Mailbox`] and is ready with the reason of
 //! its end. A [`Program`] has a [`Door`]: it starts children, sends to them, ends them, asks by every query of a handle, and
-//! makes other doors (these stand in `sup_door`, and are passed on here). [`run_live`] runs the program in the calling thread. Beside it a driver enters the exits, runs children
-//! that were restarted at once under their new number, and tries failed restarts again. Few worker threads poll all children.
+//! makes other doors (these stand in `sup_door`, and are passed on here). [`run_live`] runs the program in the calling thread.
+//! [`run_live_with_patrons`] also runs others, each in a thread of its own by a door of its own. Beside them a driver enters
+//! the exits, runs children that were restarted at once under their new number, and tries failed restarts again. Few worker
+//! threads poll all children.
 //!
 //! ```text
 //! let plan = Plan { workers: 4, inbox: 4096, retry_after: 1, grace: 5 };
@@ -14,9 +16,9 @@
 //! ```
 //!
 //! What the layer above may rely on: an update by a door has the contract of a handle's, and a query that of an asker's. The
-//! driver entered exits, later tries and the stop, and nothing else, and the report's count is that of its exits. The exit of a
-//! child is a value that can be neither copied nor let go, so a child that ends, however it does, has paid it once. An exit
-//! that an outbox was given was posted, or waits there, in order.
+//! driver entered exits, later tries and the stop, and nothing else, and the report's count is that of its exits. The report
+//! says of each patron what became of it. The exit of a child is a value that can be neither copied nor let go, so a child
+//! that ends, however it does, has paid it once. An exit that an outbox was given was posted, or waits there, in order.
 //!
 //! That a child is polled, that a message comes, that a thread wakes, and that a crew closes is promised by no contract: the
 //! kit's executor and channels are trusted for it, and tests show it. Nor does a contract tie the children that were made to
@@ -25,15 +27,17 @@
 
 mod driver;
 mod lead;
+mod patrons;
 mod plan;
 mod program;
 mod report;
 mod run;
 mod tally;
 
+pub use patrons::Patron;
 pub use plan::{LiveFault, Plan};
 pub use program::Program;
 pub use report::Report;
-pub use run::run_live;
+pub use run::{run_live, run_live_with_patrons};
 pub use sup_door::{Alive, Behaviour, Door, Hub, Mailbox, Moments, Office, Yard};
 pub use tally::Tally;

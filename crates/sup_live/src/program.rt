@@ -6,12 +6,14 @@ use sup_desk::Name;
 use sup_door::{Alive, Behaviour, Door, Office};
 use sup_types::Starter;
 
-/// What is done with a crew while it runs: in the thread that runs the crew, which it may leave only to threads that it joins.
+/// What is done with a crew while it runs: in the thread that runs the crew or, by a patron, in a thread of its own. A door
+/// stays in its thread, and so do those that are made from it.
 pub trait Program<N: Name, B: Behaviour> {
     /// What comes of it.
     type Outcome: Drop;
 
-    /// Uses the door, from which others can be made. Once it returns, the crew closes.
+    /// Uses the door, from which others can be made. Once the program and all patrons have returned, the crew closes. One that
+    /// is to end it earlier closes its door: then the supervisor stops, which the others see.
     fn run<'h, S, Q, I, P, R>(
         self,
         rt: &R,

@@ -1,4 +1,5 @@
 //! What a crew did.
+use crate::patrons::Patron;
 use crate::tally::Tally;
 use std::collections::VecDeque;
 use sup_desk::{Caller, Name, UpdateFault};
@@ -7,13 +8,15 @@ use sup_inbox::{InboxFull, Note};
 /// What a crew did, once all its threads were joined. Each child that it made has ended, and its exit was entered, or is in
 /// one of the lists, or is lost.
 #[derive(Drop)]
-pub struct Report<N: Name, T: Drop> {
+pub struct Report<N: Name, T: Drop, U: Drop = ()> {
     /// What came of the program.
     pub outcome: T,
     /// The driver's handle, by which exits, tries and the crew's own stop were entered.
     pub driver: Caller<N>,
     /// The handle of the program's first door.
     pub door: Caller<N>,
+    /// What became of each patron, in their order.
+    pub patrons: Vec<Patron<N, U>>,
     /// How many children were made: by doors, restarts and later tries.
     pub made: u64,
     /// How many exits the driver entered.
@@ -32,7 +35,7 @@ pub struct Report<N: Name, T: Drop> {
     pub fault: Option<UpdateFault>,
 }
 
-impl<N: Name, T: Drop> Report<N, T> {
+impl<N: Name, T: Drop, U: Drop> Report<N, T, U> {
     /// How many exits were not entered.
     pub fn not_entered(&self) -> u64 {
         let mut count = self.lost;

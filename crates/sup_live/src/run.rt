@@ -5,6 +5,7 @@ ghost use Rattle.sup_inbox.specs.Ends.{AreOf};
 ghost use denote.Param.Send.{IsSend};
 
 use crate::driver::{Driven, Driver};
+use crate::patrons::{Nobody, Patron, Programs, join_patrons, start_patrons};
 use crate::plan::{LiveFault, Plan};
 use crate::program::Program;
 use crate::report::Report;
@@ -26,10 +27,11 @@ use sup_types::{OutOfMemory, Starter};
 
 /// What is left once all threads were joined.
 #[derive(Drop)]
-struct Joined<N: Name, I: Office, T: Drop> {
+struct Joined<N: Name, I: Office, T: Drop, U: Drop> {
     driven: Driven<N, I>,
     door: Caller<N>,
     outcome: T,
+    patrons: Vec<Patron<N, U>>,
 }
 
 /// Starts the workers. Those that could not be started have gone.
@@ -54,17 +56,17 @@ where
     }
 }
 
-/// Starts the threads, runs the program, and joins the driver.
-fn run_program<'s, 'h: 's, 'd: 's, E, N, S, Q, I, B, P, T, R>(
+/// Starts the threads, runs the program, and joins the patrons and the driver.
+fn run_program<'s, 'h: 's, 'd: 's, E, N, S, Q, I, B, P, T, U, R>(
     scope: &Scope<'s, E>,
     rt: &'s R,
     desk: &'d Desk<N, S, Q>,
     yard: &'s Yard<'h, I, B, P, Alive<'h, I, B, P>>,
     driver: Driver<'d, N, S, Q, I>,
     handle: Handle<'d, N, S, Q>,
-    program: T,
+    programs: Programs<T, U>,
     workers: usize,
-) -> Result<Joined<N, I, T::Outcome>, LiveFault>
+) -> Result<Joined<N, I, T::Outcome, U::Outcome>, LiveFault>
 where
     N: Name + Send + Sync + 's,
     S: Starter + Drop + Send + Sync + 's,
@@ -75,8 +77,18 @@ where
     B::Child: Send + 's,
     P: Wait + Drop + Send + Sync + 's,
     T: Program<N, B> + Drop,
+    U: Program<N, B> + Drop + Send + 's,
+    U::Outcome: Send + 's,
     R: Threads + Wait + Clock + Sync,
+    ensures { IfOk result (λ j. vec_len j.patrons ≡ vec_len programs.patrons) }
 {
+    let Programs { program, patrons } = programs;
+    let Ok(threads) = Vec::with_capacity(yard.alloc(), patrons.len()) else {
+        return Err(LiveFault::OutOfMemory);
+    };
+    let Ok(room) = Vec::with_capacity(yard.alloc(), patrons.len()) else {
+        return Err(LiveFault::OutOfMemory);
+    };
     let Ok(holds) = yard.hold() else {
         return Err(LiveFault::OutOfMemory);
     };
@@ -88,8 +100,10 @@ where
         yard.shut_down();
         return Err(LiveFault::NoThread);
     };
+    let threads = start_patrons(scope, rt, desk, yard, patrons, threads);
     let mut door = Door::new(desk, handle, yard);
     let outcome = program.run(rt, &mut door);
+    let patrons = join_patrons(rt, threads, room);
     door.close();
     let driven = driving.join(rt);
     drop(holds);
@@ -97,19 +111,20 @@ where
         driven,
         door: door.end(),
         outcome,
+        patrons,
     })
 }
 
 /// Opens the scope of the threads.
-fn run_threads<'h, 'd, N, S, Q, I, B, P, T, R>(
+fn run_threads<'h, 'd, N, S, Q, I, B, P, T, U, R>(
     rt: &R,
     desk: &'d Desk<N, S, Q>,
     yard: &Yard<'h, I, B, P, Alive<'h, I, B, P>>,
     driver: Driver<'d, N, S, Q, I>,
     handle: Handle<'d, N, S, Q>,
-    program: T,
+    programs: Programs<T, U>,
     workers: usize,
-) -> Result<Joined<N, I, T::Outcome>, LiveFault>
+) -> Result<Joined<N, I, T::Outcome, U::Outcome>, LiveFault>
 where
     N: Name + Send + Sync,
     S: Starter + Drop + Send + Sync,
@@ -120,15 +135,20 @@ where
     B::Child: Send,
     P: Wait + Drop + Send + Sync,
     T: Program<N, B> + Drop,
+    U: Program<N, B> + Drop + Send,
+    U::Outcome: Send,
     R: Threads + Wait + Clock + Sync,
+    ensures { IfOk result (λ j. vec_len j.patrons ≡ vec_len programs.patrons) }
 {
     thread::scope(
         thread::scope_env(),
         rt,
-        move |scope| -> Result<Joined<N, I, T::Outcome>, LiveFault>
+        move |scope| -> Result<Joined<N, I, T::Outcome, U::Outcome>, LiveFault>
             requires threads { IsSend N.row × IsSend S.row × IsSend Q.row × IsSend I.row × IsSend P.row }
             requires children { IsSend B.Message.row × IsSend B.Child.row }
-        { run_program(scope, rt, desk, yard, driver, handle, program, workers) },
+            requires patrons { IsSend U.row × IsSend U.Outcome.row }
+            ensures { IfOk result (λ j. vec_len j.patrons ≡ vec_len programs.patrons) }
+        { run_program(scope, rt, desk, yard, driver, handle, programs, workers) },
     )
 }
 
@@ -139,17 +159,17 @@ fn end_yard<'h, I: Office, B: Behaviour, P: Wait + Drop, F: Future>(yard: Yard<'
 }
 
 /// Makes the yard and the handles, and runs the threads.
-fn run_in_yard<'h, 'd, N, S, Q, I, B, P, T, R>(
+fn run_in_yard<'h, 'd, N, S, Q, I, B, P, T, U, R>(
     rt: &R,
     alloc: Global,
     desk: &'d Desk<N, S, Q>,
     behaviour: &'h B,
     moments: Moments<'h>,
     plan: Plan,
-    program: T,
+    programs: Programs<T, U>,
     hub: &'h Hub<I, B::Message, P>,
     taker: Taker,
-) -> Result<Joined<N, I, T::Outcome>, LiveFault>
+) -> Result<Joined<N, I, T::Outcome, U::Outcome>, LiveFault>
 where
     N: Name + Send + Sync,
     S: Starter + Drop + Send + Sync,
@@ -160,8 +180,11 @@ where
     B::Child: Send,
     P: Wait + Drop + Send + Sync,
     T: Program<N, B> + Drop,
+    U: Program<N, B> + Drop + Send,
+    U::Outcome: Send,
     R: Threads + Wait + Clock + RandomSource + AllocGlobal + Sync,
     requires taker { taker ≡ record { inbox = I.inbox; posters = I.posters; taken = [] } }
+    ensures { IfOk result (λ j. vec_len j.patrons ≡ vec_len programs.patrons) }
 {
     let handle = desk.handle(rt)?;
     let door = desk.handle(rt)?;
@@ -169,7 +192,7 @@ where
     let Ok(yard) = Yard::new(rt, alloc, hub, behaviour, moments, plan.grace, plan.workers) else {
         return Err(LiveFault::OutOfMemory);
     };
-    let joined = run_threads(rt, desk, &yard, driver, door, program, plan.workers);
+    let joined = run_threads(rt, desk, &yard, driver, door, programs, plan.workers);
     end_yard(yard);
     joined
 }
@@ -206,16 +229,16 @@ struct Parts {
 }
 
 /// Runs the crew of an office.
-fn run_office<N, S, Q, I, B, T, R>(
+fn run_office<N, S, Q, I, B, T, U, R>(
     rt: &R,
     alloc: Global,
     desk: &Desk<N, S, Q>,
     behaviour: &B,
     moments: Moments<'_>,
     plan: Plan,
-    program: T,
+    programs: Programs<T, U>,
     parts: Parts,
-) -> Result<Report<N, T::Outcome>, LiveFault>
+) -> Result<Report<N, T::Outcome, U::Outcome>, LiveFault>
 where
     N: Name + Send + Sync,
     S: Starter + Drop + Send + Sync,
@@ -225,6 +248,8 @@ where
     B::Message: Send,
     B::Child: Send,
     T: Program<N, B> + Drop,
+    U: Program<N, B> + Drop + Send,
+    U::Outcome: Send,
     R: Threads + Wait + Clock + RandomSource + AllocGlobal + Sync,
     requires inbox { (parts.inbox.id ≡ I.inbox) × (parts.inbox.capacity ≡ I.capacity) }
     requires posters { AreOf I.inbox parts.posters.items × (vec_len parts.posters ≡ I.posters) }
@@ -233,6 +258,7 @@ where
     requires room { (I.posters ≤ vec_capacity parts.room.posters) × (I.posters ≤ vec_capacity parts.room.waiting) × (I.capacity ≤ vec_capacity parts.room.left) × (64 ≤ vec_capacity parts.room.held) }
     ensures driven { IfOk result (λ r. are_driven r.driver.calls ≡ true) }
     ensures counted { IfOk result (λ r. r.exits ≡ length (exits_among r.driver.calls)) }
+    ensures patrons { IfOk result (λ r. vec_len r.patrons ≡ vec_len programs.patrons) }
 {
     let Parts {
         inbox,
@@ -242,7 +268,7 @@ where
     } = parts;
     let hub: Hub<I, B::Message, &R> = Hub::new(rt, alloc, inbox, posters, plan.workers as u64)?;
     let joined = run_in_yard(
-        rt, alloc, desk, behaviour, moments, plan, program, &hub, taker,
+        rt, alloc, desk, behaviour, moments, plan, programs, &hub, taker,
     )?;
     Ok(report(rt, hub, joined, room))
 }
@@ -264,21 +290,23 @@ fn list_held(held: ArrayVec<Note, HELD>, room: Vec<Note>) -> Vec<Note>
 }
 
 /// Settles the inbox, and tells what the crew did.
-fn report<N: Name, I: Office, M: Drop, P: Wait + Drop, T: Drop, R: Wait>(
+fn report<N: Name, I: Office, M: Drop, P: Wait + Drop, T: Drop, U: Drop, R: Wait>(
     rt: &R,
     hub: Hub<I, M, P>,
-    joined: Joined<N, I, T>,
+    joined: Joined<N, I, T, U>,
     room: Room,
-) -> Report<N, T>
+) -> Report<N, T, U>
     requires empty { (room.posters.items ≡ []) × (room.waiting.items ≡ []) × (room.left.items ≡ []) × (room.held.items ≡ []) }
     requires room { (I.posters ≤ vec_capacity room.posters) × (I.posters ≤ vec_capacity room.waiting) × (I.capacity ≤ vec_capacity room.left) × (64 ≤ vec_capacity room.held) }
     ensures driven { are_driven result.driver.calls ≡ true }
     ensures counted { result.exits ≡ length (exits_among result.driver.calls) }
+    ensures patrons { vec_len result.patrons ≡ vec_len joined.patrons }
 {
     let Joined {
         driven,
         door,
         outcome,
+        patrons,
     } = joined;
     let (made, lost) = (hub.counts().made(), hub.counts().lost());
     let (caller, drain, exits, tally, fault) = driven.parts();
@@ -291,6 +319,7 @@ fn report<N: Name, I: Office, M: Drop, P: Wait + Drop, T: Drop, R: Wait>(
         outcome,
         driver: caller,
         door,
+        patrons,
         made,
         exits,
         tally,
@@ -330,6 +359,45 @@ where
     requires inbox { (1 ≤ plan.inbox) × (plan.inbox ≤ 65536) }
     ensures driven { IfOk result (λ r. are_driven r.driver.calls ≡ true) }
     ensures counted { IfOk result (λ r. r.exits ≡ length (exits_among r.driver.calls)) }
+    ensures patrons { IfOk result (λ r. r.patrons.items ≡ []) }
+{
+    let nobody: Vec<Nobody> = Vec::new(alloc);
+    run_live_with_patrons(rt, alloc, desk, behaviour, moments, plan, program, nobody)
+}
+
+/// Runs a crew as [`run_live`] does, and beside the program each of the patrons, in a thread of its own by a door of its own.
+/// The crew closes once the program and all patrons have returned. The report says of each patron, in their order, what became
+/// of it: its outcome and the handle of its door, for an audit, or why it did not run. After a fault nothing was entered, and
+/// neither the program nor a patron was run.
+///
+/// Each patron that runs takes a handle of the desk more, once its thread has begun. So their handles' numbers, from 3 on, are
+/// in the order in which the threads began.
+pub fn run_live_with_patrons<N, S, Q, B, T, U, R>(
+    rt: &R,
+    alloc: Global,
+    desk: &Desk<N, S, Q>,
+    behaviour: &B,
+    moments: Moments<'_>,
+    plan: Plan,
+    program: T,
+    patrons: Vec<U>,
+) -> Result<Report<N, T::Outcome, U::Outcome>, LiveFault>
+where
+    N: Name + Send + Sync,
+    S: Starter + Drop + Send + Sync,
+    Q: Wait + Drop + Send + Sync,
+    B: Behaviour + Sync,
+    B::Message: Send,
+    B::Child: Send,
+    T: Program<N, B> + Drop,
+    U: Program<N, B> + Drop + Send,
+    U::Outcome: Send,
+    R: Threads + Wait + Clock + RandomSource + AllocGlobal + Sync,
+    requires workers { (1 ≤ plan.workers) × (plan.workers ≤ 64) }
+    requires inbox { (1 ≤ plan.inbox) × (plan.inbox ≤ 65536) }
+    ensures driven { IfOk result (λ r. are_driven r.driver.calls ≡ true) }
+    ensures counted { IfOk result (λ r. r.exits ≡ length (exits_among r.driver.calls)) }
+    ensures patrons { IfOk result (λ r. vec_len r.patrons ≡ vec_len patrons) }
 {
     let room = Room::new(alloc, plan.workers, plan.inbox)?;
     let (inbox, root) = Inbox::new(alloc, plan.inbox)?;
@@ -342,5 +410,8 @@ where
         taker,
         room,
     };
-    run_office::<N, S, Q, Brand, B, T, R>(rt, alloc, desk, behaviour, moments, plan, program, parts)
+    let programs = Programs { program, patrons };
+    run_office::<N, S, Q, Brand, B, T, U, R>(
+        rt, alloc, desk, behaviour, moments, plan, programs, parts,
+    )
 }

@@ -5,7 +5,7 @@ mod children;
 mod runs;
 
 use children::{Board, Counting};
-use runs::{Answers, Crashes, GivesUp, Retries, Terminates};
+use runs::{Crashes, GivesUp, Retries, Serves, Terminates, Watches};
 use std::alloc::AllocGlobal;
 use std::marker::Brand;
 use std::process::Abort;
@@ -15,7 +15,7 @@ use std::test::*;
 use std::thread::Threads;
 use std::time::Clock;
 use sup_desk::{Desk, Ground, Handle, Name};
-use sup_live::{Moments, Plan, Program, Report, Tally, run_live};
+use sup_live::{Moments, Patron, Plan, Program, Report, Tally, run_live, run_live_with_patrons};
 use sup_types::{Answer, Kind, Restart, Starter, Template, Text};
 
 /// Each start is answered `Running`, but for those at moment 5.
@@ -37,24 +37,47 @@ impl Starter for NotAtFive {
     }
 }
 
+/// How the crews run.
+const PLAN: Plan = Plan {
+    workers: 2,
+    inbox: 1,
+    retry_after: 1,
+    grace: 5,
+};
+
 /// What a crew did.
 #[derive(Clone, Copy)]
 struct Told {
     outcome: u64,
+    served: u64,
     made: u64,
     tally: Tally,
     adds_up: bool,
     is_audited: bool,
 }
 
-/// What the report says, and whether the history is the calls of its two handles and nothing else.
-fn tell<N: Name, R: Wait>(rt: &R, desk: &Desk<N, NotAtFive, &R>, report: Report<N, u64>) -> Told {
+/// What the report says, and whether the history is the calls of its handles and nothing else.
+fn tell<N: Name, U: Drop, R: Wait + AllocGlobal>(
+    rt: &R,
+    desk: &Desk<N, NotAtFive, &R>,
+    report: Report<N, u64, U>,
+) -> Told {
     let adds_up = report.adds_up();
     let (outcome, made, tally) = (report.outcome, report.made, report.tally);
-    let mut handles = [desk.bind(report.driver), desk.bind(report.door)];
-    let is_audited = Handle::are_in_order(&handles) && desk.audit(rt, &mut handles).is_ok();
+    let mut handles = Vec::new(rt.alloc());
+    let _ = handles.push(desk.bind(report.driver));
+    let _ = handles.push(desk.bind(report.door));
+    for patron in report.patrons {
+        if let Patron::Ran { outcome: _, door } = patron {
+            let _ = handles.push(desk.bind(door));
+        }
+    }
+    handles.sort_unstable_by_key(|handle| handle.number());
+    let is_audited = Handle::are_in_order(handles.as_slice())
+        && desk.audit(rt, handles.as_mut_slice()).is_ok();
     Told {
         outcome,
+        served: 0,
         made,
         tally,
         adds_up,
@@ -72,27 +95,57 @@ where
 {
     let desk: Desk<N, NotAtFive, &R> = Desk::new(ground, NotAtFive);
     let behaviour = Counting { board };
-    let plan = Plan {
-        workers: 2,
-        inbox: 1,
-        retry_after: 1,
-        grace: 5,
-    };
     let moments = Moments::Kept(&board.time);
-    match run_live(rt, rt.alloc(), &desk, &behaviour, moments, plan, program) {
+    match run_live(rt, rt.alloc(), &desk, &behaviour, moments, PLAN, program) {
         Ok(report) => Some(tell(rt, &desk, report)),
         Err(_) => None,
     }
 }
 
-fn answer<N: Name + Send + Sync, R: Threads + Wait + Clock + RandomSource + AllocGlobal + Sync>(
+/// The sum of what came of the patrons.
+fn sum_of<N: Name>(patrons: &[Patron<N, u64>]) -> u64 {
+    let mut sum = 0u64;
+    for patron in patrons {
+        if let Patron::Ran { outcome, door: _ } = patron {
+            sum = sum.wrapping_add(*outcome);
+        }
+    }
+    sum
+}
+
+/// Runs three patrons over a desk on this ground.
+fn serve<N: Name + Send + Sync, R: Threads + Wait + Clock + RandomSource + AllocGlobal + Sync>(
     rt: &R,
     ground: Ground<&R>,
     board: &Board,
 ) -> Option<Told>
     requires { (ground.press ≡ N.press) × (ground.template ≡ N.template) }
 {
-    run::<N, Answers, R>(rt, ground, board, Answers { board })
+    let desk: Desk<N, NotAtFive, &R> = Desk::new(ground, NotAtFive);
+    let behaviour = Counting { board };
+    let mut patrons = Vec::new(rt.alloc());
+    for _ in 0..3u32 {
+        let _ = patrons.push(Serves { board });
+    }
+    let moments = Moments::Kept(&board.time);
+    let program = Watches { board };
+    let Ok(report) = run_live_with_patrons(
+        rt,
+        rt.alloc(),
+        &desk,
+        &behaviour,
+        moments,
+        PLAN,
+        program,
+        patrons,
+    ) else {
+        return None;
+    };
+    let served = sum_of(report.patrons.as_slice());
+    Some(Told {
+        served,
+        ..tell(rt, &desk, report)
+    })
 }
 
 fn crash<N: Name + Send + Sync, R: Threads + Wait + Clock + RandomSource + AllocGlobal + Sync>(
@@ -150,14 +203,15 @@ fn template(rt: &impl Abort) -> Template {
     }
 }
 
-/// Children run, and hear what they are sent.
+/// Three patrons start a child each at once, which runs and hears what it is sent, and end it.
 #[test]
-fn children_run_and_are_sent_to(rt: HostRuntime) -> Result<(), Fail> {
+fn patrons_start_send_and_end_at_once(rt: HostRuntime) -> Result<(), Fail> {
     let board = Board::new();
-    let ground = Ground::new(rt.alloc(), &rt, template(&rt), 2)?;
-    let told = answer::<Brand, HostRuntime>(&rt, ground, &board);
+    let ground = Ground::new(rt.alloc(), &rt, template(&rt), 5)?;
+    let told = serve::<Brand, HostRuntime>(&rt, ground, &board);
     let told = there(&rt, told);
-    assert!(rt; told.outcome == 6 && told.made == 3);
+    assert!(rt; told.outcome == 3 && told.made == 3 && told.served == 6);
+    assert!(rt; told.tally.strays.wrapping_add(told.tally.downs) == 3);
     assert!(rt; told.adds_up && told.is_audited);
     Ok(())
 }

@@ -7,7 +7,7 @@ use std::thread::Threads;
 use std::time::{Clock, Duration};
 use sup_desk::Name;
 use sup_live::{Alive, Door, Office, Program};
-use sup_types::{Reply, Starter, Text};
+use sup_types::{Reply, Seen, Starter, Text};
 
 /// Starts a child. Its number, or 0 where none was started.
 fn start<'h, 'a, N, S, Q, I, P, R>(
@@ -57,13 +57,43 @@ where
     }
 }
 
-/// Starts three children and sends two letters to each. How many were counted.
+/// Waits until three children were told to end, after they heard two letters each. How many were told.
 #[derive(Drop)]
-pub struct Answers<'a> {
+pub struct Watches<'a> {
     pub board: &'a Board,
 }
 
-impl<'a, N: Name> Program<N, Counting<'a>> for Answers<'a> {
+impl<'a, N: Name> Program<N, Counting<'a>> for Watches<'a> {
+    type Outcome = u64;
+
+    fn run<'h, S, Q, I, P, R>(
+        self,
+        rt: &R,
+        _door: &mut Door<'_, 'h, '_, N, S, Q, I, Counting<'a>, P, Alive<'h, I, Counting<'a>, P>>,
+    ) -> u64
+    where
+        N: Send + Sync,
+        S: Starter + Drop + Send + Sync,
+        Q: Wait + Drop + Send + Sync,
+        I: Office + Send + Sync,
+        P: Wait + Drop + Send + Sync,
+        R: Threads + Wait + Clock + Sync,
+    {
+        let board = self.board;
+        await_word(rt, &board.counted, 6);
+        await_word(rt, &board.told, 3);
+        read(&board.told)
+    }
+}
+
+/// A patron: starts a child, sends two letters to it, and ends it once all children heard theirs. The child's number, or 0
+/// where it is still listed.
+#[derive(Drop)]
+pub struct Serves<'a> {
+    pub board: &'a Board,
+}
+
+impl<'a, N: Name> Program<N, Counting<'a>> for Serves<'a> {
     type Outcome = u64;
 
     fn run<'h, S, Q, I, P, R>(
@@ -79,14 +109,15 @@ impl<'a, N: Name> Program<N, Counting<'a>> for Answers<'a> {
         P: Wait + Drop + Send + Sync,
         R: Threads + Wait + Clock + Sync,
     {
-        let board = self.board;
-        for _ in 0..3u32 {
-            let number = start(rt, door);
-            let _ = door.send(number, Letter::Count);
-            let _ = door.send(number, Letter::Count);
+        let number = start(rt, door);
+        let _ = door.send(number, Letter::Count);
+        let _ = door.send(number, Letter::Count);
+        await_word(rt, &self.board.counted, 6);
+        let _ = door.terminate_child(rt, number);
+        match door.child(number) {
+            Ok(Seen::Up(None)) => number,
+            _ => 0,
         }
-        await_word(rt, &board.counted, 6);
-        read(&board.counted)
     }
 }
 

@@ -1,0 +1,154 @@
+//! Patrons: programs in threads of their own, with a door each.
+ghost use Rattle.std.specs.Prelude.{◌≡◌, ◌≤◌, [], vec_len, vec_capacity};
+ghost use denote.Param.Send.{IsSend};
+
+use crate::program::Program;
+use std::sync::Wait;
+use std::thread::{JoinHandle, Scope, Threads};
+use std::time::Clock;
+use sup_desk::{Caller, Desk, HandleFault, Name};
+use sup_door::{Alive, Behaviour, Door, Office, Yard};
+use sup_types::Starter;
+
+/// What became of a patron: of a program that was to run in a thread of its own.
+#[derive(Drop)]
+pub enum Patron<N: Name, T: Drop> {
+    /// It ran.
+    Ran {
+        /// What came of it.
+        outcome: T,
+        /// The handle of its first door.
+        door: Caller<N>,
+    },
+    /// It did not run: no handle could be made for its door.
+    NoDoor(HandleFault),
+    /// It did not run: no thread could be started for it. It has made no handle.
+    NoThread,
+}
+
+/// The programs of a crew: one for the thread that runs it, and those of the patrons.
+#[derive(Drop)]
+pub(crate) struct Programs<T: Drop, U: Drop> {
+    pub(crate) program: T,
+    pub(crate) patrons: Vec<U>,
+}
+
+/// The patrons of a crew that has none.
+#[derive(Drop)]
+pub(crate) struct Nobody;
+
+impl<N: Name, B: Behaviour> Program<N, B> for Nobody {
+    type Outcome = ();
+
+    fn run<'h, S, Q, I, P, R>(
+        self,
+        _rt: &R,
+        _door: &mut Door<'_, 'h, '_, N, S, Q, I, B, P, Alive<'h, I, B, P>>,
+    )
+    where
+        N: Send + Sync,
+        S: Starter + Drop + Send + Sync,
+        Q: Wait + Drop + Send + Sync,
+        I: Office + Send + Sync,
+        B: Sync,
+        B::Message: Send,
+        B::Child: Send,
+        P: Wait + Drop + Send + Sync,
+        R: Threads + Wait + Clock + Sync,
+    {}
+}
+
+/// Runs a patron by a door of its own.
+fn attend<'t, 'h, 'd, N, S, Q, I, B, P, U, R>(
+    rt: &R,
+    desk: &'d Desk<N, S, Q>,
+    yard: &'t Yard<'h, I, B, P, Alive<'h, I, B, P>>,
+    patron: U,
+) -> Patron<N, U::Outcome>
+where
+    N: Name + Send + Sync,
+    S: Starter + Drop + Send + Sync,
+    Q: Wait + Drop + Send + Sync,
+    I: Office + Send + Sync,
+    B: Behaviour + Sync,
+    B::Message: Send,
+    B::Child: Send,
+    P: Wait + Drop + Send + Sync,
+    U: Program<N, B> + Drop,
+    R: Threads + Wait + Clock + Sync,
+{
+    match desk.handle(rt) {
+        Ok(handle) => {
+            let mut door = Door::new(desk, handle, yard);
+            let outcome = patron.run(rt, &mut door);
+            Patron::Ran {
+                outcome,
+                door: door.end(),
+            }
+        }
+        Err(fault) => Patron::NoDoor(fault),
+    }
+}
+
+/// The threads of the patrons, in their order. In the place of one that could not be started there is none.
+pub(crate) type Attending<T> = Vec<Option<JoinHandle<T>>>;
+
+/// Starts a thread for each patron, and lists them where there is room for them.
+pub(crate) fn start_patrons<'s, 'h: 's, 'd: 's, E, N, S, Q, I, B, P, U, R>(
+    scope: &Scope<'s, E>,
+    rt: &'s R,
+    desk: &'d Desk<N, S, Q>,
+    yard: &'s Yard<'h, I, B, P, Alive<'h, I, B, P>>,
+    patrons: Vec<U>,
+    room: Attending<Patron<N, U::Outcome>>,
+) -> Attending<Patron<N, U::Outcome>>
+where
+    N: Name + Send + Sync + 's,
+    S: Starter + Drop + Send + Sync + 's,
+    Q: Wait + Drop + Send + Sync + 's,
+    I: Office + Send + Sync + 's,
+    B: Behaviour + Sync + 's,
+    B::Message: Send + 's,
+    B::Child: Send + 's,
+    P: Wait + Drop + Send + Sync + 's,
+    U: Program<N, B> + Drop + Send + 's,
+    U::Outcome: Send + 's,
+    R: Threads + Wait + Clock + Sync,
+    requires { (room.items ≡ []) × (vec_len patrons ≤ vec_capacity room) }
+    ensures { vec_len result ≡ vec_len patrons }
+{
+    let mut threads = room;
+    for patron in patrons {
+        let begun = scope.spawn(
+            move || -> Patron<N, U::Outcome>
+                requires threads { IsSend N.row × IsSend S.row × IsSend Q.row × IsSend I.row × IsSend P.row }
+                requires children { IsSend B.Message.row × IsSend B.Child.row }
+            { attend(rt, desk, yard, patron) },
+        );
+        let thread = match begun {
+            Ok(thread) => Some(thread),
+            Err(_) => None,
+        };
+        threads.push_reserved(thread);
+    }
+    threads
+}
+
+/// Waits for the patrons, and says what became of each, in a list that has room for them.
+pub(crate) fn join_patrons<N: Name, T: Drop, R: Threads + Wait>(
+    rt: &R,
+    threads: Attending<Patron<N, T>>,
+    room: Vec<Patron<N, T>>,
+) -> Vec<Patron<N, T>>
+    requires { (room.items ≡ []) × (vec_len threads ≤ vec_capacity room) }
+    ensures { vec_len result ≡ vec_len threads }
+{
+    let mut patrons = room;
+    for thread in threads {
+        patrons.push_reserved(match thread {
+            Some(thread) => thread.join(rt),
+            None => Patron::NoThread,
+        });
+    }
+    patrons
+}
