@@ -1,11 +1,11 @@
 -- A number that stands at an index of the places, and what a write there does.
-use Rattle.std.proofs.Common.{◌≡◌, ℕ, zero, suc, inl, inr, List, [], ◌∷◌, true, false, ◌∙◌, sym, ap}
-use Rattle.std.specs.Prelude.{◌==◌, nat_eq, Option, Some, None, slice_get, unwrap_or}
+use Rattle.std.proofs.Common.{◌≡◌, ℕ, zero, suc, ◌<◌, List, [], ◌∷◌, true, false, length, get_or, ◌∙◌, sym, refl, ap}
+use Rattle.std.specs.Prelude.{◌==◌, nat_eq, Option, Some, slice_get, slice_set, unwrap_or}
 use Rattle.std.specs.List.{IsDistinct, AllByRecursion}
 use Rattle.std.specs.Option.{option_map, option_map_or}
-use Rattle.std.specs.Map.{keys_of, values_of, lookup, lookup_key, set_value}
-use Rattle.indexmap.specs.IndexMap.{set_value_at}
-use Rattle.std.proofs.lemmas.Bool.{cases_Bool, cond-true, cond-false, eqb-true, eq-eqb}
+use Rattle.std.specs.Map.{keys_of, values_of, lookup, set_value}
+use Rattle.std.proofs.lemmas.Bool.{cond-true, cond-false, eqb-true, eq-eqb}
+use Rattle.std.proofs.lemmas.Option.{slice_get_read}
 use Rattle.std.proofs.lemmas.Map.Keys.{IsDistinct-head, IsDistinct-tail}
 use Rattle.sup_core.specs.declared.child.Child.{Child}
 use Rattle.sup_core.specs.Children.{Place}
@@ -34,29 +34,14 @@ lookup-index k ((n, child) ∷ places) (suc i) distinct at =
 
 -- a write there is one under the number
 pub set_value-index : (k : ℕ) (places : List Place) (i : ℕ) (new : Option Child) → IsDistinct nat_eq (keys_of places) → slice_get (keys_of places) i ≡ Some k
-    → set_value_at places i new ≡ set_value (nat_eq k) places new
+    → slice_set places i (k, new) ≡ set_value (nat_eq k) places new
 set_value-index k [] i new distinct at = absurd (cc)
 set_value-index k ((n, child) ∷ places) zero new distinct at =
-    sym (cond-true (k == n) ((n, new) ∷ places) ((n, child) ∷ set_value (nat_eq k) places new) (first_at n k at))
+    ap (λ m. (m, new) ∷ places) (eqb-true k n (first_at n k at))
+    ∙ sym (cond-true (k == n) ((n, new) ∷ places) ((n, child) ∷ set_value (nat_eq k) places new) (first_at n k at))
 set_value-index k ((n, child) ∷ places) (suc i) new distinct at =
     ap (λ l. (n, child) ∷ l) (set_value-index k places i new (IsDistinct-tail nat_eq n (keys_of places) distinct) at)
     ∙ sym (cond-false (k == n) ((n, new) ∷ places) ((n, child) ∷ set_value (nat_eq k) places new) (later_at n k (keys_of places) i distinct at))
-
-absent_rest : (other n : ℕ) (child : Option Child) (places : List Place) → lookup (nat_eq other) ((n, child) ∷ places) ≡ None → ((other == n) ≡ false) × (lookup (nat_eq other) places ≡ None)
-absent_rest other n child places none = elim (cases_Bool (other == n)) [
-  | inl same ↦ let hit : lookup (nat_eq other) ((n, child) ∷ places) ≡ Some child = cond-true (other == n) (Some child) (lookup (nat_eq other) places) same in absurd (cc)
-  | inr apart ↦ (apart, sym (cond-false (other == n) (Some child) (lookup (nat_eq other) places) apart) ∙ none)
-]
-
--- and a number at no place stays at none
-pub absent-index : (other : ℕ) (places : List Place) (i : ℕ) (new : Option Child) → lookup (nat_eq other) places ≡ None → lookup (nat_eq other) (set_value_at places i new) ≡ None
-absent-index other [] i new none = none
-absent-index other ((n, child) ∷ places) zero new none =
-    let (apart, rest) = absent_rest other n child places none in
-    cond-false (other == n) (Some new) (lookup (nat_eq other) places) apart ∙ rest
-absent-index other ((n, child) ∷ places) (suc i) new none =
-    let (apart, rest) = absent_rest other n child places none in
-    cond-false (other == n) (Some child) (lookup (nat_eq other) (set_value_at places i new)) apart ∙ absent-index other places i new rest
 
 -- the number of a place is the one at its index
 pub key-index : (places : List Place) (i n : ℕ) (child : Option Child) → slice_get places i ≡ Some (n, child) → slice_get (keys_of places) i ≡ Some n
@@ -64,10 +49,17 @@ key-index [] i n child at = absurd (cc)
 key-index (place ∷ places) zero n child at = ap (option_map (λ (p : Place). p.0)) at
 key-index (place ∷ places) (suc i) n child at = key-index places i n child at
 
--- what is found under a number has it
-pub key-found : (k n : ℕ) (places : List Place) → lookup_key (nat_eq k) places ≡ Some n → n ≡ k
-key-found k n [] at = absurd (cc)
-key-found k n ((m, child) ∷ places) at = elim (cases_Bool (k == m)) [
-  | inl same ↦ ap (λ o. unwrap_or o n) (sym at ∙ cond-true (k == m) (Some m) (lookup_key (nat_eq k) places) same) ∙ sym (eqb-true k m same)
-  | inr other ↦ key-found k n places (sym (cond-false (k == m) (Some m) (lookup_key (nat_eq k) places) other) ∙ at)
-]
+-- and so is its child
+child-index : (places : List Place) (i n : ℕ) (child : Option Child) → slice_get places i ≡ Some (n, child) → slice_get (values_of places) i ≡ Some child
+child-index [] i n child at = absurd (cc)
+child-index (place ∷ places) zero n child at = ap (option_map (λ (p : Place). p.1)) at
+child-index (place ∷ places) (suc i) n child at = child-index places i n child at
+
+-- what is read where a number stands
+pub place-index : (k : ℕ) (places : List Place) (i : ℕ) (place : Place) → IsDistinct nat_eq (keys_of places) → i < length places
+    → slice_get (keys_of places) i ≡ Some k → place ≡ get_or places i place → (place.0 ≡ k) × (lookup (nat_eq k) places ≡ Some place.1)
+place-index k places i place distinct within at is =
+    let read : slice_get places i ≡ Some (place.0, place.1) = slice_get_read places (length places) i place refl within is in (
+      ap (λ o. unwrap_or o k) (sym (key-index places i place.0 place.1 read) ∙ at),
+      lookup-index k places i distinct at ∙ child-index places i place.0 place.1 read,
+    )

@@ -1,30 +1,31 @@
 //! The rows of a supervisor, found by their numbers.
 //!
-//! Numbers only grow, so the order in which children were put in is that of their numbers. A child that is listed no
-//! more leaves its place empty, since the map gives no room back for a removed entry. The empty places at the end are given
-//! back as they come. Where all places are used, or clearly more than half of them are empty, the listed children move to the
-//! front in their order, and the places behind them are given back. That needs no memory, and leaves where they are those in
-//! front of the first empty place.
-ghost use Rattle.std.specs.Prelude.{true, false, ◌≡◌, ◌≤◌, ◌<◌, ◌+◌, ◌-◌, ◌*◌, ◌^◌, ℕ, List, [], ◌∷◌, ◌++◌, IfOk, None, Some, map, length, nat_eq, is_some, slice_index_or, take, MatchBool, MatchOption, IsOk, IsSome, IfSome, IfNone, slice_get, if◌then◌else◌};
+//! Numbers only grow, so the children stand in a list in the order of their numbers. A child that is listed no more leaves
+//! its place empty. The empty places at the end are given back as they come. Where all places are used, or clearly more than
+//! half of them are empty, the listed children move to the front in their order, and the places behind them are given back.
+//! That needs no memory.
+//!
+//! A number is looked for where it stands if none in front of it is missing, or it is among the last, and only then by halves.
+ghost use Rattle.std.specs.Prelude.{true, false, ◌≡◌, ◌≤◌, ◌<◌, ◌+◌, ◌-◌, ◌*◌, ◌^◌, ℕ, List, [], ◌∷◌, ◌++◌, IfOk, IfErr, None, Some, map, length, nat_eq, is_some, slice_index_or, MatchBool, MatchOption, IsOk, IsSome, IfSome, IfNone, slice_get, if◌then◌else◌};
 ghost use Rattle.std.specs.List.{list_any, cons_option};
-ghost use Rattle.std.specs.Option.{option_copied, option_map, option_map_or};
-ghost use Rattle.std.specs.Map.{set_value};
+ghost use Rattle.std.specs.Option.{option_copied, option_map};
+ghost use Rattle.std.specs.Map.{keys_of, lookup, set_value};
 ghost use Rattle.sup_types.specs.Status.{is_running};
 ghost use Rattle.std.specs.Vec.{vec_len, vec_capacity};
-ghost use Rattle.indexmap.specs.IndexMap.{get, keys, index_map_len, spare, IsUnique};
 ghost use Rattle.sup_core.specs.Rows.{has_number, stands_as, row_at, argument_at, without, waiting_at};
 ghost use Rattle.sup_core.specs.Changes.{running};
-ghost use Rattle.sup_core.specs.Children.{Listed, listed, place_of, place_row, running_count, one_if, found, taken_of, left_of, waiting_of};
+ghost use Rattle.sup_core.specs.Children.{Listed, Place, Rises, listed, place_of, place_row, running_count, one_if, found, taken_of, left_of, waiting_of};
 
-use crate::asked::Asked;
+use crate::asked::{Asked, NO_PLACE};
 use crate::child::Child;
-use crate::near::Near;
-use indexmap::IndexMap;
 use std::alloc::{AllocError, Allocator};
 use std::marker::Model;
 use sup_types::{Row, Status, Text};
 
-type Places<A> = IndexMap<u64, Option<Child>, Near, A>;
+/// A number, and the child that is listed under it, if it still is.
+type Place = (u64, Option<Child>);
+
+type Places<A> = Vec<Place, A>;
 
 /// So few empty places are not worth giving back.
 const FEW_PLACES: usize = 64;
@@ -40,29 +41,28 @@ pub(crate) struct Table<A: Allocator> {
 }
 
 impl<A: Allocator> Model for Table<A> {
-    ghost use Rattle.std.specs.Prelude.{◌≡◌, ◌≤◌, ◌<◌, ◌+◌, ◌*◌, ℕ, None, length, nat_eq};
-    ghost use Rattle.indexmap.specs.IndexMap.{get, index_map_len, spare, IsUnique};
-    ghost use Rattle.sup_core.specs.Children.{Listed, listed, running_count};
+    ghost use Rattle.std.specs.Prelude.{◌≡◌, ◌≤◌, ◌*◌, length};
+    ghost use Rattle.std.specs.Vec.{vec_capacity};
+    ghost use Rattle.sup_core.specs.Children.{Listed, Rises, listed, running_count};
 
     ghost Value = { Listed };
 
-    ghost view = { λ t. record { rows = listed t.places.entries; made = t.made; max = t.max } };
+    ghost view = { λ t. record { rows = listed t.places.items; made = t.made; max = t.max } };
 
-    ghost invariant = { λ t. IsUnique nat_eq t.places
-        × ((number : ℕ) → t.made < number → get nat_eq t.places number ≡ None)
-        × (t.live ≡ length (listed t.places.entries)) × (t.live ≤ t.max)
-        × (t.running ≡ running_count (listed t.places.entries))
-        × (2 * t.max ≤ index_map_len t.places + spare t.places)
+    ghost invariant = { λ t. Rises 0 t.places.items t.made
+        × (t.live ≡ length (listed t.places.items)) × (t.live ≤ t.max)
+        × (t.running ≡ running_count (listed t.places.items))
+        × (2 * t.max ≤ vec_capacity t.places)
         × (t.max ≤ 65536) };
 }
 
 impl<A: Allocator + Copy> Table<A> {
-    /// An empty table. It makes room for all rows, and for one place more, by which it sees whether the last can be given back.
+    /// An empty table. It makes room for twice as many places as there may be rows.
     pub(crate) fn new(alloc: A, max: u64) -> Result<Self, AllocError>
         requires { max ≤ 65536 }
         ensures { IfOk result (λ t. (t.rows ≡ []) × (t.made ≡ 0) × (t.max ≡ max)) }
     {
-        let places = IndexMap::with_capacity_and_hasher(alloc, 2 * max as usize + 1, Near::new())?;
+        let places = Vec::with_capacity(alloc, 2 * max as usize)?;
         Ok(Table {
             places,
             max,
@@ -141,7 +141,7 @@ impl<A: Allocator + Copy> Table<A> {
         let Some(child) = take_child(&mut self.places, number) else {
             return false;
         };
-        trim(&mut self.places, self.max as usize);
+        trim(&mut self.places);
         self.live -= 1;
         self.running -= one_if(child.is_running());
         true
@@ -157,7 +157,7 @@ impl<A: Allocator + Copy> Table<A> {
         ensures room { IsSome result → length self.new.rows < self.old.max }
     {
         let child = take_child_as(&mut self.places, number, status, place)?;
-        trim(&mut self.places, self.max as usize);
+        trim(&mut self.places);
         self.live -= 1;
         self.running -= one_if(child.is_running());
         Some(child.arg)
@@ -195,76 +195,109 @@ fn one_if(counts: bool) -> u64
 
 /// Lists a child that runs, in the last place.
 fn put_next<A: Allocator>(places: &mut Places<A>, number: u64, arg: Text)
-    requires absent { get nat_eq places.old number ≡ None }
-    requires spare { 0 < spare places.old }
-    ensures rows { listed places.new.entries ≡ listed places.old.entries ++ running number arg ∷ [] }
-    ensures absent { (other : ℕ) → number < other → get nat_eq places.old other ≡ None → get nat_eq places.new other ≡ None }
-    ensures room { index_map_len places.old + spare places.old ≤ index_map_len places.new + spare places.new }
-    ensures unique { IsUnique nat_eq places.new }
+    requires { vec_len places.old < vec_capacity places.old }
+    ensures rows { listed places.new.items ≡ listed places.old.items ++ running number arg ∷ [] }
+    ensures rises { (low high : ℕ) → high < number → Rises low places.old.items high → Rises low places.new.items number }
+    ensures capacity { vec_capacity places.old ≤ vec_capacity places.new }
 {
     let child = Child {
         status: Status::Running,
         arg,
     };
-    let _ = places.insert(number, Some(child));
+    let _ = places.push((number, Some(child)));
 }
 
 fn child_at<A: Allocator>(places: &Places<A>, number: u64) -> Option<&Child>
-    ensures { option_copied result ≡ found (get nat_eq places.now number) }
+    requires { (high : ℕ) × Rises 0 places.now.items high }
+    ensures { option_copied result ≡ found (lookup (nat_eq number) places.now.items) }
 {
-    match places.get(&number) {
-        Some(place) => place.as_ref(),
+    match found_at(places, number) {
+        Some((_, child)) => Some(child),
         None => None,
     }
 }
 
 /// The child of this number, and the index of its place.
 fn found_at<A: Allocator>(places: &Places<A>, number: u64) -> Option<(usize, &Child)>
-    ensures { option_map (λ p. p.1.now) result ≡ found (get nat_eq places.now number) }
+    requires { (high : ℕ) × Rises 0 places.now.items high }
+    ensures { option_map (λ p. p.1.now) result ≡ found (lookup (nat_eq number) places.now.items) }
 {
-    match places.get_full(&number) {
-        Some((index, _, Some(child))) => Some((index, child)),
-        _ => None,
+    let index = index_of(places, number, NO_PLACE)?;
+    match child_of(&places[index]) {
+        Some(child) => Some((index, child)),
+        None => None,
     }
 }
 
-/// The index of this number's place, if it has one. It is looked for by the number only where it does not stand at `place`.
+fn child_of(place: &Place) -> Option<&Child>
+    ensures { option_copied result ≡ place.now.1 }
+{
+    place.1.as_ref()
+}
+
+/// The index of this number's place, if it has one. It is looked for where it stands if no number in front of it is
+/// missing, and in the last place; and then by halves.
 fn index_of<A: Allocator>(places: &Places<A>, number: u64, place: usize) -> Option<usize>
-    ensures absent { IfNone result (get nat_eq places.now number ≡ None) }
-    ensures there { IfSome result (λ i. slice_get (keys places.now) i ≡ Some number) }
+    requires { (high : ℕ) × Rises 0 places.now.items high }
+    ensures absent { IfNone result (lookup (nat_eq number) places.now.items ≡ None) }
+    ensures within { IfSome result (λ i. i < vec_len places.now) }
+    ensures there { IfSome result (λ i. slice_get (keys_of places.now.items) i ≡ Some number) }
 {
     if stands_at(places, number, place) {
         return Some(place);
     }
-    match places.get_full(&number) {
-        Some((index, _, _)) => Some(index),
-        None => None,
+    let likely = likely_index(places, number);
+    if stands_at(places, number, likely) {
+        return Some(likely);
+    }
+    match searched(places, number) {
+        Ok(index) => Some(index),
+        Err(_) => None,
     }
 }
 
 /// Whether this number's place is at this index.
 fn stands_at<A: Allocator>(places: &Places<A>, number: u64, index: usize) -> bool
-    ensures { result ≡ true → slice_get (keys places.now) index ≡ Some number }
+    ensures { result ≡ true → (index < vec_len places.now) × (slice_get (keys_of places.now.items) index ≡ Some number) }
 {
-    match places.get_index(index) {
-        Some((there, _)) => *there == number,
-        None => false,
+    index < places.len() && places[index].0 == number
+}
+
+/// Where this number stands if none in front of it is missing, or else the last place.
+fn likely_index<A: Allocator>(places: &Places<A>, number: u64) -> usize {
+    match places.first() {
+        Some((first, _)) => (number.saturating_sub(*first) as usize).min(places.len() - 1),
+        None => 0,
     }
+}
+
+/// The index of this number's place, by halves.
+fn searched<A: Allocator>(places: &Places<A>, number: u64) -> Result<usize, usize>
+    requires { (high : ℕ) × Rises 0 places.now.items high }
+    ensures found { IfOk result (λ i. (i < length places.now.items) × (slice_get (keys_of places.now.items) i ≡ Some number)) }
+    ensures absent { IfErr result (λ _. lookup (nat_eq number) places.now.items ≡ None) }
+{
+    places.binary_search_by_key(&number, |place| place.0)
 }
 
 /// Empties the place of this number, and answers the child that was there.
 fn take_child<A: Allocator>(places: &mut Places<A>, number: u64) -> Option<Child>
-    ensures value { result ≡ found (get nat_eq places.old number) }
-    ensures entries { places.new.entries ≡ set_value (nat_eq number) places.old.entries None }
-    ensures absent { (other : ℕ) → get nat_eq places.old other ≡ None → get nat_eq places.new other ≡ None }
-    ensures len { index_map_len places.new ≡ index_map_len places.old }
-    ensures spare { spare places.new ≡ spare places.old }
-    ensures unique { IsUnique nat_eq places.new }
+    requires { (high : ℕ) × Rises 0 places.old.items high }
+    ensures value { result ≡ found (lookup (nat_eq number) places.old.items) }
+    ensures items { places.new.items ≡ set_value (nat_eq number) places.old.items None }
+    ensures capacity { vec_capacity places.new ≡ vec_capacity places.old }
 {
-    match places.get_mut(&number) {
-        Some(place) => place.take(),
+    match index_of(places, number, NO_PLACE) {
+        Some(index) => place_empties(&mut places[index]),
         None => None,
     }
+}
+
+fn place_empties(place: &mut Place) -> Option<Child>
+    ensures value { result ≡ place.old.1 }
+    ensures next { place.new ≡ (place.old.0, None) }
+{
+    place.1.take()
 }
 
 /// Empties the place of this number, if a child of this status is there, and answers that child.
@@ -274,90 +307,45 @@ fn take_child_as<A: Allocator>(
     status: Status,
     place: usize,
 ) -> Option<Child>
-    requires { IsUnique nat_eq places.old }
-    ensures value { result ≡ taken_of status (found (get nat_eq places.old number)) }
-    ensures entries { places.new.entries ≡ set_value (nat_eq number) places.old.entries (left_of status (found (get nat_eq places.old number))) }
-    ensures absent { (other : ℕ) → get nat_eq places.old other ≡ None → get nat_eq places.new other ≡ None }
-    ensures len { index_map_len places.new ≡ index_map_len places.old }
-    ensures spare { spare places.new ≡ spare places.old }
-    ensures unique { IsUnique nat_eq places.new }
+    requires { (high : ℕ) × Rises 0 places.old.items high }
+    ensures value { result ≡ taken_of status (found (lookup (nat_eq number) places.old.items)) }
+    ensures items { places.new.items ≡ set_value (nat_eq number) places.old.items (left_of status (found (lookup (nat_eq number) places.old.items))) }
+    ensures capacity { vec_capacity places.new ≡ vec_capacity places.old }
 {
     match index_of(places, number, place) {
-        Some(index) => take_at(places, index, number, status),
+        Some(index) => place_gives(&mut places[index], status),
         None => None,
     }
 }
 
-/// The same at an index where this number stands.
-fn take_at<A: Allocator>(
-    places: &mut Places<A>,
-    index: usize,
-    number: u64,
-    status: Status,
-) -> Option<Child>
-    requires unique { IsUnique nat_eq places.old }
-    requires there { slice_get (keys places.old) index ≡ Some number }
-    ensures value { result ≡ taken_of status (found (get nat_eq places.old number)) }
-    ensures entries { places.new.entries ≡ set_value (nat_eq number) places.old.entries (left_of status (found (get nat_eq places.old number))) }
-    ensures absent { (other : ℕ) → get nat_eq places.old other ≡ None → get nat_eq places.new other ≡ None }
-    ensures len { index_map_len places.new ≡ index_map_len places.old }
-    ensures spare { spare places.new ≡ spare places.old }
-    ensures unique { IsUnique nat_eq places.new }
+fn place_gives(place: &mut Place, status: Status) -> Option<Child>
+    ensures value { result ≡ taken_of status place.old.1 }
+    ensures next { place.new ≡ (place.old.0, left_of status place.old.1) }
 {
-    match places.get_index_mut(index) {
-        Some(place) => place_gives(place, status),
-        None => None,
-    }
-}
-
-fn place_gives(place: &mut Option<Child>, status: Status) -> Option<Child>
-    ensures value { result ≡ taken_of status place.old }
-    ensures next { place.new ≡ left_of status place.old }
-{
-    match place {
-        Some(child) if child.has_status(status) => place.take(),
+    match &place.1 {
+        Some(child) if child.has_status(status) => place.1.take(),
         _ => None,
     }
 }
 
 /// Lets the child of this number wait for another try, if it has this status, and answers whether it has.
 fn let_wait<A: Allocator>(places: &mut Places<A>, number: u64, status: Status, place: usize) -> bool
-    requires { IsUnique nat_eq places.old }
-    ensures value { result ≡ is_some (taken_of status (found (get nat_eq places.old number))) }
-    ensures entries { places.new.entries ≡ set_value (nat_eq number) places.old.entries (waiting_of status (found (get nat_eq places.old number))) }
-    ensures absent { (other : ℕ) → get nat_eq places.old other ≡ None → get nat_eq places.new other ≡ None }
-    ensures len { index_map_len places.new ≡ index_map_len places.old }
-    ensures spare { spare places.new ≡ spare places.old }
-    ensures unique { IsUnique nat_eq places.new }
+    requires { (high : ℕ) × Rises 0 places.old.items high }
+    ensures value { result ≡ is_some (taken_of status (found (lookup (nat_eq number) places.old.items))) }
+    ensures items { places.new.items ≡ set_value (nat_eq number) places.old.items (waiting_of status (found (lookup (nat_eq number) places.old.items))) }
+    ensures capacity { vec_capacity places.new ≡ vec_capacity places.old }
 {
     match index_of(places, number, place) {
-        Some(index) => wait_at(places, index, number, status),
+        Some(index) => place_waits(&mut places[index], status),
         None => false,
     }
 }
 
-/// The same at an index where this number stands.
-fn wait_at<A: Allocator>(places: &mut Places<A>, index: usize, number: u64, status: Status) -> bool
-    requires unique { IsUnique nat_eq places.old }
-    requires there { slice_get (keys places.old) index ≡ Some number }
-    ensures value { result ≡ is_some (taken_of status (found (get nat_eq places.old number))) }
-    ensures entries { places.new.entries ≡ set_value (nat_eq number) places.old.entries (waiting_of status (found (get nat_eq places.old number))) }
-    ensures absent { (other : ℕ) → get nat_eq places.old other ≡ None → get nat_eq places.new other ≡ None }
-    ensures len { index_map_len places.new ≡ index_map_len places.old }
-    ensures spare { spare places.new ≡ spare places.old }
-    ensures unique { IsUnique nat_eq places.new }
+fn place_waits(place: &mut Place, status: Status) -> bool
+    ensures value { result ≡ is_some (taken_of status place.old.1) }
+    ensures next { place.new ≡ (place.old.0, waiting_of status place.old.1) }
 {
-    match places.get_index_mut(index) {
-        Some(place) => place_waits(place, status),
-        None => false,
-    }
-}
-
-fn place_waits(place: &mut Option<Child>, status: Status) -> bool
-    ensures value { result ≡ is_some (taken_of status place.old) }
-    ensures next { place.new ≡ waiting_of status place.old }
-{
-    match place {
+    match &mut place.1 {
         Some(child) if child.has_status(status) => {
             child.status = Status::Restarting;
             true
@@ -369,50 +357,37 @@ fn place_waits(place: &mut Option<Child>, status: Status) -> bool
 /// Adds the rows of the listed children to an empty list that has room for them.
 fn copy_listed<A: Allocator>(places: &Places<A>, copy: &mut Vec<Row, A>)
     requires empty { copy.old.items ≡ [] }
-    requires room { length (listed places.now.entries) ≤ vec_capacity copy.old }
-    ensures items { copy.new.items ≡ listed places.now.entries }
+    requires room { length (listed places.now.items) ≤ vec_capacity copy.old }
+    ensures items { copy.new.items ≡ listed places.now.items }
     ensures capacity { vec_capacity copy.old ≤ vec_capacity copy.new }
 {
     for index in 0..places.len() {
-        push_listed(copy, places, index);
+        push_row(copy, &places[index]);
     }
 }
 
-/// Adds the row at this index, if a child is listed there.
-fn push_listed<A: Allocator>(copy: &mut Vec<Row, A>, places: &Places<A>, index: usize)
-    requires { vec_len copy.old + length (cons_option (place_row (slice_index_or places.now.entries index (0, None))) []) ≤ vec_capacity copy.old }
-    ensures items { copy.new.items ≡ copy.old.items ++ cons_option (place_row (slice_index_or places.now.entries index (0, None))) [] }
+/// Adds the row of this place, if a child is listed there.
+fn push_row<A: Allocator>(copy: &mut Vec<Row, A>, place: &Place)
+    requires { vec_len copy.old + length (cons_option (place_row place.now) []) ≤ vec_capacity copy.old }
+    ensures items { copy.new.items ≡ copy.old.items ++ cons_option (place_row place.now) [] }
     ensures capacity { vec_capacity copy.old ≤ vec_capacity copy.new }
 {
-    match places.get_index(index) {
-        Some((number, child)) => push_row(copy, *number, child),
-        None => {}
-    }
-}
-
-fn push_row<A: Allocator>(copy: &mut Vec<Row, A>, number: u64, child: &Option<Child>)
-    requires { vec_len copy.old + length (cons_option (place_row (number, child.now)) []) ≤ vec_capacity copy.old }
-    ensures items { copy.new.items ≡ copy.old.items ++ cons_option (place_row (number, child.now)) [] }
-    ensures capacity { vec_capacity copy.old ≤ vec_capacity copy.new }
-{
-    if let Some(child) = child {
-        let _ = copy.push(child.row(number));
+    if let Some(child) = &place.1 {
+        let _ = copy.push(child.row(place.0));
     }
 }
 
 /// Makes room for one more place. The empty places are given back once they are as many as the listed children and some
 /// more, so that what is read lies close together where the children are few.
 fn make_room<A: Allocator>(places: &mut Places<A>, max: usize, live: usize)
-    requires unique { IsUnique nat_eq places.old }
-    requires live { live ≡ length (listed places.old.entries) }
+    requires live { live ≡ length (listed places.old.items) }
     requires fits { live < max }
-    requires places { 2 * max ≤ index_map_len places.old + spare places.old }
+    requires places { 2 * max ≤ vec_capacity places.old }
     requires small { max ≤ 65536 }
-    ensures rows { listed places.new.entries ≡ listed places.old.entries }
-    ensures absent { (number : ℕ) → get nat_eq places.old number ≡ None → get nat_eq places.new number ≡ None }
-    ensures unique { IsUnique nat_eq places.new }
-    ensures places { 2 * max ≤ index_map_len places.new + spare places.new }
-    ensures spare { 0 < spare places.new }
+    ensures rows { listed places.new.items ≡ listed places.old.items }
+    ensures rises { (low high : ℕ) → Rises low places.old.items high → Rises low places.new.items high }
+    ensures capacity { vec_capacity places.new ≡ vec_capacity places.old }
+    ensures room { vec_len places.new < vec_capacity places.new }
 {
     let most = (2 * live + FEW_PLACES).min(2 * max);
     if places.len() >= most {
@@ -421,69 +396,36 @@ fn make_room<A: Allocator>(places: &mut Places<A>, max: usize, live: usize)
 }
 
 /// Gives back the empty places at the end. So where the children that began last end first, as many do that come and go
-/// beside long-lived ones, the next take their places. No clause of the map says that its room stays, so that is looked at.
-fn trim<A: Allocator>(places: &mut Places<A>, max: usize)
-    requires unique { IsUnique nat_eq places.old }
-    requires places { 2 * max ≤ index_map_len places.old + spare places.old }
-    requires small { max ≤ 65536 }
-    ensures rows { listed places.new.entries ≡ listed places.old.entries }
-    ensures absent { (number : ℕ) → get nat_eq places.old number ≡ None → get nat_eq places.new number ≡ None }
-    ensures unique { IsUnique nat_eq places.new }
-    ensures places { 2 * max ≤ index_map_len places.new + spare places.new }
+/// beside long-lived ones, the next take their places.
+fn trim<A: Allocator>(places: &mut Places<A>)
+    ensures rows { listed places.new.items ≡ listed places.old.items }
+    ensures rises { (low high : ℕ) → Rises low places.old.items high → Rises low places.new.items high }
+    ensures capacity { vec_capacity places.new ≡ vec_capacity places.old }
 {
-    'empties: while ends_empty(places) && places.capacity() > 2 * max {
+    'empties: while ends_empty(places) {
         let _ = places.pop();
     }
 }
 
 /// Whether there are places and the last is empty.
 fn ends_empty<A: Allocator>(places: &Places<A>) -> bool
-    ensures { result ≡ true → (0 < index_map_len places.now) × (is_some (slice_index_or places.now.entries (index_map_len places.now - 1) (0, None)).1 ≡ false) }
+    ensures { result ≡ true → (0 < vec_len places.now) × (is_some (slice_index_or places.now.items (vec_len places.now - 1) (0, None)).1 ≡ false) }
 {
     let len = places.len();
-    len > 0 && !is_listed(places, len - 1)
+    len > 0 && !is_listed(&places[len - 1])
 }
 
-/// Gives back the empty places, where they are at least half of all.
+/// Gives back the empty places.
 fn compact<A: Allocator>(places: &mut Places<A>)
-    requires unique { IsUnique nat_eq places.old }
-    requires half { 2 * length (listed places.old.entries) ≤ index_map_len places.old }
-    ensures places { places.new.entries ≡ map place_of (listed places.old.entries) }
-    ensures room { index_map_len places.old + spare places.old ≤ index_map_len places.new + spare places.new }
-    ensures unique { IsUnique nat_eq places.new }
+    ensures places { places.new.items ≡ map place_of (listed places.old.items) }
+    ensures capacity { vec_capacity places.new ≡ vec_capacity places.old }
 {
-    let kept = gather(places);
-    places.truncate(kept);
+    places.retain(|place| is_listed(place));
 }
 
-/// Moves the listed children to the front, in their order, and answers how many there are.
-fn gather<A: Allocator>(places: &mut Places<A>) -> usize
-    requires unique { IsUnique nat_eq places.old }
-    ensures kept { result ≡ length (listed places.old.entries) }
-    ensures front { take result places.new.entries ≡ map place_of (listed places.old.entries) }
-    ensures len { index_map_len places.new ≡ index_map_len places.old }
-    ensures room { spare places.old ≤ spare places.new }
-    ensures unique { IsUnique nat_eq places.new }
+/// Whether a child is listed at this place.
+fn is_listed(place: &Place) -> bool
+    ensures { result ≡ is_some place.now.1 }
 {
-    let mut kept = 0;
-    for index in 0..places.len() {
-        if is_listed(places, index) {
-            if kept < index {
-                places.swap_indices(kept, index);
-            }
-            kept += 1;
-        }
-    }
-    kept
-}
-
-/// Whether a child is listed at this index.
-fn is_listed<A: Allocator>(places: &Places<A>, index: usize) -> bool
-    requires { index < index_map_len places.now }
-    ensures { result ≡ is_some (slice_index_or places.now.entries index (0, None)).1 }
-{
-    match places.get_index(index) {
-        Some((_, child)) => child.is_some(),
-        None => false,
-    }
+    place.1.is_some()
 }

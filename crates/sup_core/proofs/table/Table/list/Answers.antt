@@ -8,23 +8,22 @@ use Rattle.sup_core.proofs.table.Table.list.Goals as goal
 
 pub invariant_of-self : goal.invariant_of-self
 invariant_of-self g c =
-    let before = c.self.inside.places.entries in
+    let before = c.self.inside.places.items in
     let row : Row = running (c.self.inside.made + 1) c.args.arg in
-    let rows : listed c.put_next.new.places.entries ≡ listed before ++ row ∷ [] = c.put_next.ensures.rows ∙ ap (λ l. l ++ row ∷ []) c.make_room.ensures.rows in (
-      c.put_next.ensures.unique,
-      λ number past. c.put_next.ensures.absent number (omega arith) (c.make_room.ensures.absent number (c.self.invariant.1 number (omega arith))),
-      omega (arith, ap length rows, length-append (listed before) (row ∷ []), c.self.invariant.2),
-      omega (arith, c.requires.fits, ap (λ (t : Listed). length t.rows) c.self.view_is, ap (λ (t : Listed). t.max) c.self.view_is, c.self.invariant.2),
-      omega (arith, ap running_count rows, running-push (listed before) row, c.self.invariant.4),
-      omega (arith, c.put_next.ensures.room, c.make_room.ensures.places),
-      c.self.invariant.6,
+    let rows : listed c.put_next.new.places.items ≡ listed before ++ row ∷ [] = c.put_next.ensures.rows ∙ ap (λ l. l ++ row ∷ []) c.make_room.ensures.rows in (
+      c.put_next.ensures.rises 0 c.self.inside.made (omega arith) (c.make_room.ensures.rises 0 c.self.inside.made c.self.invariant.0),
+      omega (arith, ap length rows, length-append (listed before) (row ∷ []), c.self.invariant.1),
+      omega (arith, c.requires.fits, ap (λ (t : Listed). length t.rows) c.self.view_is, ap (λ (t : Listed). t.max) c.self.view_is, c.self.invariant.1),
+      omega (arith, ap running_count rows, running-push (listed before) row, c.self.invariant.3),
+      omega (arith, c.put_next.ensures.capacity, c.make_room.ensures.capacity, c.self.invariant.4),
+      c.self.invariant.5,
     )
 
 pub returns-clause-next : goal.returns-clause-next
 returns-clause-next g c =
-    let before = c.self.inside.places.entries in
+    let before = c.self.inside.places.items in
     let row : Row = running (c.self.inside.made + 1) c.args.arg in
-    let rows : listed c.put_next.new.places.entries ≡ listed before ++ row ∷ [] = c.put_next.ensures.rows ∙ ap (λ l. l ++ row ∷ []) c.make_room.ensures.rows in
+    let rows : listed c.put_next.new.places.items ≡ listed before ++ row ∷ [] = c.put_next.ensures.rows ∙ ap (λ l. l ++ row ∷ []) c.make_room.ensures.rows in
     let state : List Row → Listed = λ rows. record { rows = rows; made = c.self.inside.made + 1; max = c.self.inside.max } in
     ap state rows
     ∙ ap (λ (t : Listed). record { rows = t.rows ++ running (t.made + 1) c.args.arg ∷ []; made = t.made + 1; max = t.max }) c.self.view_is
