@@ -23,7 +23,7 @@
 //! ```
 //!
 //! `supervisor` has the supervisor, `asked` what it asks of its caller, `table` its rows by their numbers, `child` what is kept
-//! of one, and `near` the hash by which rows are found.
+//! of one, and `near` a hash for maps of a caller's own.
 #![tactic(auto)]
 
 mod asked;
