@@ -22,16 +22,14 @@
 //! let reply = sup.step_asked(&entry, &asked);
 //! ```
 //!
-//! `supervisor` has the supervisor, `asked` what it asks of its caller, `table` its rows by their numbers, `child` what is kept
-//! of one, and `near` a hash for maps of a caller's own.
+//! `supervisor` has the supervisor, `asked` what it asks of its caller, `table` its rows by their numbers, and `child` what is
+//! kept of one.
 #![tactic(auto)]
 
 mod asked;
 mod child;
-mod near;
 mod supervisor;
 mod table;
 
 pub use asked::Asked;
-pub use near::Near;
 pub use supervisor::Sup;

@@ -2,7 +2,6 @@
 //! replies that OTP's rules give are stored cases of the program.
 mod places;
 mod queries;
-mod spread;
 
 use std::alloc::Allocator;
 use std::process::Abort;
