@@ -25,14 +25,11 @@
 //! the exits that were entered: [`Report::adds_up`] counts them.
 #![tactic(auto)]
 
-mod driver;
-mod lead;
 mod patrons;
 mod plan;
 mod program;
 mod report;
 mod run;
-mod tally;
 
 pub use patrons::Patron;
 pub use plan::{LiveFault, Plan};
@@ -40,4 +37,4 @@ pub use program::Program;
 pub use report::Report;
 pub use run::{run_live, run_live_with_patrons};
 pub use sup_door::{Alive, Behaviour, Door, Hub, Mailbox, Moments, Office, Yard};
-pub use tally::Tally;
+pub use sup_driver::Tally;

@@ -1,8 +1,8 @@
 //! What a crew did.
 use crate::patrons::Patron;
-use crate::tally::Tally;
 use std::collections::VecDeque;
 use sup_desk::{Caller, Name, UpdateFault};
+use sup_driver::Tally;
 use sup_inbox::{InboxFull, Note};
 
 /// What a crew did, once all its threads were joined. Each child that it made has ended, and its exit was entered, or is in

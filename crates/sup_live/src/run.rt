@@ -1,10 +1,9 @@
 //! Runs.
 ghost use Rattle.std.specs.Prelude.{◌≡◌, ◌<◌, ◌≤◌, [], true, length, IfOk, vec_len, vec_capacity};
-ghost use Rattle.sup_live.specs.Leads.{exits_among, are_driven};
+ghost use Rattle.sup_driver.specs.Leads.{exits_among, are_driven};
 ghost use Rattle.sup_inbox.specs.Ends.{AreOf};
 ghost use denote.Param.Send.{IsSend};
 
-use crate::driver::{Driven, Driver};
 use crate::patrons::{Nobody, Patron, Programs, join_patrons, start_patrons};
 use crate::plan::{LiveFault, Plan};
 use crate::program::Program;
@@ -22,6 +21,7 @@ use std::time::Clock;
 use sup_crew::HELD;
 use sup_desk::{Caller, Desk, Handle, Name};
 use sup_door::{Alive, Behaviour, Door, Hub, Moments, Office, Yard};
+use sup_driver::{Driven, Driver};
 use sup_inbox::{Inbox, InboxFull, Note, Poster, Taker, settle};
 use sup_types::{OutOfMemory, Starter};
 

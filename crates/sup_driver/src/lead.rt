@@ -1,7 +1,7 @@
 //! A driver's side of the account: its handle, and the drain of the inbox.
 ghost use Rattle.std.specs.Prelude.{◌≡◌, ◌+◌, ◌≤◌, [], true, length, MatchResult, vec_len};
 ghost use Rattle.sup_crew.specs.Calls.{exits};
-ghost use Rattle.sup_live.specs.Leads.{exits_among, are_driven};
+ghost use Rattle.sup_driver.specs.Leads.{exits_among, are_driven};
 
 use std::alloc::Global;
 use std::marker::PhantomData;

@@ -1,6 +1,6 @@
 use Rattle.std.proofs.Common.{◌∙◌}
-use Rattle.sup_live.proofs.Led.{exits_drained, driven_drained, counted_drained}
-use Rattle.sup_live.proofs.lead.Lead.drain.Goals as goal
+use Rattle.sup_driver.proofs.Led.{exits_drained, driven_drained, counted_drained}
+use Rattle.sup_driver.proofs.lead.Lead.drain.Goals as goal
 
 pub invariant_of-self : goal.invariant_of-self
 invariant_of-self g c =

@@ -20,7 +20,7 @@ use Rattle.sup_desk.specs.declared.laws.Done.{Done}
 use Rattle.sup_desk.specs.Results.{IsUpdateResult}
 use Rattle.sup_crew.specs.declared.drain.Drained.{Drained}
 use Rattle.sup_crew.specs.declared.drain.DrainFault.{DrainFault}
-use Rattle.sup_live.specs.Leads.{exits_among, is_driven, are_driven}
+use Rattle.sup_driver.specs.Leads.{exits_among, is_driven, are_driven}
 
 pub exits-append : (xs ys : List Note) → exits (xs ++ ys) ≡ exits xs ++ exits ys
 exits-append [] ys = refl

@@ -1,7 +1,7 @@
 use Rattle.std.proofs.Common.{refl}
 use Rattle.sup_types.specs.declared.history.Operation.TheVariants.{Retry}
-use Rattle.sup_live.proofs.Led.{exits_called, driven_called}
-use Rattle.sup_live.proofs.lead.Lead.retry.Goals as goal
+use Rattle.sup_driver.proofs.Led.{exits_called, driven_called}
+use Rattle.sup_driver.proofs.lead.Lead.retry.Goals as goal
 
 pub invariant_of-self : goal.invariant_of-self
 invariant_of-self g c =

@@ -1,6 +1,6 @@
 //! The driver: it enters exits, begins the children that were restarted, and tries failed restarts again.
 ghost use Rattle.std.specs.Prelude.{◌≡◌, ◌+◌, ◌<◌, ◌≤◌, [], true, IfSome, vec_len, vec_capacity, length};
-ghost use Rattle.sup_live.specs.Leads.{exits_among, are_driven};
+ghost use Rattle.sup_driver.specs.Leads.{exits_among, are_driven};
 
 use crate::lead::Lead;
 use crate::tally::Tally;
@@ -43,11 +43,11 @@ pub struct Driver<'d, N: Name, S: Starter + Drop, Q: Wait + Drop, I: Office> {
 /// What a driver leaves.
 #[derive(Drop)]
 pub struct Driven<N: Name, I: Office> {
-    pub(crate) caller: Caller<N>,
-    pub(crate) drain: Drain,
-    pub(crate) exits: u64,
-    pub(crate) tally: Tally,
-    pub(crate) fault: Option<UpdateFault>,
+    caller: Caller<N>,
+    drain: Drain,
+    exits: u64,
+    tally: Tally,
+    fault: Option<UpdateFault>,
     of: PhantomData<I>,
     ghost of_inbox: { drain.inbox ≡ I.inbox },
     ghost all: { drain.posters ≡ I.posters },
@@ -56,8 +56,9 @@ pub struct Driven<N: Name, I: Office> {
 }
 
 impl<N: Name, I: Office> Driven<N, I> {
-    /// Its parts.
-    pub(crate) fn parts(self) -> (Caller<N>, Drain, u64, Tally, Option<UpdateFault>)
+    /// Its parts: the driver's handle without its desk, the drain, how many exits the handle entered, what was replied to it,
+    /// and the fault that stopped it.
+    pub fn parts(self) -> (Caller<N>, Drain, u64, Tally, Option<UpdateFault>)
         ensures inbox { (result.1.inbox ≡ I.inbox) × (result.1.posters ≡ I.posters) }
         ensures driven { are_driven result.0.calls ≡ true }
         ensures counted { result.2 ≡ length (exits_among result.0.calls) }
@@ -101,8 +102,9 @@ fn first_due(retries: &[Retry], moment: u64) -> Option<usize>
 }
 
 impl<'d, N: Name, S: Starter + Drop, Q: Wait + Drop, I: Office> Driver<'d, N, S, Q, I> {
-    /// A driver that begins, with room for the first retries.
-    pub(crate) fn new(
+    /// A driver that begins, with room for the first retries. A restart that failed is tried again after `retry_after` seconds.
+    /// The handle has made no call yet.
+    pub fn new(
         alloc: Global,
         handle: Handle<'d, N, S, Q>,
         taker: Taker,
@@ -358,8 +360,9 @@ impl<'d, N: Name, S: Starter + Drop, Q: Wait + Drop, I: Office> Driver<'d, N, S,
         }
     }
 
-    /// Drives the crew until it is to close, and closes it.
-    pub(crate) fn drive<'h, B: Behaviour, P: Wait + Drop, R: Wait + Clock>(
+    /// Drives the crew until it is to close, and closes it: stops the supervisor, tells all children to end, lets them go when
+    /// their grace is over, and enters their exits until all workers have gone.
+    pub fn drive<'h, B: Behaviour, P: Wait + Drop, R: Wait + Clock>(
         self,
         rt: &R,
         yard: &Yard<'h, I, B, P, Alive<'h, I, B, P>>,
