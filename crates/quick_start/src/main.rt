@@ -3,7 +3,7 @@
 
 use anyhow::{Context, Result};
 use std::sync::Wait;
-use sup_desk::{Desk, Name, Program, on_desk};
+use sup_desk::{Desk, Handle, Name, Program, on_desk};
 use sup_types::{AlwaysRunning, Kind, Reason, Restart, Template, Text, Word};
 
 /// The server. Its start function is `AlwaysRunning`, since its children need nothing that could be refused.
@@ -13,24 +13,40 @@ struct Server;
 impl<R: Wait + Print> Program<AlwaysRunning, R> for Server {
     type Outcome = Result<()>;
 
-    /// Starts a session, lets it crash, and asks by another handle, which has learnt of both.
+    /// Starts a session, lets it crash, and asks by another handle.
     fn run<N: Name + Send + Sync>(self, rt: &R, desk: &Desk<N, AlwaysRunning, &R>) -> Result<()> {
         let mut server = desk.handle(rt)?;
         let mut watcher = desk.handle(rt)?;
-
-        let session = Text::new(b"session-17").context("no text")?;
-        let started = server.start_child(rt, 0, session)?;
-        println!(rt; "{:?}", started.reply)?;
-
-        let crash = Word::new(b"crash").context("no word")?;
-        let ended = server.exit(rt, 1, 1, Reason::Other(crash))?;
-        println!(rt; "{:?}", ended.reply)?;
-
-        watcher.learn(&ended.ticket)?;
-        let child = watcher.child(2)?;
-        println!(rt; "{child:?}")?;
-        Ok(())
+        open(rt, &mut server)?;
+        crash(rt, &mut server, &mut watcher)
     }
+}
+
+/// Starts a session.
+fn open<N: Name, R: Wait + Print>(
+    rt: &R,
+    server: &mut Handle<'_, N, AlwaysRunning, &R>,
+) -> Result<()> {
+    let session = Text::new(b"session-17").context("no text")?;
+    let started = server.start_child(rt, 0, session)?;
+    println!(rt; "{:?}", started.reply)?;
+    Ok(())
+}
+
+/// The session crashes, and the watcher, which learns of it, sees that it runs again.
+fn crash<N: Name, R: Wait + Print>(
+    rt: &R,
+    server: &mut Handle<'_, N, AlwaysRunning, &R>,
+    watcher: &mut Handle<'_, N, AlwaysRunning, &R>,
+) -> Result<()> {
+    let crash = Word::new(b"crash").context("no word")?;
+    let ended = server.exit(rt, 1, 1, Reason::Other(crash))?;
+    println!(rt; "{:?}", ended.reply)?;
+
+    watcher.learn(&ended.ticket)?;
+    let child = watcher.child(2)?;
+    println!(rt; "{child:?}")?;
+    Ok(())
 }
 
 fn main(rt: HostRuntime) -> Result<()> {
