@@ -9,7 +9,7 @@ import tempfile
 import runs
 
 SECONDS = 60
-CRATES = ("sup_types", "sup_window", "sup_core", "sup_script", "sup_log", "sup_desk")
+CRATES = ("sup_types", "sup_window", "sup_core", "sup_format", "sup_script", "sup_log", "sup_desk")
 SOURCES = f"{runs.HERE}/desk"
 BUILT = f"{SOURCES}/out/desk_stress"
 

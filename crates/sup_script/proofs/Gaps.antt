@@ -8,19 +8,17 @@ use Rattle.std.proofs.Math.ListN.{get_or-append}
 use Rattle.std.proofs.Math.Seq.{get_or-append_seam, drop-append_seam, take-append_seam}
 use Rattle.std.proofs.lemmas.Bool.{lt-ltb}
 use Rattle.std.proofs.lemmas.Bool.Decides.{nat_tests}
-use Rattle.std.proofs.lemmas.Fmt.{decimal_digit}
-use Rattle.std.proofs.lemmas.List.{length-append, length-drop}
+use Rattle.std.proofs.lemmas.Fmt.{decimal_digit, decimal_is_IsNumeral}
+use Rattle.std.proofs.lemmas.List.{length-append, length-drop, nil_from_length}
 use Rattle.std.proofs.lemmas.List.Sums.{position_or_len_is}
 use Rattle.std.proofs.lemmas.Slice.Eq.{bytes_eq-Decides}
 use Rattle.sup_script.specs.Starter.{is_number, is_within, is_gap_at}
-use Rattle.sup_script.specs.Reading.Words.{Lacks, IsSplit}
-use Rattle.sup_script.proofs.Reading.Numbers.{decimal_known}
-use Rattle.sup_script.proofs.Reading.Commands.{none_of_length}
+use Rattle.sup_format.specs.Reading.Words.{Lacks, IsSplit}
 
 -- ---- numbers
 
 value_is : (word : List ℕ) (n : ℕ) → n < 2 ^ 64 → word ≡ decimal n → digits_value 10 word ≡ n
-value_is word n fits e = (decimal_known word n fits e).value
+value_is word n fits e = ap (digits_value 10) e ∙ (decimal_is_IsNumeral n fits).1
 
 both_true : (a b : Bool) → a ≡ true → b ≡ true → a && b ≡ true
 both_true a b p q = rw (p, q) refl
@@ -67,7 +65,7 @@ module _ (numbers : List ℕ) where
   no_after lacks =
       let here : position_or_len (λ b. b == 58) numbers ≡ length numbers =
       position_or_len_is (λ b. b == 58) numbers (length numbers) 0 (omega arith) (λ k below. lacks k 0 below) (λ below. absurd (omega arith)) in
-      ap (λ n. drop (n + 1) numbers) here ∙ none_of_length (drop (length numbers + 1) numbers) (omega (arith, length-drop (length numbers + 1) numbers))
+      ap (λ n. drop (n + 1) numbers) here ∙ nil_from_length (drop (length numbers + 1) numbers) (omega (arith, length-drop (length numbers + 1) numbers))
 
   module _ (from to : List ℕ) (split : IsSplit 58 numbers from to) where
     parts_at : position_or_len (λ b. b == 58) numbers ≡ length from

@@ -1,5 +1,6 @@
 -- Scripts and replays, line by line and as a whole.
 pub mod Causing
+pub mod Queues
 pub mod LineByLine
 pub mod Pieces
 pub mod WholeRuns

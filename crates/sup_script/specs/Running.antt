@@ -1,8 +1,8 @@
 -- Whole scripts and replays, and what a fault in them says.
 pub mod Stops
+pub mod Queues
 pub mod Script
 pub mod Runs
-pub mod Causes
 pub mod Answering
 pub mod Pieces
 pub mod Replays

@@ -9,13 +9,12 @@ mod walk;
 
 use crate::explain::place::{END, Form, Place};
 use crate::explain::walk::{Misfit, first_misfit, first_out_of_range, mark_of};
-use crate::fault::{Fault, ScriptFault};
-use crate::read::words::read_number;
 pub use faulty::FaultyLine;
 pub use shape::Format;
 use std::alloc::Allocator;
 use std::{fmt, str};
 use strsim::osa_distance;
+use sup_format::{Fault, ScriptFault, read_number};
 
 /// What is wrong at a place of a line.
 #[derive(Clone, Copy)]

@@ -12,9 +12,10 @@
 //! What the layer above may rely on are the contracts of `run` and `replay`: which bytes were read, which text was
 //! written, at a fault which line it stands in and which replies were written before, and why a fault of reading or
 //! writing came. They speak of what lines mean (`LineMeans`, `Spells`), of the replies' text and of the supervisor's
-//! account of the history alone. The reader and the writer are watched ones, which know what they refused. `laws` has
-//! laws of the definitions alone: no header gives two templates and no line means two commands, and no history text
-//! spells two values, so what was written is read again.
+//! account of the history alone. The reader and the writer are watched ones, which know what they refused.
+//!
+//! The formats themselves stand in `sup_format`, and what a caller needs of them is passed on here: what a line or a text
+//! means and how one is written, the watched streams, the faults, and the `laws` by which no text means two things.
 //!
 //! ```text
 //! let script = b"sup permanent worker 1 5 10\nstart 0 a\nexit 1 1 normal\nwhich\n".as_slice();
@@ -27,22 +28,15 @@
 #![tactic(auto)]
 
 mod explain;
-mod fault;
-pub mod laws;
-mod read;
 mod runs;
 mod starter;
-mod write;
 
 pub use explain::{Explanation, FaultyLine, Format};
-pub use fault::{Fault, ScriptFault};
-pub use read::command::{Command, read_line};
-pub use read::history::{History, HistoryFault, read_history};
-pub use read::words::read_number;
 pub use runs::answer::{Detail, Status, answer_text};
 pub use runs::replays::{replay, replay_with_line};
 pub use runs::script::{run, run_with_line};
-pub use runs::watch::{WatchedReader, WatchedWriter};
 pub use starter::ScriptStarter;
-pub use write::history_text::write_history;
-pub use write::reply::write_reply;
+pub use sup_format::{
+    Command, Fault, History, HistoryFault, ScriptFault, WatchedReader, WatchedWriter, laws,
+    read_history, read_line, read_number, write_history, write_reply,
+};

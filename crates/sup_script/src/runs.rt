@@ -4,4 +4,3 @@ pub mod entered;
 pub mod replays;
 pub mod script;
 pub mod session;
-pub mod watch;

@@ -3,7 +3,7 @@
 ghost use Rattle.std.specs.Prelude.{◌≡◌};
 ghost use Rattle.sup_script.specs.Starter.{script_answer, is_gap_at, is_within};
 
-use crate::read::words::{read_number, split_once};
+use sup_format::{read_number, split_once};
 use sup_types::{Answer, FixedStarter, Starter, Text};
 
 /// The start function of scripts: it answers by the child's argument and the moment alone.

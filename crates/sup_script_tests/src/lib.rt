@@ -1,4 +1,4 @@
-//! The tests of `sup_script`, in a crate of their own, since a crate that has tests is proved twice.
+//! The tests of `sup_script` and `sup_format`, in a crate of their own, since a crate that has tests is proved twice.
 #![tactic(auto)]
 
 #[cfg(test)]

@@ -1,10 +1,10 @@
 -- Why a fault came, by what is known of the part that had it.
-use Rattle.std.proofs.Common.{◌≡◌, ℕ, ◌+◌, ◌≤◌, Bool, Result, Ok, Err, arith}
+use Rattle.std.proofs.Common.{ℕ, Bool, Result, Ok, Err}
 use Rattle.std.specs.Prelude.{IfErr}
-use Rattle.sup_script.specs.declared.fault.Fault.{Fault}
-use Rattle.sup_script.specs.declared.fault.Fault.TheVariants as fault
-use Rattle.sup_script.specs.declared.fault.ScriptFault.{ScriptFault}
-use Rattle.sup_script.specs.Running.Causes.{IsLineFault, HasLineCause, HasCause}
+use Rattle.sup_format.specs.declared.fault.Fault.{Fault}
+use Rattle.sup_format.specs.declared.fault.Fault.TheVariants as fault
+use Rattle.sup_format.specs.declared.fault.ScriptFault.{ScriptFault}
+use Rattle.sup_format.specs.Causes.{IsLineFault, HasLineCause, HasCause}
 
 -- a line's fault
 pub line_cause : (has_refused : Bool) (f : Fault) → IsLineFault f → HasLineCause has_refused f
@@ -27,7 +27,3 @@ lines_cause has_failed given has_refused fault.TooLong h = absurd h
 pub lines_causes : (has_failed : Bool) (given : ℕ) (has_refused : Bool) (r : Result (Unit {0}) ScriptFault) → IfErr r (λ e. HasLineCause has_refused e.fault) → IfErr r (λ e. HasCause has_failed given has_refused e.fault)
 lines_causes has_failed given has_refused (Ok u) h = h
 lines_causes has_failed given has_refused (Err e) h = lines_cause has_failed given has_refused e.fault h
-
--- one call of the reader more, where each before it gave a byte
-pub calls_more : (calls given new : ℕ) → calls ≤ given → given ≤ 16777216 → new ≡ calls + 1 → new ≤ 16777217
-calls_more calls given new each short same = omega arith

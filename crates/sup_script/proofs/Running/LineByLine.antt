@@ -7,18 +7,18 @@ use Rattle.sup_types.specs.declared.template.Template.{Template}
 use Rattle.sup_types.specs.declared.history.Entry.{Entry}
 use Rattle.sup_core.specs.State.{State}
 use Rattle.sup_core.specs.Account.{IsAfter}
-use Rattle.sup_script.specs.declared.read.command.Command.{Command}
-use Rattle.sup_script.specs.declared.fault.Fault.{Fault}
-use Rattle.sup_script.specs.declared.fault.Fault.TheVariants as fault
-use Rattle.sup_script.specs.declared.fault.ScriptFault.{ScriptFault}
-use Rattle.sup_script.specs.Reading.Words.{words_of}
-use Rattle.sup_script.specs.Reading.Lines.{LineMeans, MeansNothing}
-use Rattle.sup_script.specs.Reading.Headers.{AreHeaderWords, IsFirst, HasFirst}
+use Rattle.sup_format.specs.declared.read.command.Command.{Command}
+use Rattle.sup_format.specs.declared.fault.Fault.{Fault}
+use Rattle.sup_format.specs.declared.fault.Fault.TheVariants as fault
+use Rattle.sup_format.specs.declared.fault.ScriptFault.{ScriptFault}
+use Rattle.sup_format.specs.Reading.Words.{words_of}
+use Rattle.sup_format.specs.Reading.Lines.{LineMeans, MeansNothing}
+use Rattle.sup_format.specs.Reading.Headers.{AreHeaderWords, IsFirst, HasFirst}
 use Rattle.sup_script.specs.Running.Script.{Answering, text_of, history_after, replies_text, AreMeant, Answers, StopsWith, IsBadAfter}
 use Rattle.sup_script.specs.Running.Stops.{IsAtLine, IsCutShort}
 use Rattle.sup_script.specs.Running.Answering.{histories, Stands, IsAnsweredTo, IsAnsweredMore, LineGives, LinesGive, IsWaiting}
-use Rattle.sup_script.specs.Writing.Waiting.{IsTorn, IsFlushed}
-use Rattle.sup_script.proofs.Writing.Queues.{queue_none, queue_more, torn_cut}
+use Rattle.sup_format.specs.Writing.Waiting.{IsTorn, IsFlushed}
+use Rattle.sup_script.proofs.Running.Queues.{queue_none, queue_more, torn_cut}
 
 meant_push : (lines : List (List ℕ)) (cs : List Command) (line : List ℕ) (c : Command) → AreMeant lines cs → LineMeans line c → AreMeant (lines ++ line ∷ []) (cs ++ c ∷ [])
 meant_push [] [] line c s m = (m, tt)

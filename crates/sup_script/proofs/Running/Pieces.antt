@@ -1,73 +1,17 @@
 -- Answering piece by piece.
-use Rattle.std.proofs.Common.{◌≡◌, ℕ, ◌+◌, ◌-◌, ◌<◌, ◌≤◌, ◌==◌, true, false, cond, List, [], ◌∷◌, ◌++◌, length, get_or, take, Option, Result, Ok, refl, sym, ap, subst, ◌∙◌, append_assoc, append-nil, arith}
+use Rattle.std.proofs.Common.{◌≡◌, ℕ, ◌+◌, ◌<◌, ◌≤◌, ◌==◌, false, List, [], ◌∷◌, ◌++◌, length, Option, Result, Ok, refl, sym, ap, subst, ◌∙◌, append_assoc, append-nil, arith}
 use Rattle.std.specs.Prelude.{OnOk}
-use Rattle.std.specs.List.{onto_first}
 use Rattle.std.proofs.KnownBytes.{Appends-nil}
-use Rattle.std.proofs.lemmas.List.{length-append, take_all, take_more, get_or-append_right}
+use Rattle.std.proofs.lemmas.List.{length-append}
 use Rattle.std.proofs.lemmas.List.Elements.{All-append}
 use Rattle.sup_core.specs.State.{State}
-use Rattle.sup_script.specs.declared.fault.ScriptFault.{ScriptFault}
-use Rattle.sup_script.specs.Running.Script.{Answering, lines_of}
+use Rattle.sup_format.specs.declared.fault.ScriptFault.{ScriptFault}
+use Rattle.sup_script.specs.Running.Script.{Answering}
+use Rattle.sup_format.specs.Reading.Texts.{lines_of, IsEndedPart}
 use Rattle.sup_script.specs.Running.Answering.{IsAnsweredTo, LinesGive}
-use Rattle.sup_script.specs.Running.Pieces.{IsFull, IsPieceAnswered}
-use Rattle.sup_script.specs.Reading.Words.{Lacks}
-use Rattle.sup_script.specs.Running.Runs.{IsEndedPart}
-
--- ---- lines of a text that goes on
-
-onto_more : (b : ℕ) (xs ys : List (List ℕ)) → 0 < length xs → onto_first b (xs ++ ys) ≡ onto_first b xs ++ ys
-onto_more b [] ys some = absurd (omega arith)
-onto_more b (x ∷ xs) ys some = refl
-
-some_first : (b : ℕ) (lines : List (List ℕ)) → 0 < length (onto_first b lines)
-some_first b [] = omega arith
-some_first b (line ∷ lines) = omega arith
-
-pub some_lines : (b : ℕ) (bs : List ℕ) → 0 < length (lines_of (b ∷ bs))
-some_lines b bs = elim (b == 10) as (λ v. 0 < length (cond v ([] ∷ lines_of bs) (onto_first b (lines_of bs)))) [ true ↦ omega arith | false ↦ some_first b (lines_of bs) ]
-
-pub some_lines_snoc : (xs : List ℕ) → 0 < length (lines_of (xs ++ 10 ∷ []))
-some_lines_snoc [] = some_lines 10 []
-some_lines_snoc (x ∷ xs) = some_lines x (xs ++ 10 ∷ [])
-
-lines_snoc : (xs ys : List ℕ) → lines_of ((xs ++ 10 ∷ []) ++ ys) ≡ lines_of (xs ++ 10 ∷ []) ++ lines_of ys
-lines_snoc [] ys = refl
-lines_snoc (x ∷ xs) ys =
-    let more = lines_snoc xs ys in
-    let some = some_lines_snoc xs in
-    elim (x == 10) as (λ v. cond v ([] ∷ lines_of ((xs ++ 10 ∷ []) ++ ys)) (onto_first x (lines_of ((xs ++ 10 ∷ []) ++ ys))) ≡ cond v ([] ∷ lines_of (xs ++ 10 ∷ [])) (onto_first x (lines_of (xs ++ 10 ∷ []))) ++ lines_of ys) [
-      | true ↦ ap (λ (l : List (List ℕ)). [] ∷ l) more
-      | false ↦ ap (onto_first x) more ∙ onto_more x (lines_of (xs ++ 10 ∷ [])) (lines_of ys) some
-    ]
-
-full_is : (xs : List ℕ) → 0 < length xs → IsFull xs → xs ≡ take (length xs - 1) xs ++ 10 ∷ []
-full_is xs some full =
-    let n = length xs - 1 in
-    let all : take (n + 1) xs ≡ xs = take_all (n + 1) xs (omega arith) in
-    let last : get_or xs n 0 ≡ 10 = full some in
-    sym all ∙ take_more xs n 0 (omega arith) ∙ ap (λ b. take n xs ++ b ∷ []) last
-
-lines_full : (xs ys : List ℕ) → 0 < length xs → IsFull xs → lines_of (xs ++ ys) ≡ lines_of xs ++ lines_of ys
-lines_full xs ys some full = let e = full_is xs some full in rw (ap (λ (l : List ℕ). lines_of (l ++ ys)) e, ap lines_of e) (lines_snoc (take (length xs - 1) xs) ys)
-
--- behind a text that is empty or ends with a line feed the lines go on
-pub lines-append : (xs ys : List ℕ) → IsFull xs → lines_of (xs ++ ys) ≡ lines_of xs ++ lines_of ys
-lines-append [] ys full = refl
-lines-append (x ∷ xs) ys full = lines_full (x ∷ xs) ys (omega arith) full
-
-pub full-append : (xs ys : List ℕ) → 0 < length ys → IsFull ys → IsFull (xs ++ ys)
-full-append xs ys some full = λ _.
-    let len = length-append xs ys in
-    let index : length (xs ++ ys) - 1 - length xs ≡ length ys - 1 = omega (arith, len) in
-    get_or-append_right xs ys (length xs) (length (xs ++ ys) - 1) 0 refl (omega (arith, len)) ∙ ap (λ i. get_or ys i 0) index ∙ full some
-
-full_on : (xs ys : List ℕ) → IsFull xs → IsFull ys → IsFull (xs ++ ys)
-full_on xs [] f g = rw (append-nil xs) f
-full_on xs (y ∷ ys) f g = full-append xs (y ∷ ys) (omega arith) g
-
--- two texts that are empty or end with a line feed
-pub full-both : (xs ys : List ℕ) → IsFull xs → IsFull ys → IsFull (xs ++ ys)
-full-both xs ys f g = full_on xs ys f g
+use Rattle.sup_script.specs.Running.Pieces.{IsPieceAnswered}
+use Rattle.sup_format.specs.Reading.Words.{Lacks}
+use Rattle.sup_format.specs.LineLaws.{full-append}
 
 -- ---- a piece
 

@@ -7,17 +7,18 @@ use Rattle.sup_types.specs.declared.template.Template.{Template}
 use Rattle.sup_types.specs.declared.history.Entry.{Entry}
 use Rattle.sup_core.specs.State.{State}
 use Rattle.sup_core.specs.Account.{IsAfter, reply_after}
-use Rattle.sup_script.specs.declared.fault.Fault.{Fault}
-use Rattle.sup_script.specs.declared.fault.Fault.TheVariants as fault
-use Rattle.sup_script.specs.declared.fault.ScriptFault.{ScriptFault}
-use Rattle.sup_script.specs.Reading.Headers.{IsFirst}
-use Rattle.sup_script.specs.Reading.History.{AreFirstWords, AreEntries}
+use Rattle.sup_format.specs.declared.fault.Fault.{Fault}
+use Rattle.sup_format.specs.declared.fault.Fault.TheVariants as fault
+use Rattle.sup_format.specs.declared.fault.ScriptFault.{ScriptFault}
+use Rattle.sup_format.specs.Reading.Headers.{IsFirst}
+use Rattle.sup_format.specs.Reading.History.{AreFirstWords, AreEntries}
 use Rattle.sup_script.specs.Running.Replays.{entries_text, Replays, ReplyStops, RepliesGive}
-use Rattle.sup_script.specs.Writing.Replies.{reply_text}
+use Rattle.sup_format.specs.Writing.Replies.{reply_text}
 use Rattle.sup_script.specs.Running.Stops.{IsAtLine, IsCutShort}
-use Rattle.sup_script.specs.Writing.Waiting.{IsTorn, IsFlushed, IsQueue}
-use Rattle.sup_script.proofs.Reading.Histories.{entries_length}
-use Rattle.sup_script.proofs.Writing.Queues.{queue_none, queue_more, torn_cut}
+use Rattle.sup_format.specs.Writing.Waiting.{IsTorn, IsFlushed}
+use Rattle.sup_script.specs.Running.Queues.{IsQueue}
+use Rattle.sup_format.specs.HistoryLaws.{entries_length}
+use Rattle.sup_script.proofs.Running.Queues.{queue_none, queue_more, torn_cut}
 
 entries_take : (n : ℕ) (lines : List (List ℕ)) (es : List Entry) → AreEntries lines es → AreEntries (take n lines) (take n es)
 entries_take zero lines es s = tt

@@ -3,16 +3,15 @@ use Rattle.std.proofs.Common.{◌≡◌, ℕ, ◌+◌, ◌≤◌, Bool, List, []
 use Rattle.std.proofs.KnownBytes.{Appends-nil}
 use Rattle.sup_types.specs.declared.template.Template.{Template}
 use Rattle.sup_types.specs.declared.history.Entry.{Entry}
-use Rattle.sup_script.specs.declared.fault.Fault.{Fault}
-use Rattle.sup_script.specs.declared.fault.Fault.TheVariants as fault
-use Rattle.sup_script.specs.declared.fault.ScriptFault.{ScriptFault}
-use Rattle.sup_script.specs.Running.Causes.{HasReadCause, HasCause}
-use Rattle.sup_script.specs.Reading.History.{Spells}
-use Rattle.sup_script.specs.Reading.HistoryReading.{HistoryStops}
-use Rattle.sup_script.specs.Running.Replays.{IsRead, RepliesGive, IsReplay}
-use Rattle.sup_script.specs.Running.Runs.{IsEndedPart}
-use Rattle.sup_script.specs.Running.Script.{lines_of}
-use Rattle.sup_script.proofs.Reading.Histories.{few_entries}
+use Rattle.sup_format.specs.declared.fault.Fault.{Fault}
+use Rattle.sup_format.specs.declared.fault.Fault.TheVariants as fault
+use Rattle.sup_format.specs.declared.fault.ScriptFault.{ScriptFault}
+use Rattle.sup_format.specs.Causes.{HasReadCause, HasCause}
+use Rattle.sup_format.specs.Reading.History.{Spells}
+use Rattle.sup_format.specs.Reading.HistoryReading.{HistoryStops}
+use Rattle.sup_format.specs.Reading.Texts.{IsRead, IsEndedPart, lines_of}
+use Rattle.sup_script.specs.Running.Replays.{RepliesGive, IsReplay}
+use Rattle.sup_format.specs.HistoryLaws.{few_entries}
 
 module _ (remaining left contents : Option (List ℕ)) (given : List ℕ) where
   -- the reading had a fault

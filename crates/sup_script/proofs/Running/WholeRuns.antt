@@ -1,19 +1,20 @@
 -- Whole runs.
-use Rattle.std.proofs.Common.{◌≡◌, ℕ, ◌+◌, ◌<◌, ◌≤◌, List, [], ◌∷◌, ◌++◌, length, take, drop, Option, None, Ok, Err, refl, sym, ap, subst, ◌∙◌, append_assoc, append-nil, inl, inr, arith}
+use Rattle.std.proofs.Common.{◌≡◌, ℕ, ◌+◌, ◌<◌, ◌≤◌, List, [], ◌∷◌, ◌++◌, length, Option, None, Ok, Err, refl, sym, ap, subst, ◌∙◌, append_assoc, append-nil, inl, inr, arith}
 use Rattle.std.specs.Io.KnownBytes.{Appends, Consumes, Keeps, IsAtEnd}
 use Rattle.std.proofs.KnownBytes.{Appends-nil, Appends-trans, Consumes-nil, Consumes-trans, Consumes-kept}
-use Rattle.std.proofs.lemmas.List.{length-append, length-drop, length-take-le, take-append-drop, take-take}
+use Rattle.std.proofs.lemmas.List.{length-append}
 use Rattle.sup_core.specs.State.{State}
-use Rattle.sup_script.specs.declared.fault.Fault.{Fault}
-use Rattle.sup_script.specs.declared.fault.Fault.TheVariants as fault
-use Rattle.sup_script.specs.declared.fault.ScriptFault.{ScriptFault}
-use Rattle.sup_script.specs.Running.Script.{Answering, lines_of, Answers}
+use Rattle.sup_format.specs.declared.fault.Fault.{Fault}
+use Rattle.sup_format.specs.declared.fault.Fault.TheVariants as fault
+use Rattle.sup_format.specs.declared.fault.ScriptFault.{ScriptFault}
+use Rattle.sup_script.specs.Running.Script.{Answering, Answers}
+use Rattle.sup_format.specs.Reading.Texts.{lines_of, IsFull, EndsReading, IsEndedPart}
 use Rattle.sup_script.specs.Running.Answering.{IsAnsweredTo, LinesGive}
-use Rattle.sup_script.specs.Running.Pieces.{IsFull, IsPieceAnswered}
-use Rattle.sup_script.specs.Running.Runs.{IsRun, EndsReading, IsEndedPart}
-use Rattle.sup_script.specs.Reading.Words.{Lacks}
+use Rattle.sup_script.specs.Running.Pieces.{IsPieceAnswered}
+use Rattle.sup_script.specs.Running.Runs.{IsRun}
+use Rattle.sup_format.specs.Reading.Words.{Lacks}
 use Rattle.sup_script.proofs.Running.LineByLine.{answers_of}
-use Rattle.sup_script.proofs.Running.Pieces.{lines-append, full-both, some_lines}
+use Rattle.sup_format.specs.LineLaws.{lines-append, full-both, some_lines}
 
 -- so many bytes were read: the ended lines, which are answered, and the part of a line
 pub record IsReadTo (answer : Answering) (remaining left contents held : Option (List ℕ)) (part : List ℕ) (sup : Option State) (next given : ℕ) : Type 0 where
@@ -182,12 +183,3 @@ module _ (answer : Answering) (remaining left contents held : Option (List ℕ))
             within = λ some. length-append (r.done ++ part) piece ∙ omega (arith, r.count, full some);
           }));
         }
-
--- ---- more bytes than there is room for
-
-pub cut_parts : (buf : List ℕ) (count room : ℕ) → room < count → take count buf ≡ take room buf ++ drop room (take count buf)
-cut_parts buf count room over =
-    sym (take-append-drop room (take count buf)) ∙ ap (λ (l : List ℕ). l ++ drop room (take count buf)) (take-take room count buf (omega arith))
-
-pub cut_past : (buf : List ℕ) (count room : ℕ) → room < count → count ≤ length buf → 0 < length (drop room (take count buf))
-cut_past buf count room over inside = omega (arith, length-drop room (take count buf), length-take-le count buf inside)

@@ -5,12 +5,12 @@ use Rattle.sup_types.specs.declared.template.Template.{Template}
 use Rattle.sup_types.specs.declared.history.Entry.{Entry}
 use Rattle.sup_core.specs.State.{State}
 use Rattle.sup_core.specs.Account.{IsAfter}
-use Rattle.sup_script.specs.declared.read.command.Command.{Command}
-use Rattle.sup_script.specs.declared.fault.Fault.{Fault}
-use Rattle.sup_script.specs.declared.fault.Fault.TheVariants as fault
-use Rattle.sup_script.specs.declared.fault.ScriptFault.{ScriptFault}
-use Rattle.sup_script.specs.Reading.Headers.{AreHeaderWords, IsFirst, IsOutOfRange}
-use Rattle.sup_script.specs.Writing.Waiting.{IsQueue}
+use Rattle.sup_format.specs.declared.read.command.Command.{Command}
+use Rattle.sup_format.specs.declared.fault.Fault.{Fault}
+use Rattle.sup_format.specs.declared.fault.Fault.TheVariants as fault
+use Rattle.sup_format.specs.declared.fault.ScriptFault.{ScriptFault}
+use Rattle.sup_format.specs.Reading.Headers.{AreHeaderWords, IsFirst, IsOutOfRange}
+use Rattle.sup_script.specs.Running.Queues.{IsQueue}
 use Rattle.sup_script.specs.Running.Script.{Answering, history_after, replies_text, AreMeant, IsBadAfter, Answers, StopsWith}
 
 -- how many entries a supervisor, or one that is still to be made, can take

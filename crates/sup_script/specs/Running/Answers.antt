@@ -1,14 +1,14 @@
 -- How a program answers a text, and its exit statuses.
 use Rattle.std.specs.Prelude.{◌≡◌, ℕ, Bool, List, Option, Result, Ok, Err, IfErr}
-use Rattle.sup_script.specs.Running.Causes.{HasCause}
+use Rattle.sup_format.specs.Causes.{HasCause}
 use Rattle.sup_script.specs.Running.Replays.{IsReplay}
 use Rattle.sup_script.specs.Running.Runs.{IsRun}
 use Rattle.sup_script.specs.Starter.{script_answer}
 use Rattle.sup_script.specs.declared.explain.shape.Format.{Format}
 use Rattle.sup_script.specs.declared.explain.shape.Format.TheVariants as format
-use Rattle.sup_script.specs.declared.fault.Fault.{Fault}
-use Rattle.sup_script.specs.declared.fault.Fault.TheVariants as fault
-use Rattle.sup_script.specs.declared.fault.ScriptFault.{ScriptFault}
+use Rattle.sup_format.specs.declared.fault.Fault.{Fault}
+use Rattle.sup_format.specs.declared.fault.Fault.TheVariants as fault
+use Rattle.sup_format.specs.declared.fault.ScriptFault.{ScriptFault}
 use Rattle.sup_script.specs.declared.runs.answer.Status.{Status}
 use Rattle.sup_script.specs.declared.runs.answer.Status.TheVariants as status
 

@@ -4,23 +4,15 @@ use Rattle.std.specs.Io.KnownBytes.{Appends, Consumes}
 use Rattle.sup_types.specs.declared.template.Template.{Template}
 use Rattle.sup_types.specs.declared.history.Entry.{Entry}
 use Rattle.sup_core.specs.Account.{reply_after}
-use Rattle.sup_script.specs.declared.fault.Fault.{Fault}
-use Rattle.sup_script.specs.declared.fault.Fault.TheVariants as fault
-use Rattle.sup_script.specs.declared.fault.ScriptFault.{ScriptFault}
-use Rattle.sup_script.specs.Reading.Headers.{IsFirst}
-use Rattle.sup_script.specs.Reading.History.{AreFirstWords, AreEntries, Spells}
-use Rattle.sup_script.specs.Reading.HistoryReading.{HistoryStops}
-use Rattle.sup_script.specs.Writing.Replies.{reply_text}
-use Rattle.sup_script.specs.Running.Runs.{EndsReading, IsEndedPart}
-use Rattle.sup_script.specs.Running.Script.{lines_of}
+use Rattle.sup_format.specs.declared.fault.Fault.{Fault}
+use Rattle.sup_format.specs.declared.fault.Fault.TheVariants as fault
+use Rattle.sup_format.specs.declared.fault.ScriptFault.{ScriptFault}
+use Rattle.sup_format.specs.Reading.Headers.{IsFirst}
+use Rattle.sup_format.specs.Reading.History.{AreFirstWords, AreEntries, Spells}
+use Rattle.sup_format.specs.Reading.HistoryReading.{HistoryStops}
+use Rattle.sup_format.specs.Writing.Replies.{reply_text}
+use Rattle.sup_format.specs.Reading.Texts.{EndsReading, IsEndedPart, lines_of}
 use Rattle.sup_script.specs.Running.Stops.{IsAtLine, IsCutShort}
-
--- the text was read so far, at most 2^24 bytes, and those past them
-pub record IsRead (remaining left : Option (List ℕ)) (given : List ℕ) (result : Result (Unit {0}) Fault) : Type 0 where
-  pub past : List ℕ
-  pub short : length given ≤ 16777216
-  pub took : Consumes remaining left (given ++ past)
-  pub ended : EndsReading left given past result
 
 -- ---- replies
 

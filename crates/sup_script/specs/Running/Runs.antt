@@ -1,28 +1,10 @@
 -- What a whole run does: what it reads, what it writes, and how it ends.
-use Rattle.std.specs.Prelude.{◌≡◌, ◌≢◌, ◌⊎◌, ℕ, ◌+◌, ◌-◌, ◌<◌, ◌≤◌, List, [], ◌++◌, length, slice_index, Option, Result, Ok, Err}
-use Rattle.std.specs.Io.KnownBytes.{Appends, Consumes, IsAtEnd}
-use Rattle.sup_script.specs.declared.fault.Fault.{Fault}
-use Rattle.sup_script.specs.declared.fault.Fault.TheVariants as fault
-use Rattle.sup_script.specs.declared.fault.ScriptFault.{ScriptFault}
-use Rattle.sup_script.specs.Running.Script.{Answering, lines_of, Answers, StopsWith}
-use Rattle.sup_script.specs.Reading.Words.{Lacks}
-
--- the part of a text up to its last line feed
-pub record IsEndedPart (text front : List ℕ) : Type 0 where
-  pub rest : List ℕ
-  pub parts : text ≡ front ++ rest
-  pub unended : Lacks 10 rest
-  pub ended : 0 < length front → slice_index front (length front - 1) ≡ 10
-
--- how the reading ended, where `past` are the bytes that came past the given ones
-abbrev pub EndsReading : Option (List ℕ) → List ℕ → List ℕ → Result (Unit {0}) Fault → Type 0
-EndsReading left given past (Ok u) = (past ≡ []) × IsAtEnd left
-EndsReading left given past (Err fault.OutOfMemory) = past ≡ []
-EndsReading left given past (Err fault.BadTemplate) = ⊥
-EndsReading left given past (Err fault.BadLine) = ⊥
-EndsReading left given past (Err fault.ReadFault) = past ≡ []
-EndsReading left given past (Err fault.WriteFault) = ⊥
-EndsReading left given past (Err fault.TooLong) = (0 < length past) × (length given ≡ 16777216)
+use Rattle.std.specs.Prelude.{◌≡◌, ◌≢◌, ◌⊎◌, ℕ, ◌+◌, ◌<◌, ◌≤◌, List, [], ◌++◌, length, Option, Result, Ok, Err}
+use Rattle.std.specs.Io.KnownBytes.{Appends, Consumes}
+use Rattle.sup_format.specs.declared.fault.Fault.TheVariants as fault
+use Rattle.sup_format.specs.declared.fault.ScriptFault.{ScriptFault}
+use Rattle.sup_script.specs.Running.Script.{Answering, Answers, StopsWith}
+use Rattle.sup_format.specs.Reading.Texts.{lines_of, IsEndedPart, EndsReading}
 
 -- the input ended, and no line has a fault
 pub record IsWhole (answer : Answering) (left : Option (List ℕ)) (given past written : List ℕ) : Type 0 where

@@ -1,6 +1,5 @@
 -- Whole scripts, and the text of the replies to their lines.
-use Rattle.std.specs.Prelude.{◌≡◌, ℕ, ◌==◌, List, [], ◌∷◌, ◌++◌, length, if◌then◌else◌}
-use Rattle.std.specs.List.{onto_first}
+use Rattle.std.specs.Prelude.{◌≡◌, ℕ, List, [], ◌∷◌, ◌++◌, length}
 use Rattle.sup_types.specs.declared.text.Text.{Text}
 use Rattle.sup_types.specs.declared.template.Template.{Template}
 use Rattle.sup_types.specs.declared.view.Refusal.TheVariants.{SimpleOneForOne}
@@ -9,20 +8,15 @@ use Rattle.sup_types.specs.declared.history.Operation.{Operation}
 use Rattle.sup_types.specs.declared.history.Entry.{Entry}
 use Rattle.sup_core.specs.Account.{entry_of, reply_after}
 use Rattle.sup_core.specs.Queries.{which, count}
-use Rattle.sup_script.specs.declared.read.command.Command.{Command}
-use Rattle.sup_script.specs.declared.read.command.Command.TheVariants as command
-use Rattle.sup_script.specs.declared.fault.Fault.{Fault}
-use Rattle.sup_script.specs.declared.fault.Fault.TheVariants as fault
-use Rattle.sup_script.specs.Reading.Words.{words_of}
-use Rattle.sup_script.specs.Reading.Lines.{LineMeans, MeansNothing}
-use Rattle.sup_script.specs.Reading.Headers.{AreHeaderWords, IsFirst, IsOutOfRange, IsNoFirst}
+use Rattle.sup_format.specs.declared.read.command.Command.{Command}
+use Rattle.sup_format.specs.declared.read.command.Command.TheVariants as command
+use Rattle.sup_format.specs.declared.fault.Fault.{Fault}
+use Rattle.sup_format.specs.declared.fault.Fault.TheVariants as fault
+use Rattle.sup_format.specs.Reading.Words.{words_of}
+use Rattle.sup_format.specs.Reading.Lines.{LineMeans, MeansNothing}
+use Rattle.sup_format.specs.Reading.Headers.{AreHeaderWords, IsFirst, IsOutOfRange, IsNoFirst}
 use Rattle.sup_script.specs.Running.Stops.{IsAtLine, IsCutShort}
-use Rattle.sup_script.specs.Writing.Replies.{reply_text, which_text, count_text, refusal_text}
-
--- the lines of a text: each ends with a line feed, and the last one may lack it
-abbrev pub lines_of : List ℕ → List (List ℕ)
-lines_of [] = []
-lines_of (b ∷ bs) = if b == 10 then [] ∷ lines_of bs else onto_first b (lines_of bs)
+use Rattle.sup_format.specs.Writing.Replies.{reply_text, which_text, count_text, refusal_text}
 
 -- what the start function answers to an argument at a moment
 abbrev pub Answering : Type 0

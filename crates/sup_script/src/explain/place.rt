@@ -1,7 +1,6 @@
 //! What may stand at a place of a line.
 
-use crate::read::tokens::read_reason;
-use crate::read::words::read_number;
+use sup_format::{read_number, read_reason};
 use sup_types::Text;
 
 /// A place of a line: which words may stand there, and how a person is told of them.

@@ -5,7 +5,7 @@ use crate::explain::shape::{
     Format, behind_answer, behind_command, behind_operation, command, entry, naming, parts,
     shutdown,
 };
-use crate::read::words::next_word;
+use sup_format::next_word;
 
 /// A place at which a line is wrong.
 #[derive(Clone, Copy)]

@@ -5,13 +5,12 @@ ghost use Rattle.sup_script.specs.Running.Answers.{IsScriptAnswered, IsReplayAns
 ghost use Rattle.sup_script.specs.declared.runs.answer.Status.TheVariants as status;
 
 use crate::explain::{Explanation, FaultyLine, Format};
-use crate::fault::{Fault, ScriptFault};
 use crate::runs::replays::replay_with_line;
 use crate::runs::script::run_with_line;
-use crate::runs::watch::{WatchedReader, WatchedWriter};
 use crate::starter::ScriptStarter;
 use std::alloc::Global;
 use std::io::{Read, Write};
+use sup_format::{Fault, ScriptFault, WatchedReader, WatchedWriter};
 
 /// How a program ended.
 #[derive(Clone, Copy, Debug, PartialEq, Eq)]

@@ -1,16 +1,16 @@
 //! Carrying out the commands of a script.
 
-ghost use Rattle.std.specs.Prelude.{◌≡◌, ◌+◌, ◌<◌, ◌≤◌, ◌++◌, [], ◌∷◌, List, ℕ, length, OnOk, OnErr};
+ghost use Rattle.std.specs.Prelude.{◌≡◌, ◌+◌, ◌<◌, ◌≤◌, ◌++◌, [], ◌∷◌, List, length, OnOk, OnErr};
 ghost use Rattle.sup_types.specs.declared.history.Entry.{Entry as AnEntry};
 ghost use Rattle.sup_core.specs.Account.{IsAfter, reply_after, entry_of};
-ghost use Rattle.sup_script.specs.Writing.Replies.{Grows};
+ghost use Rattle.sup_core.specs.Queries.{which};
+ghost use Rattle.sup_format.specs.Writing.Replies.{Grows, which_text};
 ghost use Rattle.sup_script.specs.Running.Script.{text_of, history_after};
 
-use crate::read::command::Command;
-use crate::write::reply::{append_counts, append_refusal, append_reply, append_rows};
 use std::alloc::Allocator;
 use sup_core::Sup;
-use sup_types::{Answer, Entry, FixedStarter, Operation, OutOfMemory, Refusal, Reply};
+use sup_format::{Command, append_counts, append_refusal, append_reply, append_rows};
+use sup_types::{Answer, Entry, FixedStarter, Operation, OutOfMemory, Refusal, Reply, Seen};
 
 /// Carries a command out, and appends the text of its reply.
 pub fn append_answer<S: FixedStarter, A: Allocator + Copy>(
@@ -33,9 +33,22 @@ pub fn append_answer<S: FixedStarter, A: Allocator + Copy>(
             let reply = enter(moment, operation, sup, starter);
             append_reply(&reply, out)?;
         }
-        Command::Which => append_rows(&sup.rows()?, out)?,
+        Command::Which => append_which(sup, out)?,
         Command::Count => append_counts(&sup.counts(), out)?,
         Command::ById(_) => append_refusal(Refusal::SimpleOneForOne, out)?,
+    }
+    Ok(())
+}
+
+/// Appends the rows, or that the supervisor is down.
+fn append_which<A: Allocator + Copy>(sup: &Sup<A>, out: &mut Vec<u8, A>) -> Result<(), OutOfMemory>
+    ensures text { (history : List AnEntry) → IsAfter sup.now history →
+        OnOk result (out.new.items ≡ out.old.items ++ which_text (which sup.now.template history)) }
+    ensures err { OnErr result (Grows out.old.items out.new.items) }
+{
+    match sup.rows()? {
+        Seen::Up(rows) => append_rows(rows.as_slice(), out)?,
+        Seen::Down => append_reply(&Reply::Down, out)?,
     }
     Ok(())
 }

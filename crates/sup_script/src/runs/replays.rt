@@ -1,24 +1,22 @@
 //! Whole history texts, and the replies to their entries.
 
-ghost use Rattle.std.specs.Prelude.{◌≡◌, ◌≤◌, ◌<◌, ◌+◌, ◌++◌, [], ◌∷◌, ℕ, List, length, false, IfErr, IfOk, OnOk, OnErr};
+ghost use Rattle.std.specs.Prelude.{◌≡◌, ◌≤◌, ◌<◌, ◌+◌, ◌++◌, [], ◌∷◌, ℕ, List, length, false, IfErr, OnOk, OnErr};
 ghost use Rattle.sup_types.specs.declared.history.Entry.{Entry as AnEntry};
 ghost use Rattle.sup_core.specs.Account.{IsAfter, reply_after};
-ghost use Rattle.sup_script.specs.Running.Causes.{HasCause, HasLineCause};
-ghost use Rattle.sup_script.specs.Reading.Headers.{IsFirst};
-ghost use Rattle.sup_script.specs.Reading.History.{AreFirstWords, AreEntries};
+ghost use Rattle.sup_format.specs.Causes.{HasCause, HasLineCause};
+ghost use Rattle.sup_format.specs.Reading.Headers.{IsFirst};
+ghost use Rattle.sup_format.specs.Reading.History.{AreFirstWords, AreEntries};
 ghost use Rattle.sup_script.specs.Running.Replays.{IsReplay, RepliesGive};
-ghost use Rattle.sup_script.specs.Writing.Replies.{reply_text};
+ghost use Rattle.sup_format.specs.Writing.Replies.{reply_text};
 
 use crate::explain::FaultyLine;
-use crate::fault::{Fault, ScriptFault};
-use crate::read::history::{HistoryFault, read_history};
-use crate::read::input::{line_after, read_whole};
-use crate::runs::watch::{WatchedReader, WatchedWriter};
-use crate::write::outbox::Outbox;
-use crate::write::reply::write_reply;
 use std::alloc::Allocator;
 use std::io::{Read, Write};
 use sup_core::Sup;
+use sup_format::{
+    Fault, HistoryFault, Outbox, ScriptFault, WatchedReader, WatchedWriter, line_after,
+    read_history, read_whole, write_reply,
+};
 use sup_types::{Entry, OutOfMemory, Template};
 
 /// Reads a history text to its end, and then writes the reply of each entry, one a line, from an empty supervisor.

@@ -1,23 +1,15 @@
 //! Whole scripts.
 
 ghost use Rattle.std.specs.Prelude.{◌≡◌, ◌≤◌, [], false, None, IfErr};
-ghost use Rattle.sup_script.specs.Running.Causes.{HasCause};
+ghost use Rattle.sup_format.specs.Causes.{HasCause};
 ghost use Rattle.sup_script.specs.Running.Runs.{IsRun};
 
 use crate::explain::FaultyLine;
-use crate::fault::{Fault, ScriptFault};
 use crate::runs::session::Session;
-use crate::runs::watch::{WatchedReader, WatchedWriter};
-use crate::write::outbox::Outbox;
 use std::alloc::Allocator;
 use std::io::{Read, Write};
+use sup_format::{Fault, MOST_BYTES, Outbox, PIECE, ScriptFault, WatchedReader, WatchedWriter};
 use sup_types::FixedStarter;
-
-/// The most bytes that a text has: 2^24.
-pub const MOST_BYTES: u64 = 16_777_216;
-
-/// The bytes that are asked for at a time.
-pub const PIECE: usize = 65_536;
 
 /// Reads a script to its end and writes the replies of its commands, those of each piece that is read before the next
 /// one is asked for.

@@ -1,27 +1,24 @@
 //! Answering the lines of a script, one after the other.
 
-ghost use Rattle.std.specs.Prelude.{◌≡◌, ◌<◌, ◌≤◌, ◌+◌, ◌^◌, ◌++◌, [], ◌⊎◌, ℕ, List, length, None, IfErr, OnOk, OnErr, vec_capacity, MatchResult};
+ghost use Rattle.std.specs.Prelude.{◌≡◌, ◌<◌, ◌≤◌, ◌+◌, ◌++◌, [], ◌⊎◌, ℕ, List, length, None, IfErr, OnOk, OnErr, vec_capacity, MatchResult};
 ghost use Rattle.sup_core.specs.Account.{IsAfter};
-ghost use Rattle.sup_script.specs.declared.fault.Fault.TheVariants.{OutOfMemory};
+ghost use Rattle.sup_format.specs.declared.fault.Fault.TheVariants.{OutOfMemory};
 ghost use Rattle.sup_script.specs.Running.Answering.{IsAnsweredTo, IsWaiting, LineGives, NextGives, LinesGive, steps_left};
-ghost use Rattle.sup_script.specs.Running.Causes.{IsLineFault, HasLineCause};
-ghost use Rattle.sup_script.specs.Reading.Headers.{AreHeaderWords, IsFirst, HasFirst};
+ghost use Rattle.sup_format.specs.Causes.{IsLineFault, HasLineCause};
+ghost use Rattle.sup_format.specs.Reading.Headers.{AreHeaderWords, IsFirst, HasFirst};
 ghost use Rattle.sup_script.specs.Running.Pieces.{IsPieceAnswered};
-ghost use Rattle.sup_script.specs.Writing.Replies.{Grows};
-ghost use Rattle.sup_script.specs.Running.Script.{lines_of};
-ghost use Rattle.sup_script.specs.Reading.Words.{Lacks};
+ghost use Rattle.sup_format.specs.Writing.Replies.{Grows};
+ghost use Rattle.sup_format.specs.Reading.Texts.{lines_of};
+ghost use Rattle.sup_format.specs.Reading.Words.{Lacks};
 
 use crate::explain::FaultyLine;
-use crate::fault::{Fault, ScriptFault};
-use crate::read::command::read_line;
-use crate::read::header::read_header;
-use crate::read::lines::{ended_part, first_line};
 use crate::runs::entered::append_answer;
-use crate::runs::watch::WatchedWriter;
-use crate::write::outbox::Outbox;
 use std::alloc::Allocator;
 use std::io::Write;
 use sup_core::Sup;
+use sup_format::{
+    Fault, Outbox, ScriptFault, WatchedWriter, ended_part, first_line, read_header, read_line,
+};
 use sup_types::FixedStarter;
 
 /// What a run over a script goes on with, and the start function and the writer that it is lent.

@@ -2,7 +2,7 @@ use Rattle.std.proofs.Common.{◌≡◌, ◌+◌, [], ◌∷◌, length, refl, a
 use Rattle.std.proofs.lemmas.Result.{err_from_is_err_and}
 use Rattle.std.proofs.lemmas.List.{length-append}
 use Rattle.sup_core.specs.State.{State}
-use Rattle.sup_script.specs.declared.fault.Fault.TheVariants as fault
+use Rattle.sup_format.specs.declared.fault.Fault.TheVariants as fault
 use Rattle.sup_script.proofs.Running.LineByLine.{few_left}
 use Rattle.sup_script.proofs.Running.Replaying.{replayed_none, replayed_more, replayed_passed, replayed_torn, replayed_stops, replayed_ends}
 use Rattle.sup_script.proofs.runs.replays.answer_from.Goals as goal

@@ -2,10 +2,11 @@ use Rattle.std.proofs.Common.{◌≡◌, ◌+◌, ◌-◌, ◌≤◌, [], length
 use Rattle.std.proofs.KnownBytes.{Keeps-refl}
 use Rattle.std.proofs.lemmas.List.{length-take-le}
 use Rattle.std.proofs.lemmas.Result.{err_from_is_err_and}
-use Rattle.sup_script.specs.declared.fault.Fault.TheVariants as fault
-use Rattle.sup_script.specs.Running.Script.{lines_of}
-use Rattle.sup_script.proofs.Running.Causing.{lines_cause, calls_more}
-use Rattle.sup_script.proofs.Running.WholeRuns.{reading_stops, ends_faulty, ends_empty, ends_whole, read_more, too_long, piece_stops, cut_parts, cut_past}
+use Rattle.sup_format.specs.declared.fault.Fault.TheVariants as fault
+use Rattle.sup_format.specs.Reading.Texts.{lines_of}
+use Rattle.sup_script.proofs.Running.Causing.{lines_cause}
+use Rattle.sup_format.specs.ReadingLaws.{calls_more, cut_parts, cut_past}
+use Rattle.sup_script.proofs.Running.WholeRuns.{reading_stops, ends_faulty, ends_empty, ends_whole, read_more, too_long, piece_stops}
 use Rattle.sup_script.proofs.runs.script.answer_pieces.Goals as goal
 
 pub returns-then-is_err-clause-run : goal.returns-then-is_err-clause-run

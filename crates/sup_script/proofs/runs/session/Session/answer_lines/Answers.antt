@@ -1,9 +1,9 @@
 use Rattle.std.proofs.Common.{◌≡◌, ◌+◌, [], length, ap, refl, ◌∙◌, arith}
 use Rattle.std.proofs.lemmas.Result.{err_from_is_err_and}
 use Rattle.std.proofs.lemmas.Bool.Decides.{nat_tests}
-use Rattle.sup_script.specs.Running.Script.{lines_of}
+use Rattle.sup_format.specs.Reading.Texts.{lines_of}
 use Rattle.sup_script.proofs.Running.Causing.{line_cause}
-use Rattle.sup_script.proofs.Reading.LineCuts.{lines-none}
+use Rattle.sup_format.specs.LineLaws.{lines-none}
 use Rattle.sup_script.proofs.Running.LineByLine.{partly_none, partly_more, partly_passed, partly_torn, partly_stops, partly_ends, few_left}
 use Rattle.sup_script.proofs.runs.session.Session.answer_lines.Goals as goal
 

@@ -1,5 +1,5 @@
 use Rattle.std.proofs.Common.{◌≡◌, ◌+◌, ◌<◌, ◌≤◌, ℕ, List, length}
-use Rattle.sup_script.specs.Running.Script.{lines_of}
+use Rattle.sup_format.specs.Reading.Texts.{lines_of}
 use Rattle.sup_script.specs.Running.Answering.{IsAnsweredTo, steps_left}
 use Rattle.sup_script.proofs.Running.LineByLine.{IsPartly}
 use Rattle.sup_script.proofs.runs.session.Session.answer_lines.Given as goal

@@ -1,0 +1,4 @@
+-- What is written.
+pub mod Written
+pub mod Sending
+pub mod Children

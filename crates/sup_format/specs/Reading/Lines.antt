@@ -1,0 +1,47 @@
+-- What the bytes of a line of a script mean, after its header.
+use Rattle.std.specs.Prelude.{◌≡◌, ◌⊎◌, ℕ, ◌<◌, ◌^◌, List, [], ◌∷◌, Bool, ◌||◌, Option, codes, MatchOption}
+use Rattle.std.specs.Fmt.{decimal}
+use Rattle.std.specs.Str.{bytes_eq}
+use Rattle.sup_types.specs.Text.{IsText}
+use Rattle.sup_format.specs.declared.read.command.Command.{Command}
+use Rattle.sup_format.specs.declared.read.command.Command.TheVariants as command
+use Rattle.sup_format.specs.Reading.Words.{words_of}
+use Rattle.sup_format.specs.Reading.Tokens.{verb_word, operation_verb, argument_words, IsOperation}
+
+-- the names of the calls by identifier
+abbrev pub IsIdentifierWord : List ℕ → Type 0
+IsIdentifierWord word = (word ≡ codes "terminate_id") ⊎ ((word ≡ codes "delete_child") ⊎ (word ≡ codes "restart_child"))
+
+abbrev pub is_identifier_word : List ℕ → Bool
+is_identifier_word word = bytes_eq word (codes "terminate_id") || bytes_eq word (codes "delete_child") || bytes_eq word (codes "restart_child")
+
+-- the words of a command: an operation has its moment behind its name
+abbrev pub AreWordsOf : List (List ℕ) → Command → Type 0
+AreWordsOf words (command.Update moment o) = words ≡ verb_word (operation_verb o) ∷ decimal moment ∷ argument_words o
+AreWordsOf words command.Which = words ≡ codes "which" ∷ []
+AreWordsOf words command.Count = words ≡ codes "count" ∷ []
+AreWordsOf words (command.ById text) = (name : List ℕ) × IsIdentifierWord name × (words ≡ name ∷ text ∷ [])
+
+-- what has a spelling
+abbrev pub IsCommand : Command → Type 0
+IsCommand (command.Update moment o) = (moment < 2 ^ 64) × IsOperation o
+IsCommand command.Which = Unit {0}
+IsCommand command.Count = Unit {0}
+IsCommand (command.ById text) = IsText text
+
+-- words spell a command
+pub record WordsMean (words : List (List ℕ)) (c : Command) : Type 0 where
+  pub fits : IsCommand c
+  pub spelled : AreWordsOf words c
+
+-- a line means a command
+abbrev pub LineMeans : List ℕ → Command → Type 0
+LineMeans line c = WordsMean (words_of line) c
+
+-- words spell no command
+abbrev pub MeansNothing : List (List ℕ) → Type 0
+MeansNothing words = (c : Command) → WordsMean words c → ⊥
+
+-- what was read is meant, and where nothing was read nothing is
+abbrev pub IsReading : List (List ℕ) → Option Command → Type 0
+IsReading words found = MatchOption found (MeansNothing words) (λ c. WordsMean words c)

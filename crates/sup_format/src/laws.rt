@@ -1,0 +1,24 @@
+//! Laws of the definitions alone: the functions do nothing, and their contracts are the laws.
+
+ghost use Rattle.std.specs.Prelude.{◌≡◌, ℕ, List};
+ghost use Rattle.sup_types.specs.declared.template.Template.{Template};
+ghost use Rattle.sup_types.specs.declared.history.Entry.{Entry};
+ghost use Rattle.sup_format.specs.declared.read.command.Command.{Command};
+ghost use Rattle.sup_format.specs.Reading.Headers.{AreHeaderWords, IsFirst};
+ghost use Rattle.sup_format.specs.Reading.History.{Spells, IsSameTemplate};
+ghost use Rattle.sup_format.specs.Reading.Lines.{LineMeans};
+
+/// No line spells two commands.
+pub fn one_command()
+    ensures { (line : List ℕ) (c d : Command) → LineMeans line c → LineMeans line d → c ≡ d }
+{}
+
+/// No header of a script, of five fields or of seven, gives two templates.
+pub fn one_header()
+    ensures { (line : List ℕ) (t u : Template) → IsFirst AreHeaderWords line t → IsFirst AreHeaderWords line u → IsSameTemplate t u }
+{}
+
+/// No history text, of either version, spells two values.
+pub fn one_value()
+    ensures { (bytes : List ℕ) (t u : Template) (es fs : List Entry) → Spells bytes t es → Spells bytes u fs → IsSameTemplate t u × (es ≡ fs) }
+{}

@@ -1,0 +1,38 @@
+//! The formats of scripts and histories: bytes to values and back, and no supervisor.
+//!
+//! A script is a header, which gives the template, and a line for each command: `read_header` and `read_line` read them. A
+//! history text is a template and the entries of a history, with what the start function answered to each. `read_history`
+//! reads one, and `write_history` writes one. `write_reply` writes the text of a reply. `sup_script` runs whole texts by
+//! these, and passes on what its callers need.
+//!
+//! What the layer above may rely on are what lines mean (`LineMeans`, `Spells`) and the text of each reply
+//! (`Writing.Replies`). The reader and the writer are watched ones, which know what they refused; an [`Outbox`] tells which
+//! reply a failed write tore. `laws` has laws of the definitions alone: no header gives two templates and no line means two
+//! commands, and no history text spells two values, so what was written is read again.
+//!
+//! ```text
+//! let command = read_line(b"start 0 a").unwrap();
+//! let mut text = Vec::new(rt.alloc());
+//! write_reply(&Reply::Started(1), &mut text)?;
+//! assert_eq!(rt; text.as_slice(), b"ok 1\n".as_slice());
+//! ```
+#![tactic(auto)]
+
+mod fault;
+pub mod laws;
+mod read;
+mod watch;
+mod write;
+
+pub use fault::{Fault, ScriptFault};
+pub use read::command::{Command, read_line};
+pub use read::header::read_header;
+pub use read::history::{History, HistoryFault, read_history};
+pub use read::input::{MOST_BYTES, PIECE, line_after, read_whole};
+pub use read::lines::{ended_part, first_line};
+pub use read::tokens::read_reason;
+pub use read::words::{next_word, read_number, split_once};
+pub use watch::{WatchedReader, WatchedWriter};
+pub use write::history_text::write_history;
+pub use write::outbox::Outbox;
+pub use write::reply::{append_counts, append_refusal, append_reply, append_rows, write_reply};

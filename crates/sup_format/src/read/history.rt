@@ -1,0 +1,202 @@
+//! History texts: a template, and the entries of a history.
+
+ghost use Rattle.std.specs.Prelude.{◌≡◌, MatchOption, MatchResult};
+ghost use Rattle.sup_format.specs.Reading.Words.{words_left};
+ghost use Rattle.sup_format.specs.Reading.Headers.{HasFirst, HasParts};
+ghost use Rattle.sup_format.specs.Reading.History.{AreFirstWords, EntryMeans, MeansNoEntry, Spells};
+ghost use Rattle.sup_format.specs.Reading.HistoryReading.{HistoryStops, HasPlain, HasMarked, HasDeed, HasAnswer, HasFailure, IsNextEntry};
+
+use crate::fault::Fault;
+use crate::read::header::{Parts, next_limits, read_shutdown, template_of};
+use crate::read::tokens::{after_word, next_number, next_operation, read_verb};
+use crate::read::words::{next_word, read_number, split_once};
+use std::alloc::Allocator;
+use sup_types::{Answer, Entry, Operation, Template};
+use thiserror::Error;
+
+/// The greatest code of a failure: 2^32 - 1.
+const MOST_CODE: u64 = 4_294_967_295;
+
+/// What a history text spells. The template's `entries` is 2^62.
+#[derive(Debug, Drop)]
+pub struct History<A: Allocator> {
+    pub template: Template,
+    pub entries: Vec<Entry, A>,
+}
+
+/// What is wrong with a history text (OutOfMemory, BadTemplate or BadLine), and the number of the line in which it
+/// stands, from 1 on.
+#[derive(Clone, Copy, Debug, PartialEq, Eq, Error)]
+#[error("fault {} line {}", .fault.number(), .line)]
+pub struct HistoryFault {
+    pub fault: Fault,
+    pub line: u64,
+}
+
+impl HistoryFault {
+    ghost use Rattle.sup_format.specs.Faults.{fault_number};
+
+    /// The number of the fault: 1, 7 or 9.
+    pub fn number(&self) -> u8
+        ensures { result ≡ fault_number self.now.fault }
+    {
+        self.fault.number()
+    }
+}
+
+/// Reads a history text of version 1 or 2. The first fault by line is answered; then nothing is kept.
+///
+/// A text of version 1 is read as plain and never. A last line without a line feed is a bad line, and so is an empty
+/// text. OutOfMemory has the line of the entry for which there was no room.
+pub fn read_history<A: Allocator + Copy>(alloc: A, text: &[u8]) -> Result<History<A>, HistoryFault>
+    ensures { MatchResult result (λ history. Spells text.now history.template history.entries.items) (λ e. HistoryStops text.now e.line e.fault) }
+{
+    let (first, after) = match split_once(text, b'\n') {
+        Some(parts) => parts,
+        None => {
+            let fault = Fault::BadLine;
+            return Err(HistoryFault { fault, line: 1 });
+        }
+    };
+    let template = match read_first(first) {
+        Ok(template) => template,
+        Err(fault) => return Err(HistoryFault { fault, line: 1 }),
+    };
+    let mut entries = Vec::new(alloc);
+    let mut line = 2;
+    let mut rest = after;
+    while !rest.is_empty() {
+        let (entry, after) = match next_entry(rest) {
+            Some(found) => found,
+            None => {
+                let fault = Fault::BadLine;
+                return Err(HistoryFault { fault, line });
+            }
+        };
+        if entries.push(entry).is_err() {
+            let fault = Fault::OutOfMemory;
+            return Err(HistoryFault { fault, line });
+        }
+        line += 1;
+        rest = after;
+    }
+    Ok(History { template, entries })
+}
+
+/// The template of a history's first line, or what is wrong with the line.
+fn read_first(line: &[u8]) -> Result<Template, Fault>
+    ensures { HasFirst AreFirstWords line.now result }
+{
+    template_of(read_shape(line))
+}
+
+/// The parts that a line of a first line's shape names: five in version 1, and seven in version 2.
+fn read_shape(line: &[u8]) -> Option<Parts>
+    ensures { HasParts AreFirstWords line.now result }
+{
+    let rest = after_word(Some(line), b"history")?;
+    let (version, rest) = next_word(rest?);
+    if version == b"1".as_slice() {
+        return read_plain(rest);
+    }
+    if version == b"2".as_slice() {
+        return read_marked(rest);
+    }
+    None
+}
+
+fn read_plain(rest: Option<&[u8]>) -> Option<Parts>
+    ensures { HasPlain (words_left rest.entry) result }
+{
+    let (parts, rest) = next_limits(rest)?;
+    if rest.is_some() {
+        return None;
+    }
+    Some(parts)
+}
+
+fn read_marked(rest: Option<&[u8]>) -> Option<Parts>
+    ensures { HasMarked (words_left rest.entry) result }
+{
+    let (parts, rest) = next_limits(rest)?;
+    let (significant, auto_shutdown) = read_shutdown(rest)?;
+    Some(Parts {
+        significant,
+        auto_shutdown,
+        ..parts
+    })
+}
+
+/// The entry that the next line spells, and the text after that line.
+fn next_entry(rest: &[u8]) -> Option<(Entry, &[u8])>
+    ensures { IsNextEntry rest.now result }
+{
+    let (line, after) = split_once(rest, b'\n')?;
+    let entry = read_entry(line)?;
+    Some((entry, after))
+}
+
+/// The entry that a line spells, where it spells one.
+fn read_entry(line: &[u8]) -> Option<Entry>
+    ensures { MatchOption result (MeansNoEntry line.now) (λ entry. EntryMeans line.now entry) }
+{
+    let (handle, rest) = next_number(Some(line))?;
+    let (serial, rest) = next_number(rest)?;
+    let (moment, rest) = next_number(rest)?;
+    let (operation, answer) = read_deed(rest)?;
+    Some(Entry {
+        handle,
+        serial,
+        moment,
+        operation,
+        answer,
+    })
+}
+
+/// The operation and the answer that the last words are.
+fn read_deed(rest: Option<&[u8]>) -> Option<(Operation, Answer)>
+    ensures { HasDeed (words_left rest.entry) result }
+{
+    let (word, rest) = next_word(rest?);
+    let verb = read_verb(word)?;
+    let Some((operation, rest)) = next_operation(verb, rest) else {
+        return None;
+    };
+    let answer = read_answer(rest)?;
+    Some((operation, answer))
+}
+
+/// The answer that the last words are.
+fn read_answer(rest: Option<&[u8]>) -> Option<Answer>
+    ensures { HasAnswer (words_left rest.entry) result }
+{
+    let (word, rest) = next_word(rest?);
+    if word == b"failed".as_slice() {
+        return read_failed(rest);
+    }
+    if rest.is_some() {
+        return None;
+    }
+    if word == b"running".as_slice() {
+        return Some(Answer::Running);
+    }
+    if word == b"ignore".as_slice() {
+        return Some(Answer::Ignore);
+    }
+    None
+}
+
+/// The failure whose code is the last word.
+fn read_failed(rest: Option<&[u8]>) -> Option<Answer>
+    ensures { HasFailure (words_left rest.entry) result }
+{
+    let (word, rest) = next_word(rest?);
+    if rest.is_some() {
+        return None;
+    }
+    let number = read_number(word)?;
+    if number > MOST_CODE {
+        return None;
+    }
+    Some(Answer::Failed(number as u32))
+}

@@ -1,0 +1,176 @@
+//! Writing history texts.
+
+ghost use Rattle.std.specs.Prelude.{◌≡◌, ◌++◌, ◌∷◌, [], ◌<◌, ◌^◌, OnOk, IfOk};
+ghost use Rattle.std.specs.Fmt.{decimal};
+ghost use Rattle.sup_format.specs.Reading.History.{first_words, entry_words, answer_words, IsAnswer, IsEntry, SpellsAs};
+ghost use Rattle.sup_format.specs.Writing.Replies.{line_of, field_word, spaced};
+ghost use Rattle.sup_format.specs.Reading.Tokens.{restart_word, kind_word, mark_word, auto_word, reason_word, verb_word, operation_verb, argument_words, IsReason, IsOperation};
+
+use crate::write::reply::{Field, append_line, append_spaced};
+use std::alloc::{AllocError, Allocator};
+use sup_types::{
+    Answer, AutoShutdown, Entry, Kind, Operation, OutOfMemory, Reason, Restart, Template,
+};
+
+/// The history text, in version 2 also where version 1 would do, of a template and entries. It does not have the
+/// template's `entries`: the text is read with 2^62 there. OutOfMemory leaves nothing.
+pub fn write_history<A: Allocator + Copy>(
+    alloc: A,
+    template: &Template,
+    entries: &[Entry],
+) -> Result<Vec<u8, A>, OutOfMemory>
+    ensures { IfOk result (λ bytes. SpellsAs bytes.items template.now entries.now) }
+{
+    let mut text = Vec::new(alloc);
+    append_first(template, &mut text)?;
+    for entry in entries {
+        append_entry(entry, &mut text)?;
+    }
+    Ok(text)
+}
+
+fn append_first<A: Allocator>(template: &Template, text: &mut Vec<u8, A>) -> Result<(), AllocError>
+    ensures { OnOk result (text.new.items ≡ text.old.items ++ line_of (first_words template.now)) }
+{
+    append_line(
+        text,
+        &[
+            Field::Word(b"history"),
+            Field::Word(b"2"),
+            Field::Word(restart_word(template.restart)),
+            Field::Word(kind_word(template.kind)),
+            Field::Number(template.intensity),
+            Field::Number(template.period),
+            Field::Number(template.max),
+            Field::Word(mark_word(template.significant)),
+            Field::Word(auto_word(template.auto_shutdown)),
+        ],
+    )
+}
+
+fn restart_word(restart: Restart) -> &'static [u8]
+    ensures { result.now ≡ restart_word restart }
+{
+    match restart {
+        Restart::Permanent => b"permanent",
+        Restart::Transient => b"transient",
+        Restart::Temporary => b"temporary",
+    }
+}
+
+fn kind_word(kind: Kind) -> &'static [u8]
+    ensures { result.now ≡ kind_word kind }
+{
+    match kind {
+        Kind::Worker => b"worker",
+        Kind::Supervisor => b"supervisor",
+    }
+}
+
+fn mark_word(significant: bool) -> &'static [u8]
+    ensures { result.now ≡ mark_word significant }
+{
+    if significant {
+        b"significant"
+    } else {
+        b"plain"
+    }
+}
+
+fn auto_word(auto: AutoShutdown) -> &'static [u8]
+    ensures { result.now ≡ auto_word auto }
+{
+    match auto {
+        AutoShutdown::Never => b"never",
+        AutoShutdown::Any => b"any",
+        AutoShutdown::All => b"all",
+    }
+}
+
+fn append_entry<A: Allocator>(entry: &Entry, text: &mut Vec<u8, A>) -> Result<(), AllocError>
+    ensures text { OnOk result (text.new.items ≡ text.old.items ++ line_of (entry_words entry.now)) }
+    ensures fits { OnOk result (IsEntry entry.now) }
+{
+    append_numbers(entry.handle, entry.serial, entry.moment, text)?;
+    append_operation(&entry.operation, text)?;
+    append_answer(entry.answer, text)?;
+    Ok(())
+}
+
+/// Appends the numbers with which an entry begins, each with a space behind it.
+fn append_numbers<A: Allocator>(
+    handle: u64,
+    serial: u64,
+    moment: u64,
+    text: &mut Vec<u8, A>,
+) -> Result<(), AllocError>
+    ensures text { OnOk result (text.new.items ≡ text.old.items ++ spaced (decimal handle ∷ decimal serial ∷ decimal moment ∷ [])) }
+    ensures fits { (handle < 2 ^ 64) × (serial < 2 ^ 64) × (moment < 2 ^ 64) }
+{
+    append_spaced(
+        text,
+        &[
+            Field::Number(handle),
+            Field::Number(serial),
+            Field::Number(moment),
+        ],
+    )
+}
+
+/// Appends the name of an operation and its arguments, each with a space behind it.
+fn append_operation<A: Allocator>(
+    operation: &Operation,
+    text: &mut Vec<u8, A>,
+) -> Result<(), AllocError>
+    ensures text { OnOk result (text.new.items ≡ text.old.items ++ spaced (verb_word (operation_verb operation.now) ∷ argument_words operation.now)) }
+    ensures fits { IsOperation operation.now }
+{
+    match operation {
+        Operation::Start(argument) => append_spaced(
+            text,
+            &[Field::Word(b"start"), Field::Word(argument.bytes())],
+        ),
+        Operation::Exit(number, reason) => append_spaced(
+            text,
+            &[
+                Field::Word(b"exit"),
+                Field::Number(*number),
+                reason_field(reason),
+            ],
+        ),
+        Operation::Retry(number) => {
+            append_spaced(text, &[Field::Word(b"retry"), Field::Number(*number)])
+        }
+        Operation::Terminate(number) => {
+            append_spaced(text, &[Field::Word(b"terminate"), Field::Number(*number)])
+        }
+        Operation::Stop => append_spaced(text, &[Field::Word(b"stop")]),
+    }
+}
+
+fn reason_field(reason: &Reason) -> Field<'_>
+    ensures word { field_word result ≡ reason_word reason.now }
+    ensures fits { IsReason reason.now }
+{
+    match reason {
+        Reason::Normal => Field::Word(b"normal"),
+        Reason::Shutdown => Field::Word(b"shutdown"),
+        Reason::ShutdownWith(term) => Field::Term(term.bytes()),
+        Reason::Other(word) => Field::Word(word.bytes()),
+    }
+}
+
+/// Appends the words of an answer, which end a line.
+fn append_answer<A: Allocator>(answer: Answer, text: &mut Vec<u8, A>) -> Result<(), AllocError>
+    ensures text { OnOk result (text.new.items ≡ text.old.items ++ line_of (answer_words answer)) }
+    ensures fits { IsAnswer answer }
+{
+    match answer {
+        Answer::Running => append_line(text, &[Field::Word(b"running")]),
+        Answer::Ignore => append_line(text, &[Field::Word(b"ignore")]),
+        Answer::Failed(code) => append_line(
+            text,
+            &[Field::Word(b"failed"), Field::Number(u64::from(code))],
+        ),
+    }
+}

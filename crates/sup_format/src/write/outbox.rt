@@ -1,0 +1,87 @@
+//! Replies that wait for their writer.
+
+ghost use Rattle.std.specs.Prelude.{◌≡◌, ◌<◌, ◌+◌, [], length, IfErr, OnOk};
+ghost use Rattle.sup_format.specs.Causes.{HasLineCause};
+ghost use Rattle.sup_format.specs.Writing.Waiting.{IsCutAt, IsFlushed, IsFlushedOrKept};
+
+use crate::fault::{Fault, ScriptFault};
+use crate::watch::WatchedWriter;
+use std::alloc::Allocator;
+use std::io::Write;
+
+/// The bytes at which an outbox is full.
+const FULL: usize = 65_536;
+
+/// The text of replies, where the reply of each line ends in it, and the writer that they wait for.
+#[derive(Drop)]
+pub struct Outbox<'w, A: Allocator, W> {
+    pub bytes: Vec<u8, A>,
+    pub ends: Vec<usize, A>,
+    pub writer: &'w mut WatchedWriter<W>,
+}
+
+impl<'w, A: Allocator + Copy, W: Write> Outbox<'w, A, W> {
+    /// Nothing waits.
+    pub fn new(alloc: A, writer: &'w mut WatchedWriter<W>) -> Self
+        ensures bytes { result.bytes.items ≡ [] }
+        ensures ends { result.ends.items ≡ [] }
+        ensures writer { result.writer.now ≡ writer.old }
+        ensures same { result.writer.ghost_name ≡ writer.entry.ghost_name }
+    {
+        Outbox {
+            bytes: Vec::new(alloc),
+            ends: Vec::new(alloc),
+            writer,
+        }
+    }
+
+    /// Writes all that waits. The line `next` is the one after the lines that were answered.
+    ///
+    /// The fault is WriteFault, in the line whose reply was being written.
+    pub fn flush(&mut self, next: u64) -> Result<(), ScriptFault>
+        requires { length self.old.ends.items < next }
+        ensures flushed { IsFlushed self.old.bytes.items self.old.ends.items self.new.bytes.items self.new.ends.items
+            (W.contents self.old.writer.now.writer) (W.contents self.new.writer.now.writer) next result }
+        ensures cause { IfErr result (λ e. HasLineCause self.new.writer.now.has_refused e.fault) }
+        ensures same { self.new.writer.ghost_name ≡ self.old.writer.ghost_name }
+    {
+        match self.writer.send(self.bytes.as_slice()) {
+            Ok(()) => {
+                self.bytes.clear();
+                self.ends.clear();
+                Ok(())
+            }
+            Err(taken) => {
+                let whole = whole_replies(self.ends.as_slice(), taken);
+                let fault = Fault::WriteFault;
+                let line = next - (self.ends.len() - whole) as u64;
+                Err(ScriptFault { fault, line })
+            }
+        }
+    }
+
+    /// Writes all that waits where it is much, as `flush` does. Then less than 65,536 bytes wait.
+    pub fn flush_if_full(&mut self, next: u64) -> Result<(), ScriptFault>
+        requires { length self.old.ends.items < next }
+        ensures flushed { IsFlushedOrKept self.old.bytes.items self.old.ends.items self.new.bytes.items self.new.ends.items
+            (W.contents self.old.writer.now.writer) (W.contents self.new.writer.now.writer) next result }
+        ensures few { OnOk result (length self.new.bytes.items < 65536) }
+        ensures cause { IfErr result (λ e. HasLineCause self.new.writer.now.has_refused e.fault) }
+        ensures same { self.new.writer.ghost_name ≡ self.old.writer.ghost_name }
+    {
+        if self.bytes.len() < FULL {
+            return Ok(());
+        }
+        self.flush(next)
+    }
+}
+
+/// How many of the replies are wholly among the first bytes.
+fn whole_replies(ends: &[usize], taken: usize) -> usize
+    ensures { IsCutAt ends.now taken result }
+{
+    match ends.iter().position(|end| *end > taken) {
+        Some(at) => at,
+        None => ends.len(),
+    }
+}

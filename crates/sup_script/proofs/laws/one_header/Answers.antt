@@ -1,5 +1,0 @@
-use Rattle.sup_script.proofs.Reading.OneValue.{header_is_one}
-use Rattle.sup_script.proofs.laws.one_header.Goals as goal
-
-pub returns : goal.returns
-returns c = header_is_one

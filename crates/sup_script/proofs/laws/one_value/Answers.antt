@@ -1,5 +1,0 @@
-use Rattle.sup_script.proofs.Reading.OneValue.{value_is_one}
-use Rattle.sup_script.proofs.laws.one_value.Goals as goal
-
-pub returns : goal.returns
-returns c = value_is_one
