@@ -140,6 +140,26 @@ impl<
         Ok(done)
     }
 
+    /// Ends the child as [`Door::terminate_child`] does, and at `Ended` returns once the child is gone, as OTP's does. Until
+    /// then the thread sleeps: for as long as the child goes on, at most until it is let go when its grace is over, or when
+    /// the crew closes. It does not wait for a child that another thread has yet to make, which is told to end as soon as it
+    /// is there. A child has no door, so none can wait for its own end. One whose `poll` waits for this thread would.
+    pub fn terminate_child_and_wait<R: Wait + Clock>(
+        &mut self,
+        rt: &R,
+        number: u64,
+    ) -> Result<Done, UpdateFault>
+        ensures { (moment : ℕ) × IsUpdateResult S.may_answer N.template N.press self.old (Operation.Terminate number) moment self.new result }
+    {
+        let ended = self.terminate_child(rt, number);
+        if let Ok(done) = &ended
+            && let Reply::Ended = done.reply
+        {
+            self.yard.await_end(number);
+        }
+        ended
+    }
+
     /// Ends all children, and the supervisor. They are told to end.
     pub fn stop<R: Wait + Clock>(&mut self, rt: &R) -> Result<Done, UpdateFault>
         ensures { (moment : ℕ) × IsUpdateResult S.may_answer N.template N.press self.old Operation.Stop moment self.new result }

@@ -5,7 +5,7 @@ use futures::future::AbortHandle;
 use std::alloc::{AllocError, Global};
 use std::collections::HashMap;
 use std::sync::atomic::{AtomicBool, AtomicU64, Ordering};
-use std::sync::{Arc, Mutex, Wait};
+use std::sync::{Arc, Condvar, Mutex, Wait};
 
 /// Over how many locks the rooms are spread.
 const SHARDS: usize = 64;
@@ -72,10 +72,17 @@ impl<M: Drop> Room<M> {
     }
 }
 
+/// The rooms under one lock, and who waits for one of them to be closed.
+#[derive(Drop)]
+struct Shard<M: Drop> {
+    rooms: Mutex<HashMap<u64, Room<M>>>,
+    closed: Condvar,
+}
+
 /// The rooms of the children that are alive, by their numbers.
 #[derive(Drop)]
 pub(crate) struct Rooms<M: Drop> {
-    shards: Vec<Mutex<HashMap<u64, Room<M>>>>,
+    shards: Vec<Shard<M>>,
     told: AtomicU64,
 }
 
@@ -84,7 +91,10 @@ impl<M: Drop> Rooms<M> {
     pub(crate) fn new(alloc: Global) -> Result<Rooms<M>, AllocError> {
         let mut shards = Vec::with_capacity(alloc, SHARDS)?;
         for _ in 0..SHARDS {
-            shards.push(Mutex::new(HashMap::new(alloc)))?;
+            shards.push(Shard {
+                rooms: Mutex::new(HashMap::new(alloc)),
+                closed: Condvar::new(),
+            })?;
         }
         Ok(Rooms {
             shards,
@@ -92,7 +102,7 @@ impl<M: Drop> Rooms<M> {
         })
     }
 
-    fn shard(&self, number: u64) -> Option<&Mutex<HashMap<u64, Room<M>>>> {
+    fn shard(&self, number: u64) -> Option<&Shard<M>> {
         self.shards.get((number % SHARDS as u64) as usize)
     }
 
@@ -114,7 +124,7 @@ impl<M: Drop> Rooms<M> {
         let Some(shard) = self.shard(number) else {
             return Err(AllocError);
         };
-        match shard.lock(rt).insert(number, room) {
+        match shard.rooms.lock(rt).insert(number, room) {
             Ok(_) => Ok(()),
             Err(_) => Err(AllocError),
         }
@@ -125,12 +135,24 @@ impl<M: Drop> Rooms<M> {
         let Some(shard) = self.shard(number) else {
             return;
         };
-        let room = shard.lock(rt).remove(&number);
+        let room = shard.rooms.lock(rt).remove(&number);
         if let Some(room) = room
             && room.is_told()
         {
             self.told.fetch_sub(1, Ordering::SeqCst);
+            shard.closed.notify_all();
         }
+    }
+
+    /// Sleeps until the room of a child that was told to end is closed. Where it has none, it returns at once.
+    pub(crate) fn await_closed<R: Wait>(&self, rt: &R, number: u64) {
+        let Some(shard) = self.shard(number) else {
+            return;
+        };
+        let rooms = shard.rooms.lock(rt);
+        let _rooms = shard
+            .closed
+            .wait_while(rt, rooms, |rooms| rooms.get(&number).is_some());
     }
 
     /// Sends to a child. The message comes back where it is not alive, or was told to end.
@@ -138,7 +160,7 @@ impl<M: Drop> Rooms<M> {
         let Some(shard) = self.shard(number) else {
             return Err(message);
         };
-        let guard = shard.lock(rt);
+        let guard = shard.rooms.lock(rt);
         match guard.get(&number) {
             Some(room) => match room.sender.unbounded_send(message) {
                 Ok(()) => Ok(()),
@@ -153,7 +175,7 @@ impl<M: Drop> Rooms<M> {
         let Some(shard) = self.shard(number) else {
             return;
         };
-        let guard = shard.lock(rt);
+        let guard = shard.rooms.lock(rt);
         if let Some(room) = guard.get(&number) {
             self.count(room.tell(until));
         }
@@ -162,7 +184,7 @@ impl<M: Drop> Rooms<M> {
     /// Tells all children to end, until this moment at the latest.
     pub(crate) fn end_all<R: Wait>(&self, rt: &R, until: u64) {
         for shard in &self.shards {
-            let guard = shard.lock(rt);
+            let guard = shard.rooms.lock(rt);
             for (_, room) in guard.iter() {
                 self.count(room.tell(until));
             }
@@ -172,7 +194,7 @@ impl<M: Drop> Rooms<M> {
     /// Lets the children go whose time is over.
     pub(crate) fn expire<R: Wait>(&self, rt: &R, now: u64) {
         for shard in &self.shards {
-            let guard = shard.lock(rt);
+            let guard = shard.rooms.lock(rt);
             for (_, room) in guard.iter() {
                 room.expire(now);
             }

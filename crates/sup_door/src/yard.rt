@@ -1,5 +1,5 @@
 //! Yards: where children run.
-ghost use Rattle.std.specs.Prelude.{◌≡◌, ◌≤◌, IfOk};
+ghost use Rattle.std.specs.Prelude.{◌≡◌, ◌+◌, ◌-◌, ◌^◌, min, IfOk};
 ghost use mathlib.Core.List.{IsPrefix};
 
 use crate::alive::{Alive, not_run};
@@ -28,7 +28,7 @@ pub struct Yard<'h, I: Office, B: Behaviour, P: Wait + Drop, F: Future> {
     behaviour: &'h B,
     moments: Moments<'h>,
     /// For how many seconds a child may go on after it was told to end.
-    grace: u64,
+    pub grace: u64,
     tasks: TaskSet<F>,
 }
 
@@ -48,9 +48,10 @@ impl<'h, I: Office, B: Behaviour, P: Wait + Drop, F: Future> Yard<'h, I, B, P, F
         self.moments.now(rt)
     }
 
-    /// Until when a child may go on that is told to end at this moment, in seconds.
+    /// Until when a child may go on that is told to end at this moment, in seconds: for its grace, and in any case no longer
+    /// than to the last moment that there is.
     pub fn until(&self, moment: u64) -> u64
-        ensures { moment ≤ result }
+        ensures { result ≡ min (moment + self.now.grace) (2 ^ 64 - 1) }
     {
         moment.saturating_add(self.grace)
     }
@@ -60,6 +61,12 @@ impl<'h, I: Office, B: Behaviour, P: Wait + Drop, F: Future> Yard<'h, I, B, P, F
         let hub = self.hub;
         hub.rooms.end(&hub.rt, number, self.until(moment));
         hub.ring();
+    }
+
+    /// Sleeps until a child that was told to end is gone.
+    pub(crate) fn await_end(&self, number: u64) {
+        let hub = self.hub;
+        hub.rooms.await_closed(&hub.rt, number);
     }
 
     /// Makes the workers go, and lets all children go that are left.
@@ -97,7 +104,9 @@ impl<'h, I: Office, B: Behaviour, P: Wait + Drop> Yard<'h, I, B, P, Alive<'h, I,
         moments: Moments<'h>,
         grace: u64,
         workers: usize,
-    ) -> Result<Yard<'h, I, B, P, Alive<'h, I, B, P>>, OutOfMemory> {
+    ) -> Result<Yard<'h, I, B, P, Alive<'h, I, B, P>>, OutOfMemory>
+        ensures { IfOk result (λ yard. yard.grace ≡ grace) }
+    {
         let Ok(tasks) = TaskSet::new(rt, Doorbell::parking(), workers) else {
             return Err(OutOfMemory);
         };

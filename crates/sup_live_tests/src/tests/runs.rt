@@ -154,7 +154,8 @@ impl<'a, N: Name> Program<N, Counting<'a>> for Crashes<'a> {
     }
 }
 
-/// Terminates a child that listens, and one that does not. 1 where the first was told, and the second was let go.
+/// Terminates a child that listens, and waits for its end, and one that does not, which is let go. How many had been told to
+/// end when the first was gone: 1.
 #[derive(Drop)]
 pub struct Terminates<'a> {
     pub board: &'a Board,
@@ -181,11 +182,11 @@ impl<'a, N: Name> Program<N, Counting<'a>> for Terminates<'a> {
         let second = start(rt, door);
         let _ = door.send(second, Letter::Deafen);
         await_word(rt, &board.counted, 1);
-        let _ = door.terminate_child(rt, first);
+        let _ = door.terminate_child_and_wait(rt, first);
+        let told = read(&board.told);
         let _ = door.terminate_child(rt, second);
-        await_word(rt, &board.told, 1);
         board.time.store(100, Ordering::SeqCst);
-        read(&board.told)
+        told
     }
 }
 
