@@ -10,7 +10,7 @@ use Rattle.sup_types.specs.declared.history.Entry.{Entry}
 use Rattle.sup_log.specs.PrefixLaws.{prefix_whole}
 use Rattle.sup_desk.specs.Knowledge.{entries_of}
 use Rattle.sup_desk.specs.Books.{IsMade, IsCounted}
-use Rattle.sup_desk.specs.EntryLaws.{entries-one, entries-other}
+use Rattle.sup_desk.specs.EntryLaws.{entries-append, entries_le}
 
 -- the entries are of handles that were made
 abbrev pub AreMade : ℕ → List Entry → Type 0
@@ -58,58 +58,85 @@ counted_more made counts history len counted = (
         let low : k < made = grind (arith, nat_tests) in
         get_or-append counts (0 ∷ []) 0 k (omega (arith, len)) ∙ counted.0 k low
 
--- one entry more
-pub counted_push : (made : ℕ) (counts : List ℕ) (history : List Entry) (entry : Entry) (place : ℕ) → length counts ≡ made → IsCounted made counts history
-    → IsMade made entry.handle → entry.handle ≡ place + 1
-    → IsCounted made (set counts place (get_or counts place 0 + 1)) (history ++ entry ∷ [])
-counted_push made counts history entry place len counted mine here = (
+-- entries that are all of one handle: each of them is, and no other handle has any
+rest_own : (x : Entry) (xs : List Entry) (number : ℕ) (b : Bool) → b ≡ true → cond b (x ∷ entries_of xs number) (entries_of xs number) ≡ x ∷ xs → entries_of xs number ≡ xs
+rest_own x xs number true is all = cc all
+rest_own x xs number false is all = absurd (cc is)
+
+not_own : (x : Entry) (xs : List Entry) (number : ℕ) (b : Bool) → b ≡ false → cond b (x ∷ entries_of xs number) (entries_of xs number) ≡ x ∷ xs → ⊥
+not_own x xs number true is all = absurd (cc is)
+not_own x xs number false is all = omega (arith, ap length all, entries_le number xs)
+
+own_all : (number : ℕ) (es : List Entry) → entries_of es number ≡ es → (k : ℕ) (d : Entry) → k < length es → (get_or es k d).handle ≡ number
+own_all number [] own k d within = absurd (omega (arith, within))
+own_all number (x ∷ xs) own k d within =
+    by_test (λ is j low. own_all number xs (rest_own x xs number (x.handle == number) is own) j d low) (x.handle == number) refl
+  where
+    at : ((x.handle == number) ≡ true → (j : ℕ) → j < length xs → (get_or xs j d).handle ≡ number) → (k : ℕ) → k < length (x ∷ xs) → (x.handle == number) ≡ true
+        → (get_or (x ∷ xs) k d).handle ≡ number
+    at more zero low is = grind (arith, nat_tests)
+    at more (suc k) low is = more is k (omega (arith, low))
+
+    by_test : ((x.handle == number) ≡ true → (j : ℕ) → j < length xs → (get_or xs j d).handle ≡ number) → (b : Bool) → (x.handle == number) ≡ b
+        → (get_or (x ∷ xs) k d).handle ≡ number
+    by_test more true is = at more k within is
+    by_test more false is = absurd (not_own x xs number (x.handle == number) is own)
+
+others_none : (number other : ℕ) (es : List Entry) → ((k : ℕ) (d : Entry) → k < length es → (get_or es k d).handle ≡ number) → ¬ (other ≡ number)
+    → entries_of es other ≡ []
+others_none number other [] own differ = refl
+others_none number other (x ∷ xs) own differ =
+    skipped (x.handle == other) x (entries_of xs other) (apart x.handle other (λ same. differ (sym same ∙ own 0 x (omega arith))))
+    (others_none number other xs (λ k d within. own (suc k) d (omega (arith, within))) differ)
+
+-- more entries, all of one handle
+pub counted_all : (made : ℕ) (counts : List ℕ) (history entries : List Entry) (number place : ℕ) → length counts ≡ made → IsCounted made counts history
+    → IsMade made number → number ≡ place + 1 → entries_of entries number ≡ entries
+    → IsCounted made (set counts place (get_or counts place 0 + length entries)) (history ++ entries)
+counted_all made counts history entries number place len counted mine here own = (
   λ k within. at k within (k == place) refl,
-  All-append (λ (x : Entry). IsMade made x.handle) history (entry ∷ []) counted.1 one,
+  All-append (λ (x : Entry). IsMade made x.handle) history entries counted.1
+      (λ k d within. subst (IsMade made) (sym (own_all number entries own k d within)) mine),
 )
   where
-    one : AreMade made (entry ∷ [])
-    one zero d within = mine
-    one (suc k) d within = absurd (omega (arith, within))
-
-    at : (k : ℕ) → k < made → (b : Bool) → (k == place) ≡ b → get_or (set counts place (get_or counts place 0 + 1)) k 0 ≡ length (entries_of (history ++ entry ∷ []) (k + 1))
+    at : (k : ℕ) → k < made → (b : Bool) → (k == place) ≡ b → get_or (set counts place (get_or counts place 0 + length entries)) k 0 ≡ length (entries_of (history ++ entries) (k + 1))
     at k within true is =
         let same : k ≡ place = grind (arith, nat_tests) in
-        let own : entry.handle ≡ k + 1 = omega arith in
+        let is_number : number ≡ k + 1 = omega (arith, same, here) in
         let low : place < length counts = omega (arith, len) in
         let count = counted.0 k within in
-        ap (λ (i : ℕ). get_or (set counts place (get_or counts place 0 + 1)) i 0) same
-        ∙ get_or-set_same counts place (get_or counts place 0 + 1) 0 low
-        ∙ ap (λ (i : ℕ). get_or counts i 0 + 1) (sym same)
-        ∙ ap (λ (n : ℕ). n + 1) count
-        ∙ sym (ap length (entries-one (k + 1) history entry own) ∙ length-append (entries_of history (k + 1)) (entry ∷ []))
+        ap (λ (i : ℕ). get_or (set counts place (get_or counts place 0 + length entries)) i 0) same
+        ∙ get_or-set_same counts place (get_or counts place 0 + length entries) 0 low
+        ∙ ap (λ (i : ℕ). get_or counts i 0 + length entries) (sym same)
+        ∙ ap (λ (n : ℕ). n + length entries) count
+        ∙ ap (λ (l : List Entry). length (entries_of history (k + 1)) + length l) (sym (ap (entries_of entries) (sym is_number) ∙ own))
+        ∙ sym (ap length (entries-append (k + 1) history entries) ∙ length-append (entries_of history (k + 1)) (entries_of entries (k + 1)))
     at k within false is =
         let differ : k ≢ place = λ same. grind (arith, nat_tests) in
-        let other : ¬ (entry.handle ≡ k + 1) = λ same. differ (omega arith) in
-        get_or-set_other counts place k (get_or counts place 0 + 1) 0 differ
-        ∙ counted.0 k within ∙ sym (ap length (entries-other (k + 1) history entry other))
+        let other : ¬ (k + 1 ≡ number) = λ same. differ (omega (arith, same, here)) in
+        get_or-set_other counts place k (get_or counts place 0 + length entries) 0 differ
+        ∙ counted.0 k within
+        ∙ sym (ap length (entries-append (k + 1) history entries
+            ∙ ap (λ l. entries_of history (k + 1) ++ l) (others_none number (k + 1) entries (own_all number entries own) other)
+            ∙ append-nil (entries_of history (k + 1))))
 
 -- a handle that has seen just what is published, and has made as many calls as it has entries
-pub tied_is : (published pending front calls : List Entry) (number made n k : ℕ) → pending ≡ [] → IsPrefix published front → length front ≡ length published
+pub tied_is : (published front calls : List Entry) (number made n k : ℕ) → IsPrefix published front → length front ≡ length published
     → n ≡ number → k ≡ length calls → calls ≡ take (length calls) (entries_of front number)
-    → IsMade made n × (length (entries_of (published ++ pending) n) ≡ k)
+    → IsMade made n × (length (entries_of published n) ≡ k)
     → (front ≡ published) × (entries_of published number ≡ calls) × IsMade made number
-tied_is published pending front calls number made n k none learnt long num count first (mine, own) =
+tied_is published front calls number made n k learnt long num count first (mine, own) =
     let whole : published ≡ front = prefix_whole published front learnt (omega (arith, long)) in
-    let all : published ++ pending ≡ published = ap (λ l. published ++ l) none ∙ append-nil published in
     let len : length calls ≡ length (entries_of published number) =
-    sym count ∙ sym own ∙ ap (λ l. length (entries_of l n)) all ∙ ap (λ (i : ℕ). length (entries_of published i)) num in
+    sym count ∙ sym own ∙ ap (λ (i : ℕ). length (entries_of published i)) num in
     let is : calls ≡ entries_of published number =
     first ∙ ap (λ l. take (length calls) (entries_of l number)) (sym whole) ∙ ap (λ (i : ℕ). take i (entries_of published number)) len
     ∙ take-length (entries_of published number) in
     (sym whole, sym is, subst (IsMade made) num mine)
 
 -- a handle whose calls are not as many as its entries
-pub split_is : (published pending calls : List Entry) (number made n k : ℕ) → pending ≡ [] → n ≡ number → k ≡ length calls
-    → ¬ (IsMade made n × (length (entries_of (published ++ pending) n) ≡ k))
+pub split_is : (published calls : List Entry) (number made n k : ℕ) → n ≡ number → k ≡ length calls
+    → ¬ (IsMade made n × (length (entries_of published n) ≡ k))
     → ¬ (IsMade made number × (length (entries_of published number) ≡ length calls))
-split_is published pending calls number made n k none num count differ (mine, own) =
-    let all : published ++ pending ≡ published = ap (λ l. published ++ l) none ∙ append-nil published in
-    differ (
-      subst (IsMade made) (sym num) mine,
-      ap (λ l. length (entries_of l n)) all ∙ ap (λ (i : ℕ). length (entries_of published i)) num ∙ own ∙ sym count,
-    )
+split_is published calls number made n k num count differ (mine, own) =
+    differ (subst (IsMade made) (sym num) mine, ap (λ (i : ℕ). length (entries_of published i)) num ∙ own ∙ sym count)

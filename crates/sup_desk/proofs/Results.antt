@@ -86,7 +86,7 @@ module _ (may : Text → ℕ → Answer → Type 0) (template : Template) (press
       → IfOk result (λ done. (entry : Entry) × IsEntryOf may template book.history met.number (length met.calls) operation moment entry
       × (done.reply ≡ reply_after template book.history entry) × (left ≡ grown_by book (entry ∷ [])) × (after ≡ with_entries met book.editions book.history (entry ∷ [])))
       → IfOk result (λ done. done.ticket ≡ record { press = press; editions = after.editions; front = after.front })
-      → OnErr result ((left ≡ book) × (after ≡ met))
+      → OnErr result (after ≡ met)
       → IfErr result (λ e. e ≡ HistoryFull → length book.history ≡ template.entries)
       → IfErr result (λ e. (e ≡ Gone → ⊥) × (e ≡ Split → ⊥))
       → IsUpdateResult may template press before operation moment after result
@@ -99,13 +99,13 @@ module _ (may : Text → ℕ → Answer → Type 0) (template : Template) (press
     memory = tt;
   }
   update_result operation left (Err e) entered told kept full faults =
-      let own : entries_of after.front after.number ≡ after.calls = subst (λ (k : Knowledge). entries_of k.front k.number ≡ k.calls) (sym kept.1) has.own in
+      let own : entries_of after.front after.number ≡ after.calls = subst (λ (k : Knowledge). entries_of k.front k.number ≡ k.calls) (sym kept) has.own in
       record {
         ok = tt;
-        seen = subst (λ (k : Knowledge). HasSeenMore before k) (sym kept.1) has.seen;
-        calls = (ap (λ (k : Knowledge). k.calls) kept.1 ∙ has.calls.0, ap (λ (k : Knowledge). k.number) kept.1 ∙ has.calls.1);
+        seen = subst (λ (k : Knowledge). HasSeenMore before k) (sym kept) has.seen;
+        calls = (ap (λ (k : Knowledge). k.calls) kept ∙ has.calls.0, ap (λ (k : Knowledge). k.number) kept ∙ has.calls.1);
         gone = faults.0;
-        full = λ is. (ap (λ (k : Knowledge). length k.front) kept.1 ∙ ap length has.front ∙ full is, own);
+        full = λ is. (ap (λ (k : Knowledge). length k.front) kept ∙ ap length has.front ∙ full is, own);
         memory = λ is. own;
       }
 

@@ -1,5 +1,5 @@
 -- A batch that grows by one operation.
-use Rattle.std.proofs.Common.{◌≡◌, ℕ, zero, suc, ◌+◌, ◌≤◌, List, [], ◌∷◌, ◌++◌, length, take, drop, refl, ap, sym, ◌∙◌, subst, arith, append_assoc, append-nil, add-one, slice_get, get_or, ◌<◌, Some}
+use Rattle.std.proofs.Common.{◌≡◌, ℕ, zero, suc, ◌+◌, List, [], ◌∷◌, ◌++◌, length, take, refl, ap, sym, ◌∙◌, subst, arith, append_assoc, append-nil, add-one, get_or, ◌<◌}
 use Rattle.sup_types.specs.declared.text.Text.{Text}
 use Rattle.sup_types.specs.declared.template.Template.{Template}
 use Rattle.sup_types.specs.declared.history.Answer.{Answer}
@@ -67,24 +67,11 @@ module _ (may : Text → ℕ → Answer → Type 0) (template : Template) (numbe
   entered-replies front serial (o ∷ os) es rs (x, xs, ys, entries, replies, first, rest) =
       ap length replies ∙ ap suc (entered-replies (front ++ x ∷ []) (serial + 1) os xs ys rest)
 
--- the first of what is left of a queue
-front_suc : {A : Type 0} (k : ℕ) (xs : List A) (x : A) (rest : List A) → drop k xs ≡ x ∷ rest
-    → (take (suc k) xs ≡ take k xs ++ x ∷ []) × (drop (suc k) xs ≡ rest) × (suc k ≤ length xs)
-front_suc zero [] x rest is = absurd (cc is)
-front_suc (suc k) [] x rest is = absurd (cc is)
-front_suc zero (y ∷ ys) x rest is = (ap (λ z. z ∷ []) (cc is), cc is, omega arith)
-front_suc (suc k) (y ∷ ys) x rest is =
-    let next = front_suc k ys x rest is in
-    (ap (λ l. y ∷ l) next.0, next.1, omega (arith, next.2))
+next_suc : {A : Type 0} (k : ℕ) (xs : List A) (x : A) → k < length xs → x ≡ get_or xs k x → take (suc k) xs ≡ take k xs ++ x ∷ []
+next_suc k [] x low is = absurd (omega (arith, low))
+next_suc zero (y ∷ ys) x low is = ap (λ z. z ∷ []) (sym is)
+next_suc (suc k) (y ∷ ys) x low is = ap (λ l. y ∷ l) (next_suc k ys x (omega (arith, low)) is)
 
-pub front_next : {A : Type 0} (k : ℕ) (xs : List A) (x : A) (rest : List A) → drop k xs ≡ x ∷ rest
-    → (take (k + 1) xs ≡ take k xs ++ x ∷ []) × (drop (k + 1) xs ≡ rest) × (k + 1 ≤ length xs)
-front_next k xs x rest is = let next = front_suc k xs x rest is in rw add-one next
-
-pub first_is : {A : Type 0} (xs : List A) (x : A) → slice_get xs 0 ≡ Some x → xs ≡ x ∷ drop 1 xs
-first_is [] x is = absurd (cc is)
-first_is (y ∷ ys) x is = ap (λ z. z ∷ ys) (cc is)
-
-pub first_by : {A : Type 0} (xs : List A) (x : A) → 0 < length xs → x ≡ get_or xs 0 x → slice_get xs 0 ≡ Some x
-first_by [] x some is = absurd (omega arith)
-first_by (y ∷ ys) x some is = ap Some (sym is)
+-- one operation more of a queue
+pub next_of : {A : Type 0} (k : ℕ) (xs : List A) (x : A) → k < length xs → x ≡ get_or xs k x → take (k + 1) xs ≡ take k xs ++ x ∷ []
+next_of k xs x low is = rw add-one (next_suc k xs x low is)

@@ -16,6 +16,7 @@ update_fault_number update.OutOfMemory = 1
 update_fault_number update.HistoryFull = 2
 update_fault_number update.Split = 3
 update_fault_number update.Gone = 4
+update_fault_number (update.Journal fault) = 13
 
 abbrev pub ticket_fault_number : TicketFault → ℕ
 ticket_fault_number ticket.Split = 3

@@ -1,35 +1,48 @@
 //! The book: what stands under the lock.
-ghost use Rattle.std.specs.Prelude.{◌≡◌, ◌+◌, ◌++◌, ◌∷◌, [], length, MatchOption, IfOk, OnErr, IfErr, OnOk};
+ghost use Rattle.std.specs.Prelude.{◌≡◌, List};
+ghost use Rattle.sup_types.specs.declared.history.Entry.{Entry};
+ghost use Rattle.sup_desk.specs.Books.{IsClean};
+ghost use Rattle.sup_desk.specs.Journals.{IsKept};
 
-use crate::leaf::Leaf;
+use crate::journal::Journal;
+use crate::leaf::{Closed, Leaf};
 use crate::name::Name;
 use std::marker::Model;
 use std::sync::Wait;
 
-/// What stands under the lock: a supervisor in the state after all that was published, the press with nothing pending,
-/// and how many entries each handle has made. It is so whenever the lock is free.
+/// What stands under the lock: a supervisor in the state after all that was published, the press with nothing pending, the
+/// journal, which has recorded just what was published, and how many entries each handle has made. It is so whenever the lock
+/// is free, as long as the journal does not break off. What was pending then is never published.
 #[derive(Drop)]
-pub struct Book<N: Name, R: Wait + Drop> {
-    pub(crate) leaf: Leaf<N, R>,
+pub struct Book<N: Name, R: Wait + Drop, J: Journal + Drop> {
+    pub(crate) leaf: Leaf<N, R, J>,
 }
 
-impl<N: Name, R: Wait + Drop> Model for Book<N, R> {
-    ghost use Rattle.std.specs.Prelude.{◌≡◌, []};
-    ghost use Rattle.sup_desk.specs.Books.{Kept};
+impl<N: Name, R: Wait + Drop, J: Journal + Drop> Model for Book<N, R, J> {
+    ghost use Rattle.sup_desk.specs.Books.{Kept, IsClean};
 
     ghost Value = { Kept };
 
-    ghost view = { λ b. record { editions = b.leaf.editions; history = b.leaf.published; made = b.leaf.made; handles = b.leaf.handles } };
+    ghost view = { λ b. record { editions = b.leaf.editions; history = b.leaf.published; made = b.leaf.made; handles = b.leaf.handles; fault = b.leaf.fault } };
 
-    ghost invariant = { λ b. b.leaf.pending ≡ [] };
+    ghost invariant = { λ b. IsClean b.leaf.fault b.leaf.pending };
 }
 
-impl<N: Name, R: Wait + Drop> Book<N, R> {
+impl<N: Name, R: Wait + Drop, J: Journal + Drop> Book<N, R, J> {
     /// A book of this leaf, on which nothing is pending.
-    pub(crate) fn of(leaf: Leaf<N, R>) -> Book<N, R>
-        requires { leaf.pending ≡ [] }
-        ensures { result ≡ record { editions = leaf.editions; history = leaf.published; made = leaf.made; handles = leaf.handles } }
+    pub(crate) fn of(leaf: Leaf<N, R, J>) -> Book<N, R, J>
+        requires { IsClean leaf.fault leaf.pending }
+        ensures { result ≡ record { editions = leaf.editions; history = leaf.published; made = leaf.made; handles = leaf.handles; fault = leaf.fault } }
     {
         Book { leaf }
+    }
+
+    /// Ends the book: what is left of it.
+    pub(crate) fn close(self) -> Closed<J>
+        ensures ticket { result.ticket ≡ record { press = N.press; editions = self.editions; front = self.history } }
+        ensures journal { (ready : List Entry) × IsKept (J.has result.journal N.template) (J.is_torn result.journal N.template) J.may_fail result.fault self.history ready × IsClean result.fault ready }
+    {
+        let Book { leaf } = self;
+        leaf.close()
     }
 }

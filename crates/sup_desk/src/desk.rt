@@ -1,7 +1,9 @@
 //! Desks: what threads share.
-ghost use Rattle.std.specs.Prelude.{◌≡◌, ◌≤◌, [], length, All, IfOk, IfErr};
+ghost use Rattle.std.specs.Prelude.{◌≡◌, ◌≤◌, List, [], length, All, IfOk, IfErr};
+ghost use Rattle.sup_types.specs.declared.history.Entry.{Entry};
 ghost use Rattle.sup_desk.specs.Knowledge.{entries_of};
-ghost use Rattle.sup_desk.specs.Books.{IsMade};
+ghost use Rattle.sup_desk.specs.Books.{IsMade, IsClean};
+ghost use Rattle.sup_desk.specs.Journals.{IsKept};
 ghost use Rattle.sup_desk.specs.Audits.{AreNumbered, AreGrown, HaveSeenAll};
 
 use crate::asker::Asker;
@@ -10,40 +12,66 @@ use crate::caller::Caller;
 use crate::faults::{HandleFault, TicketFault};
 use crate::ground::Ground;
 use crate::handle::HandleOf;
+use crate::journal::{Journal, NoJournal};
 use crate::laws::{add_asker, add_handle, audit};
+use crate::leaf::Closed;
 use crate::name::Name;
 use std::sync::{Mutex, Wait};
 use sup_log::{NoPlace, Ticket};
 use sup_types::Starter;
 
-/// A supervisor that threads share by reference.
+/// A supervisor that threads share by reference, with the journal `J`, which is none if it is left out.
 #[derive(Drop)]
-pub struct Desk<N: Name, S: Starter + Drop, R: Wait + Drop> {
-    pub(crate) book: Mutex<Book<N, R>>,
+pub struct Desk<N: Name, S: Starter + Drop, R: Wait + Drop, J: Journal + Drop = NoJournal> {
+    pub(crate) book: Mutex<Book<N, R, J>>,
     pub(crate) starter: S,
 }
 
 impl<N: Name, S: Starter + Drop, R: Wait + Drop> Desk<N, S, R> {
-    /// A desk on this ground, which N names. It takes no memory.
+    /// A desk on this ground, which N names, without a journal. It takes no memory.
     pub fn new(ground: Ground<R>, starter: S) -> Desk<N, S, R>
         requires { (ground.press ≡ N.press) × (ground.template ≡ N.template) }
     {
+        Desk::with_journal(ground, starter, NoJournal)
+    }
+}
+
+impl<N: Name, S: Starter + Drop, R: Wait + Drop, J: Journal + Drop> Desk<N, S, R, J> {
+    /// A desk on this ground, which N names, with a journal that has recorded nothing of a supervisor of this template. From
+    /// then on the journal records each entry before it is published: whenever the lock is free, it has recorded just what is
+    /// published. Once it breaks off, updates are refused, and queries go on. It takes no memory.
+    pub fn with_journal(ground: Ground<R>, starter: S, journal: J) -> Desk<N, S, R, J>
+        requires name { (ground.press ≡ N.press) × (ground.template ≡ N.template) }
+        requires journal { J.has journal N.template [] [] }
+    {
         Desk {
-            book: Mutex::new(ground.book()),
+            book: Mutex::new(ground.book(journal)),
             starter,
         }
     }
 
+    /// Ends the desk: a ticket for all of its history, and the journal. The journal has recorded just this history, unless it
+    /// broke off; then it has recorded this history, and at most a part of what was refused. It waits for the lenses that look.
+    /// Askers that are left are answered no more.
+    pub fn close(self) -> Closed<J>
+        ensures ticket { result.ticket.press ≡ N.press }
+        ensures journal { (ready : List Entry) × IsKept (J.has result.journal N.template) (J.is_torn result.journal N.template) J.may_fail result.fault result.ticket.front ready × IsClean result.fault ready }
+    {
+        let Desk { book, starter } = self;
+        drop(starter);
+        book.into_inner().close()
+    }
+
     /// A handle that has seen all of the history and made no call. It waits for the lock. After a refusal nothing has
     /// changed.
-    pub fn handle<W: Wait>(&self, rt: &W) -> Result<HandleOf<'_, N, Desk<N, S, R>>, HandleFault>
+    pub fn handle<W: Wait>(&self, rt: &W) -> Result<HandleOf<'_, N, Desk<N, S, R, J>>, HandleFault>
         ensures { IfOk result (λ h. (h.calls ≡ []) × (entries_of h.front h.number ≡ []) × (1 ≤ h.number)) }
     {
         Ok(self.bind(add_handle(&mut *self.book.lock(rt))?))
     }
 
     /// The handle that the caller was.
-    pub fn bind(&self, caller: Caller<N>) -> HandleOf<'_, N, Desk<N, S, R>>
+    pub fn bind(&self, caller: Caller<N>) -> HandleOf<'_, N, Desk<N, S, R, J>>
         ensures { result ≡ caller }
     {
         HandleOf::of(caller, self)
@@ -61,7 +89,7 @@ impl<N: Name, S: Starter + Drop, R: Wait + Drop> Desk<N, S, R> {
     pub fn audit<W: Wait>(
         &self,
         rt: &W,
-        handles: &mut [HandleOf<'_, N, Desk<N, S, R>>],
+        handles: &mut [HandleOf<'_, N, Desk<N, S, R, J>>],
     ) -> Result<Ticket, TicketFault>
         requires { AreNumbered handles.old }
         ensures ok { IfOk result (λ t. HaveSeenAll t.front handles.new (length handles.new) × (t.press ≡ N.press)) }

@@ -3,6 +3,7 @@ ghost use Rattle.std.specs.Prelude.{◌≡◌};
 ghost use Rattle.sup_desk.specs.Faults.{update_fault_number, ticket_fault_number, query_fault_number, handle_fault_number, desk_fault_number};
 ghost use Rattle.sup_desk.specs.declared.faults.QueryFault.TheVariants as query;
 
+use crate::journal::JournalFault;
 use sup_log::Gone;
 use sup_types::OutOfMemory;
 use thiserror::Error;
@@ -22,6 +23,9 @@ pub enum UpdateFault {
     /// The reader could not learn or enter. No update is answered so: each learns without entering.
     #[error("the press is gone")]
     Gone,
+    /// The journal broke off. Nothing was published, and no update is entered any more. Queries go on.
+    #[error("the journal broke off: {0}")]
+    Journal(JournalFault),
 }
 
 impl UpdateFault {
@@ -34,6 +38,7 @@ impl UpdateFault {
             UpdateFault::HistoryFull => 2,
             UpdateFault::Split => 3,
             UpdateFault::Gone => 4,
+            UpdateFault::Journal(_) => 13,
         }
     }
 }

@@ -1,8 +1,9 @@
 //! Grounds: the parts of a book that has no name yet.
-ghost use Rattle.std.specs.Prelude.{◌≡◌, ◌≤◌, ◌↔◌, [], IfOk};
+ghost use Rattle.std.specs.Prelude.{◌≡◌, ◌≤◌, ◌↔◌, [], IfOk, None};
 
 use crate::book::Book;
 use crate::faults::DeskFault;
+use crate::journal::Journal;
 use crate::leaf::Leaf;
 use crate::name::Name;
 use std::alloc::Global;
@@ -66,10 +67,12 @@ impl<R: Wait + Drop> Ground<R> {
         }
     }
 
-    /// The book of this ground, which N names: nothing is published, and no handle was made.
-    pub(crate) fn book<N: Name>(self) -> Book<N, R>
-        requires { (self.press ≡ N.press) × (self.template ≡ N.template) }
-        ensures { result ≡ record { editions = []; history = []; made = 0; handles = self.handles } }
+    /// The book of this ground, which N names, with this journal, which has recorded nothing: nothing is published, and no
+    /// handle was made.
+    pub(crate) fn book<N: Name, J: Journal + Drop>(self, journal: J) -> Book<N, R, J>
+        requires name { (self.press ≡ N.press) × (self.template ≡ N.template) }
+        requires journal { J.has journal N.template [] [] }
+        ensures { result ≡ record { editions = []; history = []; made = 0; handles = self.handles; fault = None } }
     {
         let Ground {
             sup,
@@ -77,6 +80,6 @@ impl<R: Wait + Drop> Ground<R> {
             counts,
             handles,
         } = self;
-        Book::of(Leaf::begin(press, sup, counts, handles))
+        Book::of(Leaf::begin(press, sup, journal, counts, handles))
     }
 }

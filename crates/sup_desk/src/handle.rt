@@ -7,6 +7,7 @@ ghost use Rattle.sup_log.specs.Tokens.{sight, history_of};
 ghost use Rattle.sup_desk.specs.Asking.{IsAnswered};
 ghost use Rattle.sup_desk.specs.Knowledge.{entries_of};
 ghost use Rattle.sup_desk.specs.Batches.{IsApplied};
+ghost use Rattle.sup_desk.specs.declared.journal.JournalFault.{JournalFault};
 ghost use Rattle.sup_desk.specs.Books.{IsSplit};
 ghost use Rattle.sup_desk.specs.Results.{IsUpdateResult};
 ghost use Rattle.sup_desk.specs.Audits.{AreNumbered, IsGrown, HasSeenAll};
@@ -16,6 +17,7 @@ use crate::book::Book;
 use crate::caller::Caller;
 use crate::desk::Desk;
 use crate::faults::{QueryFault, TicketFault, UpdateFault};
+use crate::journal::{Journal, NoJournal};
 use crate::laws::{Done, Rest, enter, enter_all, give_ticket};
 use crate::name::Name;
 use std::alloc::{Allocator, Global};
@@ -52,8 +54,8 @@ pub struct HandleOf<'d, N: Name, D> {
     pub(crate) desk: &'d D,
 }
 
-/// A handle of a desk with this starter, whose publications wait by R.
-pub type Handle<'d, N, S, R> = HandleOf<'d, N, Desk<N, S, R>>;
+/// A handle of a desk with this starter, whose publications wait by R, and with the journal `J`, which is none if it is left out.
+pub type Handle<'d, N, S, R, J = NoJournal> = HandleOf<'d, N, Desk<N, S, R, J>>;
 
 impl<'d, N: Name, D> Model for HandleOf<'d, N, D> {
     ghost use Rattle.std.specs.Prelude.{◌≡◌, ◌≤◌, length, take};
@@ -68,8 +70,9 @@ impl<'d, N: Name, D> Model for HandleOf<'d, N, D> {
 
 /// Updates. Each waits for the lock, learns all that is published, and is entered in the history at once: its reply is
 /// that of a supervisor of one thread after a history that begins with all that the handle had seen, learnt or done.
-/// The start function is asked under the lock. After a refusal the history and every published answer are as before.
-impl<'d, N: Name, S: Starter + Drop, R: Wait + Drop> HandleOf<'d, N, Desk<N, S, R>> {
+/// The start function is asked under the lock. After a refusal the history and every published answer are as before. A journal
+/// that breaks off refuses the update and all later ones.
+impl<'d, N: Name, S: Starter + Drop, R: Wait + Drop, J: Journal + Drop> HandleOf<'d, N, Desk<N, S, R, J>> {
     /// Starts a child with this argument, at this moment in seconds.
     pub fn start_child<W: Wait>(
         &mut self,
@@ -77,7 +80,8 @@ impl<'d, N: Name, S: Starter + Drop, R: Wait + Drop> HandleOf<'d, N, Desk<N, S, 
         moment: u64,
         arg: Text,
     ) -> Result<Done, UpdateFault>
-        ensures { IsUpdateResult S.may_answer N.template N.press self.old (Operation.Start arg) moment self.new result }
+        ensures result { IsUpdateResult S.may_answer N.template N.press self.old (Operation.Start arg) moment self.new result }
+        ensures journal { IfErr result (λ e. (f : JournalFault) → e ≡ UpdateFault.Journal f → J.may_fail f) }
     {
         self.update(rt, moment, Operation::Start(arg))
     }
@@ -90,14 +94,16 @@ impl<'d, N: Name, S: Starter + Drop, R: Wait + Drop> HandleOf<'d, N, Desk<N, S, 
         number: u64,
         reason: Reason,
     ) -> Result<Done, UpdateFault>
-        ensures { IsUpdateResult S.may_answer N.template N.press self.old (Operation.Exit number reason) moment self.new result }
+        ensures result { IsUpdateResult S.may_answer N.template N.press self.old (Operation.Exit number reason) moment self.new result }
+        ensures journal { IfErr result (λ e. (f : JournalFault) → e ≡ UpdateFault.Journal f → J.may_fail f) }
     {
         self.update(rt, moment, Operation::Exit(number, reason))
     }
 
     /// Tries the restart of the child with this number again.
     pub fn retry<W: Wait>(&mut self, rt: &W, moment: u64, number: u64) -> Result<Done, UpdateFault>
-        ensures { IsUpdateResult S.may_answer N.template N.press self.old (Operation.Retry number) moment self.new result }
+        ensures result { IsUpdateResult S.may_answer N.template N.press self.old (Operation.Retry number) moment self.new result }
+        ensures journal { IfErr result (λ e. (f : JournalFault) → e ≡ UpdateFault.Journal f → J.may_fail f) }
     {
         self.update(rt, moment, Operation::Retry(number))
     }
@@ -109,14 +115,16 @@ impl<'d, N: Name, S: Starter + Drop, R: Wait + Drop> HandleOf<'d, N, Desk<N, S, 
         moment: u64,
         number: u64,
     ) -> Result<Done, UpdateFault>
-        ensures { IsUpdateResult S.may_answer N.template N.press self.old (Operation.Terminate number) moment self.new result }
+        ensures result { IsUpdateResult S.may_answer N.template N.press self.old (Operation.Terminate number) moment self.new result }
+        ensures journal { IfErr result (λ e. (f : JournalFault) → e ≡ UpdateFault.Journal f → J.may_fail f) }
     {
         self.update(rt, moment, Operation::Terminate(number))
     }
 
     /// Ends all children, and the supervisor.
     pub fn stop<W: Wait>(&mut self, rt: &W, moment: u64) -> Result<Done, UpdateFault>
-        ensures { IsUpdateResult S.may_answer N.template N.press self.old Operation.Stop moment self.new result }
+        ensures result { IsUpdateResult S.may_answer N.template N.press self.old Operation.Stop moment self.new result }
+        ensures journal { IfErr result (λ e. (f : JournalFault) → e ≡ UpdateFault.Journal f → J.may_fail f) }
     {
         self.update(rt, moment, Operation::Stop)
     }
@@ -128,7 +136,8 @@ impl<'d, N: Name, S: Starter + Drop, R: Wait + Drop> HandleOf<'d, N, Desk<N, S, 
         moment: u64,
         operation: Operation,
     ) -> Result<Done, UpdateFault>
-        ensures { IsUpdateResult S.may_answer N.template N.press self.old operation moment self.new result }
+        ensures result { IsUpdateResult S.may_answer N.template N.press self.old operation moment self.new result }
+        ensures journal { IfErr result (λ e. (f : JournalFault) → e ≡ UpdateFault.Journal f → J.may_fail f) }
     {
         let desk = self.desk;
         enter(
@@ -165,6 +174,7 @@ impl<'d, N: Name, S: Starter + Drop, R: Wait + Drop> HandleOf<'d, N, Desk<N, S, 
         ensures gone { IfErr result (λ p. p.fault ≡ UpdateFault.Gone → ⊥) }
         ensures split { IfErr result (λ p. p.fault ≡ UpdateFault.Split → p.replies.items ≡ []) }
         ensures full { IfErr result (λ p. p.fault ≡ UpdateFault.HistoryFull → length self.new.front ≡ N.template.entries) }
+        ensures journal { IfErr result (λ p. (f : JournalFault) → p.fault ≡ UpdateFault.Journal f → (p.replies.items ≡ []) × J.may_fail f) }
     {
         let Ok(mut replies) = Vec::with_capacity(alloc, operations.len()) else {
             return Err(Part {
@@ -195,7 +205,7 @@ impl<'d, N: Name, S: Starter + Drop, R: Wait + Drop> HandleOf<'d, N, Desk<N, S, 
 }
 
 /// Tickets.
-impl<'d, N: Name, S: Starter + Drop, R: Wait + Drop> HandleOf<'d, N, Desk<N, S, R>> {
+impl<'d, N: Name, S: Starter + Drop, R: Wait + Drop, J: Journal + Drop> HandleOf<'d, N, Desk<N, S, R, J>> {
     /// A ticket for all of the history, which the handle has then seen. Its calls are all that stand there under its
     /// number. It waits for the lock.
     pub fn ticket<W: Wait>(&mut self, rt: &W) -> Result<Ticket, TicketFault>
@@ -210,7 +220,7 @@ impl<'d, N: Name, S: Starter + Drop, R: Wait + Drop> HandleOf<'d, N, Desk<N, S, 
     }
 
     /// A ticket for all of the history of this book, which the handle has then seen.
-    pub(crate) fn see_all(&mut self, book: &Book<N, R>) -> Result<Ticket, TicketFault>
+    pub(crate) fn see_all(&mut self, book: &Book<N, R, J>) -> Result<Ticket, TicketFault>
         ensures seen { OnOk result (HasSeenAll book.now.history self.new) }
         ensures split { OnErr result (IsSplit book.now self.new) }
         ensures grown { IsGrown self.old self.new }

@@ -1,12 +1,13 @@
 //! What a call does with the book that is lent to it: the answers and the refusals of the calls of the same kind, and
 //! what the book is afterwards.
-ghost use Rattle.std.specs.Prelude.{◌≡◌, ◌+◌, ◌++◌, ◌∷◌, [], length, take, drop, vec_len, vec_capacity, All, List, ◌<◌, ◌≤◌, ◌↔◌, ◌⊎◌, IfOk, OnOk, OnErr, IfErr, MatchOption, OnSome, IfSome, IfNone, true, false};
+ghost use Rattle.std.specs.Prelude.{◌≡◌, ◌+◌, ◌++◌, ◌∷◌, [], length, take, drop, vec_len, vec_capacity, All, List, ◌<◌, ◌≤◌, ◌↔◌, ◌⊎◌, IfOk, OnOk, OnErr, IfErr, MatchOption, OnSome, IfSome, IfNone, Some, None, true, false};
 ghost use mathlib.Core.List.{IsPrefix};
 ghost use Rattle.sup_log.specs.Tokens.{history_of};
 ghost use Rattle.sup_core.specs.Account.{reply_after};
 ghost use Rattle.sup_desk.specs.Knowledge.{entries_of, IsEntryOf, with_entries};
 ghost use Rattle.sup_desk.specs.Results.{HasSeenMore, IsUpdateResult};
-ghost use Rattle.sup_desk.specs.Books.{IsMade, IsSplit, grown_by, with_pending};
+ghost use Rattle.sup_desk.specs.declared.journal.JournalFault.{JournalFault};
+ghost use Rattle.sup_desk.specs.Books.{IsMade, IsSplit, IsLeft, IsOfStep, grown_by, broken_by, with_pending};
 ghost use Rattle.sup_desk.specs.Audits.{AreNumbered, AreGrown, HaveSeenAll, IsAnySplit};
 ghost use Rattle.sup_desk.specs.Batches.{AreEntered, AreWritten, IsApplied};
 ghost use Rattle.std.specs.VecDeque.{deque_len};
@@ -17,6 +18,7 @@ use crate::caller::Caller;
 use crate::desk::Desk;
 use crate::faults::{HandleFault, TicketFault, UpdateFault};
 use crate::handle::HandleOf;
+use crate::journal::{Journal, JournalFault};
 use crate::leaf::Leaf;
 use crate::name::Name;
 use std::alloc::Allocator;
@@ -33,8 +35,8 @@ pub struct Done {
 }
 
 /// Lets the handle see all of the history, in which its calls are all that stand under its number. A ticket for it.
-fn meet<N: Name, D, R: Wait + Drop>(
-    book: &Book<N, R>,
+fn meet<N: Name, D, R: Wait + Drop, J: Journal + Drop>(
+    book: &Book<N, R, J>,
     handle: &mut HandleOf<'_, N, D>,
 ) -> Option<Ticket>
     ensures met { IfSome result (λ t. (handle.new.front ≡ book.now.history) × (entries_of handle.new.front handle.new.number ≡ handle.new.calls) × IsMade book.now.made handle.new.number) }
@@ -48,7 +50,7 @@ fn meet<N: Name, D, R: Wait + Drop>(
 {
     let ticket = book.leaf.tell();
     let _ = handle.learn(&ticket);
-    if book.leaf.ties(handle) {
+    if book.leaf.ties(handle, &ticket) {
         Some(ticket)
     } else {
         None
@@ -56,20 +58,20 @@ fn meet<N: Name, D, R: Wait + Drop>(
 }
 
 /// Writes one entry on the leaf: that of the handle with this number, which has made so many before.
-fn write<N: Name, S: Starter, R: Wait + Drop>(
-    leaf: &mut Leaf<N, R>,
+fn write<N: Name, S: Starter, R: Wait + Drop, J: Journal + Drop>(
+    leaf: &mut Leaf<N, R, J>,
     starter: &S,
     number: u64,
     serial: u64,
     moment: u64,
     operation: Operation,
 ) -> Result<Reply, UpdateFault>
-    requires { IsMade leaf.old.made number }
+    requires { leaf.old.fault ≡ None }
     ensures written { IfOk result (λ reply. (entry : Entry) × IsEntryOf S.may_answer N.template (leaf.old.published ++ leaf.old.pending) number serial operation moment entry
         × (reply ≡ reply_after N.template (leaf.old.published ++ leaf.old.pending) entry) × (leaf.new ≡ with_pending leaf.old (entry ∷ []))) }
     ensures kept { OnErr result (leaf.new ≡ leaf.old) }
     ensures full { IfErr result (λ e. e ≡ UpdateFault.HistoryFull → length (leaf.old.published ++ leaf.old.pending) ≡ N.template.entries) }
-    ensures faults { IfErr result (λ e. (e ≡ UpdateFault.Gone → ⊥) × (e ≡ UpdateFault.Split → ⊥)) }
+    ensures faults { IfErr result (λ e. IsOfStep e) }
 {
     if leaf.is_full() {
         return Err(UpdateFault::HistoryFull);
@@ -93,8 +95,8 @@ fn write<N: Name, S: Starter, R: Wait + Drop>(
 }
 
 /// Enters an update of a handle that has seen all of the history.
-fn enter_one<N: Name, D, S: Starter, R: Wait + Drop>(
-    book: &mut Book<N, R>,
+fn enter_one<N: Name, D, S: Starter, R: Wait + Drop, J: Journal + Drop>(
+    book: &mut Book<N, R, J>,
     starter: &S,
     handle: &mut HandleOf<'_, N, D>,
     moment: u64,
@@ -104,11 +106,13 @@ fn enter_one<N: Name, D, S: Starter, R: Wait + Drop>(
     requires editions { handle.old.editions ≡ book.old.editions }
     requires whole { entries_of book.old.history handle.old.number ≡ handle.old.calls }
     requires made { IsMade book.old.made handle.old.number }
+    requires going { book.old.fault ≡ None }
     ensures entered { IfOk result (λ done. (entry : Entry) × IsEntryOf S.may_answer N.template book.old.history handle.old.number (length handle.old.calls) operation moment entry
         × (done.reply ≡ reply_after N.template book.old.history entry) × (book.new ≡ grown_by book.old (entry ∷ []))
         × (handle.new ≡ with_entries handle.old book.old.editions book.old.history (entry ∷ []))) }
     ensures told { IfOk result (λ done. done.ticket ≡ record { press = N.press; editions = handle.new.editions; front = handle.new.front }) }
-    ensures kept { OnErr result ((book.new ≡ book.old) × (handle.new ≡ handle.old)) }
+    ensures kept { OnErr result (handle.new ≡ handle.old) }
+    ensures left { IfErr result (λ e. IsLeft J.may_fail book.old e book.new) }
     ensures full { IfErr result (λ e. e ≡ UpdateFault.HistoryFull → length book.old.history ≡ N.template.entries) }
     ensures faults { IfErr result (λ e. (e ≡ UpdateFault.Gone → ⊥) × (e ≡ UpdateFault.Split → ⊥)) }
 {
@@ -120,15 +124,17 @@ fn enter_one<N: Name, D, S: Starter, R: Wait + Drop>(
         moment,
         operation,
     )?;
-    book.leaf.publish();
+    if let Err(fault) = book.leaf.commit(handle.number()) {
+        return Err(UpdateFault::Journal(fault));
+    }
     let ticket = book.leaf.tell();
     handle.adopt(&ticket);
     Ok(Done { reply, ticket })
 }
 
 /// Enters an update of the handle in the book.
-pub fn enter<N: Name, D, S: Starter, R: Wait + Drop>(
-    book: &mut Book<N, R>,
+pub fn enter<N: Name, D, S: Starter, R: Wait + Drop, J: Journal + Drop>(
+    book: &mut Book<N, R, J>,
     starter: &S,
     handle: &mut HandleOf<'_, N, D>,
     moment: u64,
@@ -140,78 +146,107 @@ pub fn enter<N: Name, D, S: Starter, R: Wait + Drop>(
     ensures entered { OnOk result ((entry : Entry) × IsEntryOf S.may_answer N.template book.old.history handle.old.number (length handle.old.calls) operation moment entry
         × (book.new ≡ grown_by book.old (entry ∷ []))) }
     ensures seen { OnOk result ((handle.new.front ≡ book.new.history) × (handle.new.editions ≡ book.new.editions)) }
-    ensures kept { OnErr result (book.new ≡ book.old) }
+    ensures left { IfErr result (λ e. IsLeft J.may_fail book.old e book.new) }
 
-    // When it is Split.
+    // When it is Split, and when the journal broke off before.
+    ensures broken { IfSome book.old.fault (λ f. (result ≡ Err UpdateFault.Split) ⊎ (result ≡ Err (UpdateFault.Journal f))) }
     ensures learnt { IsPrefix book.old.history handle.new.front }
     ensures split { IfErr result (λ e. e ≡ UpdateFault.Split → IsSplit book.old handle.new) }
 {
     if meet(book, handle).is_none() {
         return Err(UpdateFault::Split);
     }
+    if let Some(fault) = book.leaf.fault() {
+        return Err(UpdateFault::Journal(fault));
+    }
     enter_one(book, starter, handle, moment, operation)
 }
 
-/// Writes the operations of the queue one after another, each of which then leaves it, up to the first fault.
-fn write_all<N: Name, S: Starter, R: Wait + Drop, A: Allocator>(
-    leaf: &mut Leaf<N, R>,
+/// Writes the operations of the queue one after another, up to the first fault.
+fn write_all<N: Name, S: Starter, R: Wait + Drop, J: Journal + Drop, A: Allocator>(
+    leaf: &mut Leaf<N, R, J>,
     starter: &S,
     number: u64,
     moment: u64,
-    operations: &mut VecDeque<Operation>,
+    operations: &VecDeque<Operation>,
     replies: &mut Vec<Reply, A>,
 ) -> Option<UpdateFault>
+    requires going { leaf.old.fault ≡ None }
+    requires clean { leaf.old.pending ≡ [] }
     requires made { IsMade leaf.old.made number }
     requires none { vec_len replies.old ≡ 0 }
-    requires room { deque_len operations.old ≤ vec_capacity replies.old }
-    ensures written { AreWritten S.may_answer N.template leaf.old number moment (take (length replies.new.items) operations.old.items) replies.new.items leaf.new }
-    ensures rest { operations.new.items ≡ drop (length replies.new.items) operations.old.items }
-    ensures all { IfNone result (operations.new.items ≡ []) }
+    requires room { deque_len operations.now ≤ vec_capacity replies.old }
+    ensures written { AreWritten S.may_answer N.template leaf.old number moment (take (length replies.new.items) operations.now.items) replies.new.items leaf.new }
+    ensures within { length replies.new.items ≤ length operations.now.items }
+    ensures all { IfNone result (length replies.new.items ≡ length operations.now.items) }
     ensures full { IfSome result (λ e. e ≡ UpdateFault.HistoryFull → length (leaf.new.published ++ leaf.new.pending) ≡ N.template.entries) }
-    ensures faults { IfSome result (λ e. (e ≡ UpdateFault.Gone → ⊥) × (e ≡ UpdateFault.Split → ⊥)) }
+    ensures faults { IfSome result (λ e. IsOfStep e) }
 {
-    'queue: while let Some(operation) = operations.front() {
+    'queue: while let Some(operation) = operations.get(replies.len()) {
         let serial = leaf.serial(number);
         match write(leaf, starter, number, serial, moment, *operation) {
-            Ok(reply) => {
-                replies.push_reserved(reply);
-                let _ = operations.pop_front();
-            }
+            Ok(reply) => replies.push_reserved(reply),
             Err(fault) => return Some(fault),
         }
     }
     None
 }
 
-/// The same for a handle that has seen all of the history, with the fault that ended it.
-fn enter_met<N: Name, D, S: Starter, R: Wait + Drop, A: Allocator>(
-    book: &mut Book<N, R>,
+/// Takes the first operations out of the queue, as many as `count`.
+fn drop_first(operations: &mut VecDeque<Operation>, count: usize)
+    requires { count ≤ length operations.old.items }
+    ensures { operations.new.items ≡ drop count operations.old.items }
+{
+    for _ in 0..count {
+        let _ = operations.pop_front();
+    }
+}
+
+/// Enters the operations of a queue for a handle that has seen all of the history, with the fault that ended it. Each that is
+/// entered leaves the queue. Where the journal breaks off, none is entered.
+fn enter_met<N: Name, D, S: Starter, R: Wait + Drop, J: Journal + Drop, A: Allocator>(
+    book: &mut Book<N, R, J>,
     starter: &S,
     handle: &mut HandleOf<'_, N, D>,
     moment: u64,
     operations: &mut VecDeque<Operation>,
     replies: &mut Vec<Reply, A>,
-) -> (Ticket, Option<UpdateFault>)
+) -> Result<(Ticket, Option<UpdateFault>), JournalFault>
     requires none { vec_len replies.old ≡ 0 }
     requires room { deque_len operations.old ≤ vec_capacity replies.old }
     requires front { handle.old.front ≡ book.old.history }
     requires editions { handle.old.editions ≡ book.old.editions }
     requires whole { entries_of book.old.history handle.old.number ≡ handle.old.calls }
     requires made { IsMade book.old.made handle.old.number }
-    ensures entered { (entries : List Entry) × AreEntered S.may_answer N.template handle.old.number moment book.old.history (length handle.old.calls) (take (length replies.new.items) operations.old.items) entries replies.new.items
-        × (book.new ≡ grown_by book.old entries) × (handle.new ≡ with_entries handle.old book.old.editions book.old.history entries) }
-    ensures told { result.0 ≡ record { press = N.press; editions = handle.new.editions; front = handle.new.front } }
+    requires going { book.old.fault ≡ None }
+    ensures entered { OnOk result ((entries : List Entry) × AreEntered S.may_answer N.template handle.old.number moment book.old.history (length handle.old.calls) (take (length replies.new.items) operations.old.items) entries replies.new.items
+        × (book.new ≡ grown_by book.old entries) × (handle.new ≡ with_entries handle.old book.old.editions book.old.history entries)) }
+    ensures told { IfOk result (λ p. p.0 ≡ record { press = N.press; editions = handle.new.editions; front = handle.new.front }) }
     ensures rest { operations.new.items ≡ drop (length replies.new.items) operations.old.items }
-    ensures all { IfNone result.1 (operations.new.items ≡ []) }
-    ensures full { IfSome result.1 (λ e. e ≡ UpdateFault.HistoryFull → length handle.new.front ≡ N.template.entries) }
-    ensures faults { IfSome result.1 (λ e. (e ≡ UpdateFault.Gone → ⊥) × (e ≡ UpdateFault.Split → ⊥)) }
+    ensures all { IfOk result (λ p. IfNone p.1 (operations.new.items ≡ [])) }
+    ensures full { IfOk result (λ p. IfSome p.1 (λ e. e ≡ UpdateFault.HistoryFull → length handle.new.front ≡ N.template.entries)) }
+    ensures faults { IfOk result (λ p. IfSome p.1 (λ e. IsOfStep e)) }
+
+    // What is left where the journal breaks off.
+    ensures broken { IfErr result (λ f. (book.new ≡ broken_by book.old f) × J.may_fail f) }
+    ensures kept { OnErr result ((handle.new ≡ handle.old) × (replies.new.items ≡ [])) }
 {
-    let leaf = &mut book.leaf;
-    let fault = write_all(leaf, starter, handle.number(), moment, operations, replies);
-    leaf.publish();
-    let ticket = leaf.tell();
+    let fault = write_all(
+        &mut book.leaf,
+        starter,
+        handle.number(),
+        moment,
+        operations,
+        replies,
+    );
+    if let Err(broken) = book.leaf.commit(handle.number()) {
+        replies.clear();
+        return Err(broken);
+    }
+    let ticket = book.leaf.tell();
     handle.adopt(&ticket);
-    (ticket, fault)
+    drop_first(operations, replies.len());
+    Ok((ticket, fault))
 }
 
 /// Why operations were left in a queue, and a ticket for those that were entered, if there are any.
@@ -221,10 +256,21 @@ pub struct Rest {
     pub fault: UpdateFault,
 }
 
+/// What is told where the journal broke off: none was entered.
+fn broken_off(fault: JournalFault) -> Rest
+    ensures ticket { result.ticket ≡ None }
+    ensures fault { result.fault ≡ UpdateFault.Journal fault }
+{
+    Rest {
+        ticket: None,
+        fault: UpdateFault::Journal(fault),
+    }
+}
+
 /// Enters the operations of a queue as updates of the handle, each of which then leaves it, up to the first fault, and
 /// publishes them in one step. The replies need no memory: their room was made before.
-pub fn enter_all<N: Name, D, S: Starter, R: Wait + Drop, A: Allocator>(
-    book: &mut Book<N, R>,
+pub fn enter_all<N: Name, D, S: Starter, R: Wait + Drop, J: Journal + Drop, A: Allocator>(
+    book: &mut Book<N, R, J>,
     starter: &S,
     handle: &mut HandleOf<'_, N, D>,
     moment: u64,
@@ -235,20 +281,22 @@ pub fn enter_all<N: Name, D, S: Starter, R: Wait + Drop, A: Allocator>(
     requires room { deque_len operations.old ≤ vec_capacity replies.old }
     ensures ok { IfOk result (λ t. IsApplied S.may_answer N.template N.press handle.old operations.old.items moment handle.new replies.new.items t) }
     ensures part { IfErr result (λ r. IfSome r.ticket (λ t. IsApplied S.may_answer N.template N.press handle.old (take (length replies.new.items) operations.old.items) moment handle.new replies.new.items t × (0 < length replies.new.items))) }
-    ensures nothing { IfErr result (λ r. IfNone r.ticket ((replies.new.items ≡ []) × (handle.new.calls ≡ handle.old.calls) × (handle.new.number ≡ handle.old.number) × (book.new ≡ book.old))) }
+    ensures nothing { IfErr result (λ r. IfNone r.ticket ((replies.new.items ≡ []) × (handle.new.calls ≡ handle.old.calls) × (handle.new.number ≡ handle.old.number) × IsLeft J.may_fail book.old r.fault book.new)) }
     ensures rest { operations.new.items ≡ drop (length replies.new.items) operations.old.items }
     ensures all { OnOk result (operations.new.items ≡ []) }
     ensures seen { HasSeenMore handle.old handle.new }
 
-    // What the book is then: it has all of them in one publication.
-    ensures entered { (entries : List Entry) × AreEntered S.may_answer N.template handle.old.number moment book.old.history (length handle.old.calls) (take (length replies.new.items) operations.old.items) entries replies.new.items
-        × (book.new ≡ grown_by book.old entries) }
+    // What the book is then: it has all of them in one publication, or the journal broke off, and it has none.
+    ensures entered { ((entries : List Entry) × AreEntered S.may_answer N.template handle.old.number moment book.old.history (length handle.old.calls) (take (length replies.new.items) operations.old.items) entries replies.new.items
+        × (book.new ≡ grown_by book.old entries)) ⊎ ((f : JournalFault) × (replies.new.items ≡ []) × (book.new ≡ broken_by book.old f) × J.may_fail f) }
 
     // When each refusal comes.
     ensures learnt { IsPrefix book.old.history handle.new.front }
     ensures gone { IfErr result (λ r. r.fault ≡ UpdateFault.Gone → ⊥) }
     ensures split { IfErr result (λ r. r.fault ≡ UpdateFault.Split → (replies.new.items ≡ []) × IsSplit book.old handle.new) }
     ensures full { IfErr result (λ r. r.fault ≡ UpdateFault.HistoryFull → length handle.new.front ≡ N.template.entries) }
+    ensures journal { IfErr result (λ r. (f : JournalFault) → r.fault ≡ UpdateFault.Journal f → (replies.new.items ≡ []) × (book.new.fault ≡ Some f) × J.may_fail f) }
+    ensures broken { IfSome book.old.fault (λ f. IfErr result (λ r. (r.fault ≡ UpdateFault.Split) ⊎ (r.fault ≡ UpdateFault.Journal f)) × IfOk result (λ _. ⊥)) }
 {
     if meet(book, handle).is_none() {
         return Err(Rest {
@@ -256,7 +304,13 @@ pub fn enter_all<N: Name, D, S: Starter, R: Wait + Drop, A: Allocator>(
             fault: UpdateFault::Split,
         });
     }
-    let (ticket, fault) = enter_met(book, starter, handle, moment, operations, replies);
+    if let Some(fault) = book.leaf.fault() {
+        return Err(broken_off(fault));
+    }
+    let (ticket, fault) = match enter_met(book, starter, handle, moment, operations, replies) {
+        Ok(entered) => entered,
+        Err(fault) => return Err(broken_off(fault)),
+    };
     let Some(fault) = fault else {
         return Ok(ticket);
     };
@@ -273,8 +327,8 @@ pub fn enter_all<N: Name, D, S: Starter, R: Wait + Drop, A: Allocator>(
 }
 
 /// Gives the handle a ticket for all of the history, in which its calls are all that stand under its number.
-pub fn give_ticket<N: Name, D, R: Wait + Drop>(
-    book: &Book<N, R>,
+pub fn give_ticket<N: Name, D, R: Wait + Drop, J: Journal + Drop>(
+    book: &Book<N, R, J>,
     handle: &mut HandleOf<'_, N, D>,
 ) -> Result<Ticket, TicketFault>
     ensures ok { IfOk result (λ t. (handle.new.front ≡ book.now.history) × (entries_of handle.new.front handle.new.number ≡ handle.new.calls) × (t ≡ record { press = N.press; editions = handle.new.editions; front = handle.new.front })) }
@@ -288,7 +342,9 @@ pub fn give_ticket<N: Name, D, R: Wait + Drop>(
 }
 
 /// Makes the caller of a handle. It has seen all of the history, and no entry is its own.
-pub fn add_handle<N: Name, R: Wait + Drop>(book: &mut Book<N, R>) -> Result<Caller<N>, HandleFault>
+pub fn add_handle<N: Name, R: Wait + Drop, J: Journal + Drop>(
+    book: &mut Book<N, R, J>,
+) -> Result<Caller<N>, HandleFault>
     ensures ok { IfOk result (λ c. (c ≡ record { number = book.old.made + 1; editions = book.old.editions; front = book.old.history; calls = [] }) × (entries_of c.front c.number ≡ [])) }
     ensures added { OnOk result (book.new ≡ record book.old { made = book.old.made + 1 }) }
     ensures err { OnErr result (book.new ≡ book.old) }
@@ -305,7 +361,9 @@ pub fn add_handle<N: Name, R: Wait + Drop>(book: &mut Book<N, R>) -> Result<Call
 }
 
 /// Makes an asker. It has seen all of the history, and the book is as it was.
-pub fn add_asker<N: Name, R: Wait + Drop>(book: &mut Book<N, R>) -> Result<Asker<N>, NoPlace>
+pub fn add_asker<N: Name, R: Wait + Drop, J: Journal + Drop>(
+    book: &mut Book<N, R, J>,
+) -> Result<Asker<N>, NoPlace>
     ensures ok { IfOk result (λ a. a ≡ record { editions = book.old.editions; front = book.old.history }) }
     ensures same { book.new ≡ book.old }
 {
@@ -314,9 +372,9 @@ pub fn add_asker<N: Name, R: Wait + Drop>(book: &mut Book<N, R>) -> Result<Asker
 
 /// Lets the handles see all of the history, and shows that it is their calls and nothing else: they are as many as were
 /// made, in the order of making. After a refusal they may have seen more.
-pub fn audit<N: Name, S: Starter + Drop, R: Wait + Drop>(
-    book: &Book<N, R>,
-    handles: &mut [HandleOf<'_, N, Desk<N, S, R>>],
+pub fn audit<N: Name, S: Starter + Drop, R: Wait + Drop, J: Journal + Drop>(
+    book: &Book<N, R, J>,
+    handles: &mut [HandleOf<'_, N, Desk<N, S, R, J>>],
 ) -> Result<Ticket, TicketFault>
     requires { AreNumbered handles.old }
     ensures all { OnOk result (length handles.new ≡ book.now.made) }

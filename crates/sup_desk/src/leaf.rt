@@ -1,13 +1,15 @@
 //! What the book holds, with entries that are not yet published.
-ghost use Rattle.std.specs.Prelude.{◌≡◌, ◌+◌, ◌-◌, ◌<◌, ◌≤◌, ◌^◌, slice_index, slice_set, ◌++◌, ◌∷◌, [], length, All, ◌⊎◌, MatchBool, MatchResult, IfOk, OnErr, true, false, vec_len, vec_capacity};
+ghost use Rattle.std.specs.Prelude.{◌≡◌, ◌+◌, ◌-◌, ◌<◌, ◌≤◌, ◌^◌, slice_index, slice_set, ◌++◌, ◌∷◌, [], length, All, ◌⊎◌, MatchBool, MatchResult, IfOk, OnOk, OnErr, IfErr, IfSome, Some, None, true, false, vec_len, vec_capacity};
 ghost use mathlib.Core.List.{IsPrefix};
 ghost use Rattle.sup_core.specs.Account.{state_after, reply_after};
 ghost use Rattle.sup_core.specs.Replies.{asked_argument};
 ghost use Rattle.sup_log.specs.Tokens.{standing, history_of, in_one_step};
 ghost use Rattle.sup_desk.specs.Knowledge.{entries_of};
 ghost use Rattle.sup_desk.specs.Books.{IsMade, IsSplit};
+ghost use Rattle.sup_desk.specs.Journals.{IsKept};
 
 use crate::handle::HandleOf;
+use crate::journal::{Journal, JournalFault};
 use crate::name::Name;
 use std::marker::{Model, PhantomData};
 use std::sync::Wait;
@@ -15,52 +17,74 @@ use sup_core::{Asked, Sup};
 use sup_log::{Lens, NoPlace, Press, Ticket};
 use sup_types::{Entry, Operation, OutOfMemory, Reply};
 
-/// A supervisor in the state after all that was written, the press, and how many entries each handle has made.
+/// A supervisor in the state after all that was written, the press, the journal and its fault, if it broke off, and how many
+/// published entries each handle has made.
 #[derive(Drop)]
-pub struct Leaf<N: Name, R: Wait + Drop> {
+pub struct Leaf<N: Name, R: Wait + Drop, J: Journal + Drop> {
     sup: Sup,
     press: Press<R>,
+    journal: J,
+    fault: Option<JournalFault>,
     counts: Vec<u64>,
     handles: u64,
     of: PhantomData<N>,
 }
 
-impl<N: Name, R: Wait + Drop> Model for Leaf<N, R> {
+impl<N: Name, R: Wait + Drop, J: Journal + Drop> Model for Leaf<N, R, J> {
     ghost use Rattle.std.specs.Prelude.{◌≡◌, ◌≤◌, ◌++◌, vec_len, vec_capacity};
     ghost use Rattle.sup_log.specs.Tokens.{standing, history_of};
     ghost use Rattle.sup_desk.specs.Books.{Written, IsCounted};
+    ghost use Rattle.sup_desk.specs.Journals.{IsKept};
 
     ghost Value = { Written };
 
-    ghost view = { λ l. record { editions = l.press.editions; published = l.press.published; pending = l.press.pending; made = vec_len l.counts; handles = l.handles } };
+    ghost view = { λ l. record { editions = l.press.editions; published = l.press.published; pending = l.press.pending; made = vec_len l.counts; handles = l.handles; fault = l.fault } };
 
     ghost invariant = { λ l. (l.press.press ≡ N.press) × (l.press.template ≡ N.template) × (l.press.published ≡ history_of l.press.editions)
         × (l.sup ≡ standing N.template (l.press.published ++ l.press.pending))
-        × IsCounted (vec_len l.counts) l.counts.items (l.press.published ++ l.press.pending)
-        × (vec_len l.counts ≤ l.handles) × (l.handles ≤ vec_capacity l.counts) × (l.handles ≤ 1024) };
+        × IsCounted (vec_len l.counts) l.counts.items l.press.published
+        × (vec_len l.counts ≤ l.handles) × (l.handles ≤ vec_capacity l.counts) × (l.handles ≤ 1024)
+        × IsKept (J.has l.journal N.template) (J.is_torn l.journal N.template) J.may_fail l.fault l.press.published l.press.pending };
 }
 
-/// One entry more of the handle with this number, which has fewer than there may be in a history.
-fn count_one(counts: &mut Vec<u64>, number: u64)
+/// What is left of a desk that was closed: a ticket for all of its history, and its journal with the fault, if it broke off.
+#[derive(Drop)]
+pub struct Closed<J> {
+    pub ticket: Ticket,
+    pub journal: J,
+    pub fault: Option<JournalFault>,
+}
+
+/// So many entries more of the handle with this number, which has no more than there may be in a history.
+fn count_more(counts: &mut Vec<u64>, number: u64, more: u64)
     requires made { IsMade (vec_len counts.old) number }
-    requires room { slice_index counts.old.items (number - 1) < 2 ^ 62 }
-    ensures items { counts.new.items ≡ slice_set counts.old.items (number - 1) (slice_index counts.old.items (number - 1) + 1) }
+    requires room { slice_index counts.old.items (number - 1) + more < 2 ^ 63 }
+    ensures items { counts.new.items ≡ slice_set counts.old.items (number - 1) (slice_index counts.old.items (number - 1) + more) }
     ensures len { (vec_len counts.new ≡ vec_len counts.old) × (vec_capacity counts.new ≡ vec_capacity counts.old) }
 {
-    counts[(number - 1) as usize] += 1;
+    counts[(number - 1) as usize] += more;
 }
 
-impl<N: Name, R: Wait + Drop> Leaf<N, R> {
+impl<N: Name, R: Wait + Drop, J: Journal + Drop> Leaf<N, R, J> {
     /// Nothing is written, and no handle was made.
-    pub fn begin(press: Press<R>, sup: Sup, counts: Vec<u64>, handles: u64) -> Leaf<N, R>
+    pub fn begin(
+        press: Press<R>,
+        sup: Sup,
+        journal: J,
+        counts: Vec<u64>,
+        handles: u64,
+    ) -> Leaf<N, R, J>
+        requires journal { J.has journal N.template [] [] }
         requires press { (press.press ≡ N.press) × (press.template ≡ N.template) × (press.pending ≡ []) × (press.published ≡ []) × (press.editions ≡ []) }
         requires sup { sup ≡ standing N.template [] }
         requires counts { (vec_len counts ≡ 0) × (handles ≤ vec_capacity counts) × (handles ≤ 1024) }
-        ensures { result ≡ record { editions = []; published = []; pending = []; made = 0; handles = handles } }
+        ensures { result ≡ record { editions = []; published = []; pending = []; made = 0; handles = handles; fault = None } }
     {
         Leaf {
             sup,
             press,
+            journal,
+            fault: None,
             counts,
             handles,
             of: PhantomData,
@@ -70,7 +94,7 @@ impl<N: Name, R: Wait + Drop> Leaf<N, R> {
     /// How many handles were made.
     pub fn made(&self) -> u64
         ensures made { result ≡ self.now.made }
-        ensures entries { All (λ entry. IsMade self.now.made entry.handle) (self.now.published ++ self.now.pending) }
+        ensures entries { All (λ entry. IsMade self.now.made entry.handle) self.now.published }
     {
         self.counts.len() as u64
     }
@@ -87,7 +111,7 @@ impl<N: Name, R: Wait + Drop> Leaf<N, R> {
     pub fn add(&mut self) -> Result<Lens, NoPlace>
         requires { self.old.made < self.old.handles }
         ensures ok { IfOk result (λ l. (l ≡ record { press = N.press; template = N.template; editions = self.old.editions; front = self.old.published }) × (self.new ≡ record self.old { made = self.old.made + 1 })) }
-        ensures none { entries_of (self.old.published ++ self.old.pending) (self.old.made + 1) ≡ [] }
+        ensures none { entries_of self.old.published (self.old.made + 1) ≡ [] }
         ensures err { OnErr result (self.new ≡ self.old) }
     {
         let lens = self.press.lens()?;
@@ -110,26 +134,35 @@ impl<N: Name, R: Wait + Drop> Leaf<N, R> {
         self.press.tell()
     }
 
-    /// Whether the handle has seen no more than what is published, and made all entries under its number.
-    pub fn ties<D>(&self, handle: &HandleOf<'_, N, D>) -> bool
-        requires none { self.now.pending ≡ [] }
+    /// The fault of the journal, if it broke off.
+    pub fn fault(&self) -> Option<JournalFault>
+        ensures fault { result ≡ self.now.fault }
+        ensures cause { IfSome result (λ f. J.may_fail f) }
+    {
+        self.fault
+    }
+
+    /// Whether the handle has seen no more than what is published, which is told, and made all published entries under its
+    /// number.
+    pub fn ties<D>(&self, handle: &HandleOf<'_, N, D>, told: &Ticket) -> bool
+        requires told { told.now ≡ record { press = N.press; editions = self.now.editions; front = self.now.published } }
         requires learnt { IsPrefix self.now.published handle.now.front }
         requires editions { IsPrefix self.now.editions handle.now.editions }
         ensures tied { result ≡ true → (handle.now.front ≡ self.now.published) × (entries_of self.now.published handle.now.number ≡ handle.now.calls) × IsMade self.now.made handle.now.number }
         ensures editions { result ≡ true → handle.now.editions ≡ self.now.editions }
         ensures whole { handle.now.front ≡ history_of handle.now.editions }
-        ensures split { result ≡ false → IsSplit (record { editions = self.now.editions; history = self.now.published; made = self.now.made; handles = self.now.handles }) handle.now }
+        ensures split { result ≡ false → IsSplit (record { editions = self.now.editions; history = self.now.published; made = self.now.made; handles = self.now.handles; fault = self.now.fault }) handle.now }
     {
-        if handle.front() != self.sup.stamp() {
+        if handle.front() != told.stamp() {
             return false;
         }
         self.counts_as(handle.number(), handle.calls())
     }
 
-    /// Whether so many entries were made under this number.
+    /// Whether so many published entries were made under this number.
     fn counts_as(&self, number: u64, calls: u64) -> bool
-        ensures yes { result ≡ true → IsMade self.now.made number × (length (entries_of (self.now.published ++ self.now.pending) number) ≡ calls) }
-        ensures no { result ≡ false → ¬ (IsMade self.now.made number × (length (entries_of (self.now.published ++ self.now.pending) number) ≡ calls)) }
+        ensures yes { result ≡ true → IsMade self.now.made number × (length (entries_of self.now.published number) ≡ calls) }
+        ensures no { result ≡ false → ¬ (IsMade self.now.made number × (length (entries_of self.now.published number) ≡ calls)) }
     {
         if number == 0 || number > self.counts.len() as u64 {
             return false;
@@ -137,12 +170,13 @@ impl<N: Name, R: Wait + Drop> Leaf<N, R> {
         self.counts[(number - 1) as usize] == calls
     }
 
-    /// How many entries the handle with this number has made.
+    /// How many entries the handle with this number has made. All that is pending is its own.
     pub fn serial(&self, number: u64) -> u64
-        requires { IsMade self.now.made number }
+        requires made { IsMade self.now.made number }
+        requires mine { entries_of self.now.pending number ≡ self.now.pending }
         ensures { result ≡ length (entries_of (self.now.published ++ self.now.pending) number) }
     {
-        self.counts[(number - 1) as usize]
+        self.counts[(number - 1) as usize] + self.press.pending().len() as u64
     }
 
     /// Whether there are all the entries that there may be.
@@ -160,9 +194,10 @@ impl<N: Name, R: Wait + Drop> Leaf<N, R> {
         self.sup.asks(operation, moment)
     }
 
-    /// Writes one entry, for which this was asked, and which is then pending. After a refusal nothing has changed.
+    /// Writes one entry, for which this was asked, and which is then pending, and ready in the journal. After a refusal nothing
+    /// has changed.
     pub fn append(&mut self, entry: Entry, asked: &Asked) -> Result<Reply, OutOfMemory>
-        requires made { IsMade self.old.made entry.handle }
+        requires whole { self.old.fault ≡ None }
         requires room { length (self.old.published ++ self.old.pending) < N.template.entries }
         ensures ok { IfOk result (λ r. (r ≡ reply_after N.template (self.old.published ++ self.old.pending) entry) × (self.new ≡ record self.old { pending = self.old.pending ++ entry ∷ [] })) }
         ensures err { OnErr result (self.new ≡ self.old) }
@@ -170,15 +205,45 @@ impl<N: Name, R: Wait + Drop> Leaf<N, R> {
         self.press.append(entry)?;
         let pending = self.press.pending();
         let entry = &pending[pending.len() - 1];
-        let reply = self.sup.step_asked(entry, asked);
-        count_one(&mut self.counts, entry.handle);
-        Ok(reply)
+        if self.journal.prepare(entry).is_err() {
+            self.press.retract();
+            return Err(OutOfMemory);
+        }
+        Ok(self.sup.step_asked(entry, asked))
     }
 
-    /// Publishes what is pending, as one publication.
-    pub fn publish(&mut self)
-        ensures { self.new ≡ record self.old { editions = self.old.editions ++ in_one_step self.old.pending; published = self.old.published ++ self.old.pending; pending = [] } }
+    /// Has the journal record what is pending, which is all of the handle with this number, and then publishes it as one
+    /// publication. Where the journal breaks off, nothing is published.
+    pub fn commit(&mut self, number: u64) -> Result<(), JournalFault>
+        requires whole { self.old.fault ≡ None }
+        requires made { IsMade self.old.made number }
+        requires mine { entries_of self.old.pending number ≡ self.old.pending }
+        ensures ok { OnOk result (self.new ≡ record self.old { editions = self.old.editions ++ in_one_step self.old.pending; published = self.old.published ++ self.old.pending; pending = [] }) }
+        ensures err { IfErr result (λ f. (self.new ≡ record self.old { fault = Some f }) × J.may_fail f) }
     {
+        if let Err(fault) = self.journal.record() {
+            self.fault = Some(fault);
+            return Err(fault);
+        }
+        let more = self.press.pending().len() as u64;
+        count_more(&mut self.counts, number, more);
         self.press.publish();
+        Ok(())
+    }
+
+    /// The journal, with its fault, if it broke off, and a ticket for all that was published. The press ends, which waits for
+    /// the lenses that look.
+    pub fn close(self) -> Closed<J>
+        ensures ticket { result.ticket ≡ record { press = N.press; editions = self.editions; front = self.published } }
+        ensures journal { IsKept (J.has result.journal N.template) (J.is_torn result.journal N.template) J.may_fail result.fault self.published self.pending }
+        ensures fault { result.fault ≡ self.fault }
+    {
+        let ticket = self.press.tell();
+        let Leaf { journal, fault, .. } = self;
+        Closed {
+            ticket,
+            journal,
+            fault,
+        }
     }
 }

@@ -1,5 +1,6 @@
 //! The press: it makes entries pending, and publishes them.
-ghost use Rattle.std.specs.Prelude.{◌≡◌, ◌<◌, ◌≤◌, ◌+◌, ◌^◌, [], ◌∷◌, ◌++◌, length, IfOk, MatchResult};
+ghost use Rattle.std.specs.Prelude.{◌≡◌, ◌<◌, ◌≤◌, ◌+◌, ◌^◌, List, [], ◌∷◌, ◌++◌, length, IfOk, MatchResult};
+ghost use Rattle.sup_types.specs.declared.history.Entry.{Entry};
 ghost use Rattle.sup_log.specs.Tokens.{in_one_step};
 
 use crate::batch::Batch;
@@ -89,9 +90,17 @@ impl<R: Wait + Drop> Press<R> {
         }
     }
 
+    /// Takes back the entry that was made pending last.
+    pub fn retract(&mut self)
+        ensures { (before : List Entry) (last : Entry) → self.old.pending ≡ before ++ last ∷ [] → self.new ≡ record self.old { pending = before } }
+    {
+        let _ = self.pending.pop();
+    }
+
     /// What is pending, in order.
     pub fn pending(&self) -> &[Entry]
-        ensures { result.now ≡ self.now.pending }
+        ensures items { result.now ≡ self.now.pending }
+        ensures room { length self.now.published + length self.now.pending ≤ self.now.template.entries }
     {
         self.pending.as_slice()
     }

@@ -1,5 +1,3 @@
-use Rattle.std.proofs.Common.{◌≡◌}
-use Rattle.sup_desk.specs.Books.{grown_by}
 use Rattle.sup_desk.proofs.Results.{HasMet, some_by, update_result}
 use Rattle.sup_desk.proofs.laws.enter.Goals as goal
 

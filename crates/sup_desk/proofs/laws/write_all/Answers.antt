@@ -1,13 +1,13 @@
-use Rattle.std.proofs.Common.{◌≡◌, ◌+◌, ℕ, List, ◌++◌, ◌∷◌, [], length, take, drop, refl, ap, sym, ◌∙◌, subst, arith, append-nil, append_assoc, length-append, slice_get, ◌<◌, Some}
+use Rattle.std.proofs.Common.{◌≡◌, ◌+◌, ℕ, List, ◌++◌, ◌∷◌, [], length, take, refl, ap, sym, ◌∙◌, subst, arith, append-nil, append_assoc, length-append, get_or, ◌<◌}
 use Rattle.std.proofs.lemmas.List.{nil_from_length}
 use Rattle.sup_types.specs.declared.history.Operation.{Operation}
 use Rattle.sup_types.specs.declared.history.Reply.{Reply}
 use Rattle.sup_types.specs.declared.history.Entry.{Entry}
 use Rattle.sup_core.specs.Account.{reply_after}
 use Rattle.sup_desk.specs.Books.{Written, with_pending}
-use Rattle.sup_desk.specs.Batches.{AreEntered, AreWritten}
+use Rattle.sup_desk.specs.Batches.{AreEntered}
 use Rattle.sup_desk.specs.Knowledge.{entries_of, IsEntryOf}
-use Rattle.sup_desk.specs.BatchLaws.{entered-push, entered-own, front_next, first_is, first_by}
+use Rattle.sup_desk.specs.BatchLaws.{entered-push, entered-own, next_of}
 use Rattle.sup_desk.specs.EntryLaws.{entries-append}
 use Rattle.sup_desk.proofs.laws.write_all.Goals as goal
 
@@ -24,12 +24,23 @@ queue-init g c =
       written = (
         [],
         subst (λ (l : List Reply). AreEntered g.S.Starter.may_answer g.N.Name.template c.args.number c.args.moment before serial (take (length l) operations) [] l) empty (refl, refl),
-        λ i. record { editions = leaf.editions; published = leaf.published; pending = sym (append-nil leaf.pending) i; made = leaf.made; handles = leaf.handles },
+        λ i. record { editions = leaf.editions; published = leaf.published; pending = sym (append-nil leaf.pending) i; made = leaf.made; handles = leaf.handles; fault = leaf.fault },
       );
-      rest = sym (ap (λ (i : ℕ). drop i operations) none);
       within = omega (arith, none);
       room = refl;
     }
+
+pub serial-serial-requires-clause-mine : goal.serial-serial-requires-clause-mine
+serial-serial-requires-clause-mine g c =
+    let first : Written = c.args.leaf.now in
+    let written = c.queue.invariant.written in
+    let entries : List Entry = written.0 in
+    let before : List Entry = first.published ++ first.pending in
+    let own : entries_of entries c.args.number ≡ entries =
+    entered-own g.S.Starter.may_answer g.N.Name.template c.args.number c.args.moment before (length (entries_of before c.args.number))
+    (take (length c.queue.replies.items) c.args.operations.now.items) entries c.queue.replies.items written.1 in
+    let pending : c.queue.leaf.pending ≡ entries = ap (λ (w : Written). w.pending) written.2 ∙ ap (λ (l : List Entry). l ++ entries) c.requires.clean in
+    subst (λ (l : List Entry). entries_of l c.args.number ≡ l) (sym pending) own
 
 pub queue-preserved : goal.queue-preserved
 queue-preserved g c =
@@ -42,14 +53,12 @@ queue-preserved g c =
     let now : Written = c.queue.leaf in
     let k : ℕ = length replies in
     let op : Operation = c.in-Some.operation.now in
-    let items : List Operation = c.queue.operations.items in
-    let some : 0 < length items = grind (arith, c.in-Some.ensures.variant, c.queue.operations.ok) in
-    let lookup : slice_get items 0 ≡ Some op =
-    first_by items op some (c.in-Some.ensures.lookup) in
-    let step = front_next k operations op (drop 1 items) (sym old.rest ∙ first_is items op lookup) in
+    let here : c.len.result ≡ k = omega (arith, c.len.ensures, c.queue.replies.ok.0) in
+    let low : k < length operations = grind (arith, here, c.in-Some.ensures.variant, c.args.operations.now.ok) in
+    let next = next_of k operations op low (c.in-Some.ensures.lookup ∙ ap (λ (i : ℕ). get_or operations i op) here) in
     let pushed = c.push_reserved.ensures in
     let long : length c.push_reserved.new.self.items ≡ k + 1 = ap length pushed.items ∙ length-append replies (c.in-Ok.reply ∷ []) in
-    let taken : take (length c.push_reserved.new.self.items) operations ≡ take k operations ++ op ∷ [] = ap (λ (i : ℕ). take i operations) long ∙ step.0 in
+    let taken : take (length c.push_reserved.new.self.items) operations ≡ take k operations ++ op ∷ [] = ap (λ (i : ℕ). take i operations) long ∙ next in
     let before : List Entry = first.published ++ first.pending in
     let serial : ℕ = length (entries_of before c.args.number) in
     let entries : List Entry = old.written.0 in
@@ -74,9 +83,8 @@ queue-preserved g c =
         subst (λ (l : List Operation). AreEntered may template c.args.number c.args.moment before serial l (entries ++ entry ∷ []) c.push_reserved.new.self.items) (sym taken)
             (subst (λ (l : List Reply). AreEntered may template c.args.number c.args.moment before serial (take k operations ++ op ∷ []) (entries ++ entry ∷ []) l) (sym pushed.items) more),
         written.3 ∙ ap (λ (w : Written). with_pending w (entry ∷ [])) is
-            ∙ (λ i. record { editions = first.editions; published = first.published; pending = append_assoc first.pending entries (entry ∷ []) i; made = first.made; handles = first.handles }),
+            ∙ (λ i. record { editions = first.editions; published = first.published; pending = append_assoc first.pending entries (entry ∷ []) i; made = first.made; handles = first.handles; fault = first.fault }),
       );
-      rest = c.pop_front.ensures.rest ∙ sym step.1 ∙ ap (λ (i : ℕ). drop i operations) (sym long);
-      within = omega (arith, long, step.2);
+      within = omega (arith, long, low);
       room = pushed.capacity ∙ old.room;
     }

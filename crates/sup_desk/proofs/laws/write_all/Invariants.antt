@@ -1,15 +1,14 @@
-use Rattle.std.proofs.Common.{◌≡◌, ◌≤◌, length, take, drop, vec_capacity}
+use Rattle.std.proofs.Common.{◌≡◌, ◌≤◌, ◌-◌, length, take, vec_capacity}
 use Rattle.sup_desk.specs.Batches.{AreWritten}
 use Rattle.sup_desk.proofs.laws.write_all.Given as goal
 
--- so many operations were written as there are replies, and the others are left
+-- so many operations were written as there are replies
 abbrev pub invariant-queue : goal.invariant-queue
 invariant-queue g l = record {
-  written : AreWritten g.S.Starter.may_answer g.N.Name.template l.initial.leaf l.number l.moment (take (length l.replies.items) l.initial.operations.items) l.replies.items l.leaf;
-  rest : l.operations.items ≡ drop (length l.replies.items) l.initial.operations.items;
-  within : length l.replies.items ≤ length l.initial.operations.items;
+  written : AreWritten g.S.Starter.may_answer g.N.Name.template l.initial.leaf l.number l.moment (take (length l.replies.items) l.operations.items) l.replies.items l.leaf;
+  within : length l.replies.items ≤ length l.operations.items;
   room : vec_capacity l.replies ≡ vec_capacity l.initial.replies;
 }
 
 abbrev pub decreases-queue : goal.decreases-queue
-decreases-queue g l = length l.operations.items
+decreases-queue g l = length l.operations.items - length l.replies.items

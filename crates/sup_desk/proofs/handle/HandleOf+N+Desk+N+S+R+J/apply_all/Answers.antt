@@ -1,7 +1,7 @@
 use Rattle.std.proofs.Common.{IfNone}
 use Rattle.std.specs.declared.option.Option.{Option}
 use Rattle.std.specs.declared.option.Option.TheVariants.{None, Some}
-use Rattle.sup_desk.proofs.handle.HandleOf+N+Desk+N+S+R.apply_all.Goals as goal
+use Rattle.sup_desk.proofs.handle.HandleOf+N+Desk+N+S+R+J.apply_all.Goals as goal
 
 pub returns-clause-nothing : goal.returns-clause-nothing
 returns-clause-nothing g c = none_then c.in-Err.field-0.ticket (λ p. (p.0, p.1, p.2)) c.in-Err.ensures.nothing
@@ -12,3 +12,6 @@ returns-clause-nothing g c = none_then c.in-Err.field-0.ticket (λ p. (p.0, p.1,
 
 pub returns-clause-split : goal.returns-clause-split
 returns-clause-split g c = λ is. (c.in-Err.ensures.split is).0
+
+pub returns-clause-journal : goal.returns-clause-journal
+returns-clause-journal g c = λ f is. let told = c.in-Err.ensures.journal f is in (told.0, told.2)

@@ -1,0 +1,68 @@
+//! Journals: what keeps a record of a desk's history.
+ghost use Rattle.std.specs.Prelude.{◌≡◌, OnOk, OnErr, IfErr};
+ghost use Rattle.sup_desk.specs.Journals.{HoldsOneMore, HasAll, IsTornOff};
+
+use sup_types::{Entry, OutOfMemory};
+use thiserror::Error;
+
+/// Why a journal records nothing more.
+#[derive(Clone, Copy, Debug, PartialEq, Eq, Error)]
+pub enum JournalFault {
+    /// Its writer answered an error.
+    #[error("its writer answered an error")]
+    Failed,
+    /// Its writer took nothing of bytes that were not empty.
+    #[error("its writer took nothing")]
+    TookNothing,
+}
+
+/// What keeps a record of a supervisor's history: a file, say, to which the text of each entry is written. A desk makes each
+/// entry ready before the supervisor takes it, and has it recorded before it is published.
+pub trait Journal {
+    ghost use Rattle.std.specs.Prelude.{List};
+    ghost use Rattle.sup_types.specs.declared.template.Template.{Template};
+    ghost use Rattle.sup_types.specs.declared.history.Entry.{Entry};
+    ghost use Rattle.sup_desk.specs.declared.journal.JournalFault.{JournalFault};
+
+    /// Whether the journal has recorded this history of a supervisor of this template, and holds these further entries ready.
+    ghost has: { Self → Template → List Entry → List Entry → Type 0 };
+
+    /// Whether a record of these further entries broke off: the journal has recorded this history, and of these at most a part.
+    ghost is_torn: { Self → Template → List Entry → List Entry → Type 0 };
+
+    /// Whether a record may fail so.
+    ghost may_fail: { JournalFault → Type 0 };
+
+    /// Makes an entry ready to be recorded, behind those that are. It records nothing. After a refusal nothing has changed.
+    fn prepare(&mut self, entry: &Entry) -> Result<(), OutOfMemory>
+        ensures ok { OnOk result (HoldsOneMore has self.old self.new entry.now) }
+        ensures err { OnErr result (self.new ≡ self.old) };
+
+    /// Records what is ready, in one write.
+    fn record(&mut self) -> Result<(), JournalFault>
+        ensures ok { OnOk result (HasAll has self.old self.new) }
+        ensures err { OnErr result (IsTornOff has is_torn self.old self.new) }
+        ensures cause { IfErr result (λ fault. may_fail fault) };
+}
+
+/// No journal: nothing is recorded, and nothing can fail.
+#[derive(Clone, Copy, Debug, Default, PartialEq, Eq)]
+pub struct NoJournal;
+
+impl Journal for NoJournal {
+    ghost use Rattle.std.specs.Prelude.{⊤};
+
+    ghost has = { λ _ _ _ _. ⊤ };
+
+    ghost is_torn = { λ _ _ _ _. ⊤ };
+
+    ghost may_fail = { λ _. ⊥ };
+
+    fn prepare(&mut self, _entry: &Entry) -> Result<(), OutOfMemory> {
+        Ok(())
+    }
+
+    fn record(&mut self) -> Result<(), JournalFault> {
+        Ok(())
+    }
+}
