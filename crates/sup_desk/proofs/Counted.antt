@@ -117,8 +117,8 @@ counted_all made counts history entries number place len counted mine here own =
         get_or-set_other counts place k (get_or counts place 0 + length entries) 0 differ
         ∙ counted.0 k within
         ∙ sym (ap length (entries-append (k + 1) history entries
-            ∙ ap (λ l. entries_of history (k + 1) ++ l) (others_none number (k + 1) entries (own_all number entries own) other)
-            ∙ append-nil (entries_of history (k + 1))))
+        ∙ ap (λ l. entries_of history (k + 1) ++ l) (others_none number (k + 1) entries (own_all number entries own) other)
+        ∙ append-nil (entries_of history (k + 1))))
 
 -- a handle that has seen just what is published, and has made as many calls as it has entries
 pub tied_is : (published front calls : List Entry) (number made n k : ℕ) → IsPrefix published front → length front ≡ length published

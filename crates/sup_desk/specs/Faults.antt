@@ -8,6 +8,8 @@ use Rattle.sup_desk.specs.declared.faults.QueryFault.{QueryFault}
 use Rattle.sup_desk.specs.declared.faults.QueryFault.TheVariants as query
 use Rattle.sup_desk.specs.declared.faults.HandleFault.{HandleFault}
 use Rattle.sup_desk.specs.declared.faults.HandleFault.TheVariants as handle
+use Rattle.sup_desk.specs.declared.recovery.RecoverFault.{RecoverFault}
+use Rattle.sup_desk.specs.declared.recovery.RecoverFault.TheVariants as recover
 use Rattle.sup_desk.specs.declared.faults.DeskFault.{DeskFault}
 use Rattle.sup_desk.specs.declared.faults.DeskFault.TheVariants as desk
 
@@ -29,6 +31,12 @@ query_fault_number query.Gone = 4
 abbrev pub handle_fault_number : HandleFault → ℕ
 handle_fault_number handle.NoHandle = 5
 handle_fault_number handle.NoPlace = 6
+
+abbrev pub recover_fault_number : RecoverFault → ℕ
+recover_fault_number recover.OutOfMemory = 1
+recover_fault_number recover.HistoryFull = 2
+recover_fault_number recover.NoHandle = 5
+recover_fault_number recover.BadTemplate = 7
 
 abbrev pub desk_fault_number : DeskFault → ℕ
 desk_fault_number desk.OutOfMemory = 1

@@ -24,3 +24,9 @@ IsTornOff has torn old new =
 abbrev pub IsKept : (List Entry → List Entry → Type 0) → (List Entry → List Entry → Type 0) → (JournalFault → Type 0) → Option JournalFault → List Entry → List Entry → Type 0
 IsKept has torn may None published pending = has published pending
 IsKept has torn may (Some fault) published pending = torn published pending × may fault
+
+-- the journal of a desk that was closed with this history has recorded just that; if it broke off, it has recorded that, and at
+-- most a part of what was refused
+abbrev pub HasJust : (List Entry → List Entry → Type 0) → (List Entry → List Entry → Type 0) → (JournalFault → Type 0) → Option JournalFault → List Entry → Type 0
+HasJust has torn may None history = has history []
+HasJust has torn may (Some fault) history = ((refused : List Entry) × torn history refused) × may fault

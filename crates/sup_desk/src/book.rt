@@ -1,8 +1,7 @@
 //! The book: what stands under the lock.
-ghost use Rattle.std.specs.Prelude.{◌≡◌, List};
-ghost use Rattle.sup_types.specs.declared.history.Entry.{Entry};
+ghost use Rattle.std.specs.Prelude.{◌≡◌};
 ghost use Rattle.sup_desk.specs.Books.{IsClean};
-ghost use Rattle.sup_desk.specs.Journals.{IsKept};
+ghost use Rattle.sup_desk.specs.Journals.{HasJust};
 
 use crate::journal::Journal;
 use crate::leaf::{Closed, Leaf};
@@ -40,7 +39,7 @@ impl<N: Name, R: Wait + Drop, J: Journal + Drop> Book<N, R, J> {
     /// Ends the book: what is left of it.
     pub(crate) fn close(self) -> Closed<J>
         ensures ticket { result.ticket ≡ record { press = N.press; editions = self.editions; front = self.history } }
-        ensures journal { (ready : List Entry) × IsKept (J.has result.journal N.template) (J.is_torn result.journal N.template) J.may_fail result.fault self.history ready × IsClean result.fault ready }
+        ensures journal { HasJust (J.has result.journal N.template) (J.is_torn result.journal N.template) J.may_fail result.fault self.history }
     {
         let Book { leaf } = self;
         leaf.close()

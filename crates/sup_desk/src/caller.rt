@@ -1,5 +1,6 @@
 //! Callers: what a handle carries apart from its desk.
-ghost use Rattle.std.specs.Prelude.{◌≡◌, []};
+ghost use Rattle.std.specs.Prelude.{◌≡◌, [], length};
+ghost use Rattle.sup_desk.specs.Knowledge.{entries_of};
 
 use crate::asker::Asker;
 use crate::name::Name;
@@ -34,6 +35,18 @@ impl<N: Name> Caller<N> {
             number,
             asker,
             calls: 0,
+        }
+    }
+
+    /// A caller with this number, which has made all entries of its front under it.
+    pub(crate) fn again(number: u64, asker: Asker<N>, calls: u64) -> Caller<N>
+        requires { calls ≡ length (entries_of asker.front number) }
+        ensures { result ≡ record { number = number; editions = asker.editions; front = asker.front; calls = entries_of asker.front number } }
+    {
+        Caller {
+            number,
+            asker,
+            calls,
         }
     }
 

@@ -1,9 +1,8 @@
 //! Desks: what threads share.
-ghost use Rattle.std.specs.Prelude.{◌≡◌, ◌≤◌, List, [], length, All, IfOk, IfErr};
-ghost use Rattle.sup_types.specs.declared.history.Entry.{Entry};
+ghost use Rattle.std.specs.Prelude.{◌≡◌, ◌≤◌, [], length, All, IfOk, IfErr};
 ghost use Rattle.sup_desk.specs.Knowledge.{entries_of};
-ghost use Rattle.sup_desk.specs.Books.{IsMade, IsClean};
-ghost use Rattle.sup_desk.specs.Journals.{IsKept};
+ghost use Rattle.sup_desk.specs.Books.{IsMade};
+ghost use Rattle.sup_desk.specs.Journals.{HasJust};
 ghost use Rattle.sup_desk.specs.Audits.{AreNumbered, AreGrown, HaveSeenAll};
 
 use crate::asker::Asker;
@@ -13,12 +12,13 @@ use crate::faults::{HandleFault, TicketFault};
 use crate::ground::Ground;
 use crate::handle::HandleOf;
 use crate::journal::{Journal, NoJournal};
-use crate::laws::{add_asker, add_handle, audit};
+use crate::laws::{add_asker, add_handle, audit, resume_handle};
 use crate::leaf::Closed;
 use crate::name::Name;
+use crate::recovery::{RecoverFault, enter_again};
 use std::sync::{Mutex, Wait};
 use sup_log::{NoPlace, Ticket};
-use sup_types::Starter;
+use sup_types::{Entry, Starter};
 
 /// A supervisor that threads share by reference, with the journal `J`, which is none if it is left out.
 #[derive(Drop)]
@@ -45,9 +45,32 @@ impl<N: Name, S: Starter + Drop, R: Wait + Drop, J: Journal + Drop> Desk<N, S, R
         requires journal { J.has journal N.template [] [] }
     {
         Desk {
-            book: Mutex::new(ground.book(journal)),
+            book: Mutex::new(Book::of(ground.leaf().with_journal(journal))),
             starter,
         }
+    }
+
+    /// A desk on this ground, which N names, that goes on from a history of before: all of its entries are published, in order,
+    /// and the journal has recorded them. The ticket is for this history, so a handle that learns it has seen all of it. New
+    /// handles get numbers above those of the history; `resume` gives these. A fault where an entry can't be entered: there is no
+    /// desk then.
+    pub fn recover(
+        ground: Ground<R>,
+        starter: S,
+        journal: J,
+        entries: &[Entry],
+    ) -> Result<(Desk<N, S, R, J>, Ticket), RecoverFault>
+        requires name { (ground.press ≡ N.press) × (ground.template ≡ N.template) }
+        requires journal { J.has journal N.template entries.now [] }
+        ensures { IfOk result (λ p. (p.1.press ≡ N.press) × (p.1.front ≡ entries.now)) }
+    {
+        let leaf = enter_again(ground.leaf(), entries)?;
+        let ticket = leaf.tell();
+        let desk = Desk {
+            book: Mutex::new(Book::of(leaf.with_journal(journal))),
+            starter,
+        };
+        Ok((desk, ticket))
     }
 
     /// Ends the desk: a ticket for all of its history, and the journal. The journal has recorded just this history, unless it
@@ -55,7 +78,7 @@ impl<N: Name, S: Starter + Drop, R: Wait + Drop, J: Journal + Drop> Desk<N, S, R
     /// Askers that are left are answered no more.
     pub fn close(self) -> Closed<J>
         ensures ticket { result.ticket.press ≡ N.press }
-        ensures journal { (ready : List Entry) × IsKept (J.has result.journal N.template) (J.is_torn result.journal N.template) J.may_fail result.fault result.ticket.front ready × IsClean result.fault ready }
+        ensures journal { HasJust (J.has result.journal N.template) (J.is_torn result.journal N.template) J.may_fail result.fault result.ticket.front }
     {
         let Desk { book, starter } = self;
         drop(starter);
@@ -68,6 +91,19 @@ impl<N: Name, S: Starter + Drop, R: Wait + Drop, J: Journal + Drop> Desk<N, S, R
         ensures { IfOk result (λ h. (h.calls ≡ []) × (entries_of h.front h.number ≡ []) × (1 ≤ h.number)) }
     {
         Ok(self.bind(add_handle(&mut *self.book.lock(rt))?))
+    }
+
+    /// The handle with this number again: for one that was before a recovery, or that was dropped. It has seen all of the
+    /// history, and its calls are all that stand there under its number. It waits for the lock. NoHandle where none with this
+    /// number was made. Of two handles with one number, the one that makes no update while the other does is split from the desk.
+    pub fn resume<W: Wait>(
+        &self,
+        rt: &W,
+        number: u64,
+    ) -> Result<HandleOf<'_, N, Desk<N, S, R, J>>, HandleFault>
+        ensures { IfOk result (λ h. (h.number ≡ number) × (entries_of h.front number ≡ h.calls)) }
+    {
+        Ok(self.bind(resume_handle(&mut *self.book.lock(rt), number)?))
     }
 
     /// The handle that the caller was.

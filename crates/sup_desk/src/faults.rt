@@ -108,8 +108,8 @@ impl From<OutOfMemory> for QueryFault {
 /// Why no handle was made.
 #[derive(Clone, Copy, Debug, PartialEq, Eq, Error)]
 pub enum HandleFault {
-    /// As many handles were made as the ground said.
-    #[error("all handles were made")]
+    /// As many handles were made as the ground said, or none with the number that was asked for.
+    #[error("all handles were made, or none with this number")]
     NoHandle,
     /// The press has no place for a lens, or no memory for one.
     #[error("no place for a lens is left")]

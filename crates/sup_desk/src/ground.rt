@@ -1,9 +1,8 @@
 //! Grounds: the parts of a book that has no name yet.
 ghost use Rattle.std.specs.Prelude.{◌≡◌, ◌≤◌, ◌↔◌, [], IfOk, None};
 
-use crate::book::Book;
 use crate::faults::DeskFault;
-use crate::journal::Journal;
+use crate::journal::NoJournal;
 use crate::leaf::Leaf;
 use crate::name::Name;
 use std::alloc::Global;
@@ -67,12 +66,10 @@ impl<R: Wait + Drop> Ground<R> {
         }
     }
 
-    /// The book of this ground, which N names, with this journal, which has recorded nothing: nothing is published, and no
-    /// handle was made.
-    pub(crate) fn book<N: Name, J: Journal + Drop>(self, journal: J) -> Book<N, R, J>
-        requires name { (self.press ≡ N.press) × (self.template ≡ N.template) }
-        requires journal { J.has journal N.template [] [] }
-        ensures { result ≡ record { editions = []; history = []; made = 0; handles = self.handles; fault = None } }
+    /// The leaf of this ground, which N names: nothing is written, and no handle was made.
+    pub(crate) fn leaf<N: Name>(self) -> Leaf<N, R, NoJournal>
+        requires { (self.press ≡ N.press) × (self.template ≡ N.template) }
+        ensures { result ≡ record { editions = []; published = []; pending = []; made = 0; handles = self.handles; fault = None } }
     {
         let Ground {
             sup,
@@ -80,6 +77,6 @@ impl<R: Wait + Drop> Ground<R> {
             counts,
             handles,
         } = self;
-        Book::of(Leaf::begin(press, sup, journal, counts, handles))
+        Leaf::begin(press, sup, NoJournal, counts, handles)
     }
 }

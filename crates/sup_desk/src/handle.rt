@@ -72,7 +72,11 @@ impl<'d, N: Name, D> Model for HandleOf<'d, N, D> {
 /// that of a supervisor of one thread after a history that begins with all that the handle had seen, learnt or done.
 /// The start function is asked under the lock. After a refusal the history and every published answer are as before. A journal
 /// that breaks off refuses the update and all later ones.
-impl<'d, N: Name, S: Starter + Drop, R: Wait + Drop, J: Journal + Drop> HandleOf<'d, N, Desk<N, S, R, J>> {
+impl<'d, N: Name, S: Starter + Drop, R: Wait + Drop, J: Journal + Drop> HandleOf<
+    'd,
+    N,
+    Desk<N, S, R, J>,
+> {
     /// Starts a child with this argument, at this moment in seconds.
     pub fn start_child<W: Wait>(
         &mut self,
@@ -205,7 +209,11 @@ impl<'d, N: Name, S: Starter + Drop, R: Wait + Drop, J: Journal + Drop> HandleOf
 }
 
 /// Tickets.
-impl<'d, N: Name, S: Starter + Drop, R: Wait + Drop, J: Journal + Drop> HandleOf<'d, N, Desk<N, S, R, J>> {
+impl<'d, N: Name, S: Starter + Drop, R: Wait + Drop, J: Journal + Drop> HandleOf<
+    'd,
+    N,
+    Desk<N, S, R, J>,
+> {
     /// A ticket for all of the history, which the handle has then seen. Its calls are all that stand there under its
     /// number. It waits for the lock.
     pub fn ticket<W: Wait>(&mut self, rt: &W) -> Result<Ticket, TicketFault>

@@ -156,8 +156,8 @@ pub fn enter<N: Name, D, S: Starter, R: Wait + Drop, J: Journal + Drop>(
     if meet(book, handle).is_none() {
         return Err(UpdateFault::Split);
     }
-    if let Some(fault) = book.leaf.fault() {
-        return Err(UpdateFault::Journal(fault));
+    if let Some(broken) = book.leaf.fault() {
+        return Err(UpdateFault::Journal(broken));
     }
     enter_one(book, starter, handle, moment, operation)
 }
@@ -356,6 +356,26 @@ pub fn add_handle<N: Name, R: Wait + Drop, J: Journal + Drop>(
     let number = book.leaf.made() + 1;
     match book.leaf.add() {
         Ok(lens) => Ok(Caller::begin(number, Asker::begin(lens))),
+        Err(_) => Err(HandleFault::NoPlace),
+    }
+}
+
+/// Makes the caller of a handle that was made before. It has seen all of the history, and made all entries under its number. The
+/// book is as it was.
+pub fn resume_handle<N: Name, R: Wait + Drop, J: Journal + Drop>(
+    book: &mut Book<N, R, J>,
+    number: u64,
+) -> Result<Caller<N>, HandleFault>
+    ensures ok { IfOk result (λ c. c ≡ record { number = number; editions = book.old.editions; front = book.old.history; calls = entries_of book.old.history number }) }
+    ensures same { book.new ≡ book.old }
+    ensures none { (result ≡ Err HandleFault.NoHandle) ↔ ¬ IsMade book.old.made number }
+{
+    if number == 0 || number > book.leaf.made() {
+        return Err(HandleFault::NoHandle);
+    }
+    let calls = book.leaf.calls_of(number);
+    match book.leaf.lens() {
+        Ok(lens) => Ok(Caller::again(number, Asker::begin(lens), calls)),
         Err(_) => Err(HandleFault::NoPlace),
     }
 }

@@ -9,7 +9,7 @@ ghost use Rattle.sup_desk.specs.Books.{IsMade, IsSplit};
 ghost use Rattle.sup_desk.specs.Journals.{IsKept};
 
 use crate::handle::HandleOf;
-use crate::journal::{Journal, JournalFault};
+use crate::journal::{Journal, JournalFault, NoJournal};
 use crate::name::Name;
 use std::marker::{Model, PhantomData};
 use std::sync::Wait;
@@ -45,6 +45,33 @@ impl<N: Name, R: Wait + Drop, J: Journal + Drop> Model for Leaf<N, R, J> {
         × IsCounted (vec_len l.counts) l.counts.items l.press.published
         × (vec_len l.counts ≤ l.handles) × (l.handles ≤ vec_capacity l.counts) × (l.handles ≤ 1024)
         × IsKept (J.has l.journal N.template) (J.is_torn l.journal N.template) J.may_fail l.fault l.press.published l.press.pending };
+}
+
+impl<N: Name, R: Wait + Drop> Leaf<N, R, NoJournal> {
+    /// The same with this journal, which has recorded all that is published.
+    pub fn with_journal<J: Journal + Drop>(self, journal: J) -> Leaf<N, R, J>
+        requires clean { (self.fault ≡ None) × (self.pending ≡ []) }
+        requires journal { J.has journal N.template self.published [] }
+        ensures { result ≡ self }
+    {
+        let Leaf {
+            sup,
+            press,
+            counts,
+            handles,
+            of,
+            ..
+        } = self;
+        Leaf {
+            sup,
+            press,
+            journal,
+            fault: None,
+            counts,
+            handles,
+            of,
+        }
+    }
 }
 
 /// What is left of a desk that was closed: a ticket for all of its history, and its journal with the fault, if it broke off.
@@ -99,12 +126,35 @@ impl<N: Name, R: Wait + Drop, J: Journal + Drop> Leaf<N, R, J> {
         self.counts.len() as u64
     }
 
+    /// How many handles there may be.
+    pub fn handles(&self) -> u64
+        ensures { result ≡ self.now.handles }
+    {
+        self.handles
+    }
+
+    /// How many published entries the handle with this number has made.
+    pub fn calls_of(&self, number: u64) -> u64
+        requires { IsMade self.now.made number }
+        ensures { result ≡ length (entries_of self.now.published number) }
+    {
+        self.counts[(number - 1) as usize]
+    }
+
     /// Whether as many handles were made as there may be.
     pub fn has_all(&self) -> bool
         ensures all { result ≡ true → self.now.made ≡ self.now.handles }
         ensures room { result ≡ false → (self.now.made < self.now.handles) × (self.now.handles ≤ 1024) }
     {
         self.counts.len() as u64 >= self.handles
+    }
+
+    /// One handle more was made.
+    pub fn count_handle(&mut self)
+        requires { self.old.made < self.old.handles }
+        ensures { self.new ≡ record self.old { made = self.old.made + 1 } }
+    {
+        self.counts.push_reserved(0);
     }
 
     /// A lens that has seen all that was published, for one handle more. After a refusal nothing has changed.
@@ -115,7 +165,7 @@ impl<N: Name, R: Wait + Drop, J: Journal + Drop> Leaf<N, R, J> {
         ensures err { OnErr result (self.new ≡ self.old) }
     {
         let lens = self.press.lens()?;
-        self.counts.push_reserved(0);
+        self.count_handle();
         Ok(lens)
     }
 

@@ -49,6 +49,7 @@ pub mod laws;
 mod leaf;
 mod name;
 mod program;
+mod recovery;
 
 pub use asker::Asker;
 pub use book::Book;
@@ -61,4 +62,5 @@ pub use journal::{Journal, JournalFault, NoJournal};
 pub use laws::{Done, Rest};
 pub use leaf::Closed;
 pub use name::Name;
-pub use program::{Program, on_desk};
+pub use program::{JournaledProgram, Program, on_desk, on_journaled_desk};
+pub use recovery::RecoverFault;

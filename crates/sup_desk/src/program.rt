@@ -1,14 +1,18 @@
 //! Desks for programs that write no proof: the name is picked here.
-ghost use Rattle.std.specs.Prelude.{◌≡◌, ◌≤◌, ◌↔◌};
+ghost use Rattle.std.specs.Prelude.{◌≡◌, ◌≤◌, ◌↔◌, [], IfOk};
+ghost use Rattle.sup_desk.specs.Journals.{HasJust};
 
 use crate::desk::Desk;
 use crate::faults::DeskFault;
 use crate::ground::Ground;
+use crate::journal::Journal;
+use crate::leaf::Closed;
 use crate::name::Name;
+use crate::recovery::RecoverFault;
 use std::alloc::Global;
 use std::marker::Brand;
 use std::sync::Wait;
-use sup_types::{Starter, Template};
+use sup_types::{Entry, Starter, Template};
 
 /// What is done with a desk. `run` is generic in the desk's name, so its author need not pick one.
 pub trait Program<S: Starter + Drop, R: Wait> {
@@ -18,6 +22,15 @@ pub trait Program<S: Starter + Drop, R: Wait> {
     /// Uses the desk, from which it makes handles and askers. One that shares the desk with other threads names its desk
     /// itself (see the crate's page): the borrow checker of this kit does not cover such a `run` yet.
     fn run<N: Name + Send + Sync>(self, rt: &R, desk: &Desk<N, S, &R>) -> Self::Outcome;
+}
+
+/// What is done with a desk that has a journal.
+pub trait JournaledProgram<S: Starter + Drop, R: Wait, J: Journal + Drop> {
+    /// What comes of it.
+    type Outcome: Drop;
+
+    /// Uses the desk, as a [`Program`] does.
+    fn run<N: Name + Send + Sync>(self, rt: &R, desk: &Desk<N, S, &R, J>) -> Self::Outcome;
 }
 
 /// Makes a desk for a supervisor of this template, for so many handles at a time, 1 to 1,024 of them, and runs the program on
@@ -48,4 +61,54 @@ fn run_named<N: Name + Send + Sync, S: Starter + Drop, R: Wait, P: Program<S, R>
 {
     let desk: Desk<N, S, &R> = Desk::new(ground, starter);
     program.run(rt, &desk)
+}
+
+/// Makes a desk with a journal, runs the program on it and closes it: what came of the program, and the journal with a ticket
+/// for all of the history. The desk goes on from the history that the journal has recorded, which is empty for a new one. At the
+/// end the journal has recorded just the history of the ticket, unless it broke off (see `Desk::close`). So many handles at a
+/// time, 1 to 1,024, with those of the history. Where a desk is refused, the program is not run. Its caller writes no proof.
+pub fn on_journaled_desk<
+    S: Starter + Drop,
+    R: Wait,
+    J: Journal + Drop,
+    P: JournaledProgram<S, R, J> + Drop,
+>(
+    rt: &R,
+    alloc: Global,
+    template: Template,
+    handles: u64,
+    starter: S,
+    journal: J,
+    entries: &[Entry],
+    program: P,
+) -> Result<(P::Outcome, Closed<J>), RecoverFault>
+    requires { J.has journal template entries.now [] }
+    ensures journal { IfOk result (λ p. HasJust (J.has p.1.journal template) (J.is_torn p.1.journal template) J.may_fail p.1.fault p.1.ticket.front) }
+{
+    let ground = Ground::new(alloc, rt, template, handles)?;
+    run_recorded::<Brand, S, R, J, P>(rt, ground, starter, journal, entries, program)
+}
+
+/// Runs the program on a desk of this ground, which N names, and closes the desk.
+fn run_recorded<
+    N: Name + Send + Sync,
+    S: Starter + Drop,
+    R: Wait,
+    J: Journal + Drop,
+    P: JournaledProgram<S, R, J> + Drop,
+>(
+    rt: &R,
+    ground: Ground<&R>,
+    starter: S,
+    journal: J,
+    entries: &[Entry],
+    program: P,
+) -> Result<(P::Outcome, Closed<J>), RecoverFault>
+    requires name { (ground.press ≡ N.press) × (ground.template ≡ N.template) }
+    requires journal { J.has journal N.template entries.now [] }
+    ensures journal { IfOk result (λ p. HasJust (J.has p.1.journal N.template) (J.is_torn p.1.journal N.template) J.may_fail p.1.fault p.1.ticket.front) }
+{
+    let (desk, _) = Desk::<N, S, &R, J>::recover(ground, starter, journal, entries)?;
+    let outcome = program.run(rt, &desk);
+    Ok((outcome, desk.close()))
 }

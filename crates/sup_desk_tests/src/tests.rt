@@ -6,6 +6,7 @@ ghost use Rattle.std.specs.Prelude.{◌≡◌, IfOk};
 mod asking;
 mod batches;
 mod growth;
+mod journals;
 mod meanwhile;
 mod programs;
 mod rows;

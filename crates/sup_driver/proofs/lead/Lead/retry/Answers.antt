@@ -6,7 +6,7 @@ use Rattle.sup_driver.proofs.lead.Lead.retry.Goals as goal
 pub invariant_of-self : goal.invariant_of-self
 invariant_of-self g c =
     let was = c.args.self.now in
-    let e = c.retry.ensures in
+    let e = c.retry.ensures.result in
     record {
       of_inbox = was.of_inbox;
       all = was.all;
