@@ -10,3 +10,4 @@ pub mod OneValue
 pub mod HistoryLines
 pub mod OneCommand
 pub mod Firsts
+pub mod WholeLines

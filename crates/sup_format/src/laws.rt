@@ -1,12 +1,14 @@
 //! Laws of the definitions alone: the functions do nothing, and their contracts are the laws.
 
-ghost use Rattle.std.specs.Prelude.{◌≡◌, ℕ, List};
+ghost use Rattle.std.specs.Prelude.{◌≡◌, ℕ, List, ◌++◌};
 ghost use Rattle.sup_types.specs.declared.template.Template.{Template};
 ghost use Rattle.sup_types.specs.declared.history.Entry.{Entry};
 ghost use Rattle.sup_format.specs.declared.read.command.Command.{Command};
 ghost use Rattle.sup_format.specs.Reading.Headers.{AreHeaderWords, IsFirst};
-ghost use Rattle.sup_format.specs.Reading.History.{Spells, IsSameTemplate};
+ghost use Rattle.sup_format.specs.Reading.History.{Spells, SpellsAs, IsSameTemplate};
 ghost use Rattle.sup_format.specs.Reading.Lines.{LineMeans};
+ghost use Rattle.sup_format.specs.Reading.Texts.{IsFull};
+ghost use Rattle.sup_format.specs.Writing.HistoryTexts.{SpellsFirstsOf};
 
 /// No line spells two commands.
 pub fn one_command()
@@ -21,4 +23,11 @@ pub fn one_header()
 /// No history text, of either version, spells two values.
 pub fn one_value()
     ensures { (bytes : List ℕ) (t u : Template) (es fs : List Entry) → Spells bytes t es → Spells bytes u fs → IsSameTemplate t u × (es ≡ fs) }
+{}
+
+/// Where the text of a history goes on with the lines of further entries, its first whole lines are the text of the history and
+/// the first of these entries: of all but one at most, where bytes are left.
+pub fn whole_lines()
+    ensures { (text front rest : List ℕ) (template : Template) (entries more : List Entry) → SpellsAs text template entries
+        → SpellsAs (text ++ (front ++ rest)) template (entries ++ more) → IsFull front → SpellsFirstsOf (text ++ front) rest template entries more }
 {}

@@ -2,7 +2,7 @@
 //!
 //! A script is a header, which gives the template, and a line for each command: `read_header` and `read_line` read them. A
 //! history text is a template and the entries of a history, with what the start function answered to each. `read_history`
-//! reads one, and `write_history` writes one. `write_reply` writes the text of a reply. `sup_script` runs whole texts by
+//! reads one, and `write_history` writes one; `append_header` and `append_entry` write one line after line. `write_reply` writes the text of a reply. `sup_script` runs whole texts by
 //! these, and passes on what its callers need.
 //!
 //! What the layer above may rely on are what lines mean (`LineMeans`, `Spells`) and the text of each reply
@@ -33,6 +33,6 @@ pub use read::lines::{ended_part, first_line};
 pub use read::tokens::read_reason;
 pub use read::words::{next_word, read_number, split_once};
 pub use watch::{WatchedReader, WatchedWriter};
-pub use write::history_text::write_history;
+pub use write::history_text::{append_entry, append_header, write_history};
 pub use write::outbox::Outbox;
 pub use write::reply::{append_counts, append_refusal, append_reply, append_rows, write_reply};

@@ -1,5 +1,5 @@
 -- Lines that are written word by word are read word by word.
-use Rattle.std.proofs.Common.{◌≡◌, ℕ, ◌+◌, ◌<◌, ◌≤◌, ◌^◌, ◌==◌, Bool, true, false, List, [], ◌∷◌, ◌++◌, length, get_or, take, map, codes, refl, sym, ap, subst, ◌∙◌, append_assoc, arith, inr}
+use Rattle.std.proofs.Common.{◌≡◌, ℕ, ◌+◌, ◌<◌, ◌≤◌, ◌^◌, ◌==◌, Bool, true, false, List, [], ◌∷◌, ◌++◌, length, get_or, take, map, codes, refl, sym, ap, subst, ◌∙◌, append_assoc, append-nil, arith, inr}
 use Rattle.std.specs.Prelude.{nat_le}
 use Rattle.std.specs.List.{list_all, join_with_byte, flat_map}
 use Rattle.std.specs.Fmt.{decimal}
@@ -29,12 +29,14 @@ use Rattle.sup_format.specs.declared.read.tokens.Verb.{Verb}
 use Rattle.sup_format.specs.declared.read.tokens.Verb.TheVariants as verb
 use Rattle.sup_format.specs.Reading.Words.{words_of, Lacks}
 use Rattle.sup_format.specs.Reading.Tokens.{restart_word, kind_word, mark_word, auto_word, reason_word, verb_word, operation_verb, argument_words, IsReason, IsOperation}
-use Rattle.sup_format.specs.Writing.Replies.{line_of, spaced}
+use Rattle.sup_format.specs.Writing.Replies.{line_of, spaced, Grows}
+use Rattle.sup_format.specs.Writing.HistoryTexts.{header_line, entry_line, SpellsOneMore}
 use Rattle.sup_format.specs.Reading.Texts.{lines_of, IsFull}
 use Rattle.sup_format.specs.Reading.Headers.{IsTemplateOf, FitsParts}
-use Rattle.sup_format.specs.Reading.History.{answer_words, entry_words, deed_words, IsAnswer, IsEntry, AreEntries, first_words, template_parts, SpellsAs}
+use Rattle.sup_format.specs.Reading.History.{answer_words, entry_words, deed_words, IsAnswer, IsEntry, EntryMeans, AreEntries, first_words, template_parts, SpellsAs}
 use Rattle.sup_format.proofs.Reading.Cuts.{words-split, words-one}
-use Rattle.sup_format.specs.LineLaws.{lines_at, full-append, full-both}
+use Rattle.sup_format.specs.LineLaws.{lines_at, lines-append, full-append, full-both}
+use Rattle.sup_format.proofs.Reading.Histories.{entries_push}
 
 -- ---- words with neither a space nor a line feed
 
@@ -176,9 +178,6 @@ entry_appended old numbers deed new e p q r =
 
 -- ---- entries
 
-abbrev pub entry_line : Entry → List ℕ
-entry_line e = line_of (entry_words e)
-
 abbrev pub AllEntries : List Entry → Type 0
 AllEntries [] = Unit {0}
 AllEntries (e ∷ es) = IsEntry e × AllEntries es
@@ -251,3 +250,31 @@ pub written_all : (t : Template) (es : List Entry) (i : ℕ) (bytes : List ℕ) 
 written_all t es i bytes end all whole =
     let same : take i es ≡ es = take_all i es end in
     written_spells t es bytes (subst AllEntries same all) (whole ∙ ap (λ (l : List Entry). line_of (first_words t) ++ flat_map entry_line l) same)
+
+-- ---- line after line
+
+pub header_spells : (t : Template) → SpellsAs (header_line t) t []
+header_spells t = written_spells t [] (header_line t) tt (sym (append-nil (header_line t)))
+
+entry_means : (e : Entry) → IsEntry e → EntryMeans (join_with_byte 32 (entry_words e)) e
+entry_means e fits = record { fits = fits; words = words-join (decimal e.handle) (decimal e.serial ∷ decimal e.moment ∷ deed_words e.operation e.answer) (solid_entry e fits) }
+
+one_line : (e : Entry) → IsEntry e → lines_of (entry_line e) ≡ join_with_byte 32 (entry_words e) ∷ []
+one_line e fits = ap lines_of (sym (append-nil (entry_line e))) ∙ lines-line (entry_words e) [] (solid_entry e fits)
+
+pub spells_one_more : (e : Entry) → IsEntry e → SpellsOneMore (entry_line e) e
+spells_one_more e fits = λ text template entries s.
+    let line = join_with_byte 32 (entry_words e) in
+    record {
+      written = s.written;
+      written_is = s.written_is;
+      spelled = record {
+        first = s.spelled.first;
+        body = s.spelled.body ++ line ∷ [];
+        lines = lines-append text (entry_line e) s.spelled.ended ∙ ap (λ (l : List (List ℕ)). l ++ lines_of (entry_line e)) s.spelled.lines ∙ ap (λ (l : List (List ℕ)). s.spelled.first ∷ (s.spelled.body ++ l)) (one_line e fits);
+        ended = full-both text (entry_line e) s.spelled.ended (full-line (entry_words e));
+        first_is = s.spelled.first_is;
+        entries_are = entries_push s.spelled.body entries line e s.spelled.entries_are (entry_means e fits);
+      };
+      version_2 = s.version_2;
+    }

@@ -1,9 +1,10 @@
 //! Writing history texts.
 
-ghost use Rattle.std.specs.Prelude.{◌≡◌, ◌++◌, ◌∷◌, [], ◌<◌, ◌^◌, OnOk, IfOk};
+ghost use Rattle.std.specs.Prelude.{◌≡◌, ◌++◌, ◌∷◌, [], ◌<◌, ◌^◌, OnOk, OnErr, IfOk};
 ghost use Rattle.std.specs.Fmt.{decimal};
-ghost use Rattle.sup_format.specs.Reading.History.{first_words, entry_words, answer_words, IsAnswer, IsEntry, SpellsAs};
-ghost use Rattle.sup_format.specs.Writing.Replies.{line_of, field_word, spaced};
+ghost use Rattle.sup_format.specs.Reading.History.{answer_words, IsAnswer, IsEntry, SpellsAs};
+ghost use Rattle.sup_format.specs.Writing.HistoryTexts.{header_line, entry_line, SpellsOneMore};
+ghost use Rattle.sup_format.specs.Writing.Replies.{line_of, field_word, spaced, Grows};
 ghost use Rattle.sup_format.specs.Reading.Tokens.{restart_word, kind_word, mark_word, auto_word, reason_word, verb_word, operation_verb, argument_words, IsReason, IsOperation};
 
 use crate::write::reply::{Field, append_line, append_spaced};
@@ -22,15 +23,21 @@ pub fn write_history<A: Allocator + Copy>(
     ensures { IfOk result (λ bytes. SpellsAs bytes.items template.now entries.now) }
 {
     let mut text = Vec::new(alloc);
-    append_first(template, &mut text)?;
+    append_header(template, &mut text)?;
     for entry in entries {
         append_entry(entry, &mut text)?;
     }
     Ok(text)
 }
 
-fn append_first<A: Allocator>(template: &Template, text: &mut Vec<u8, A>) -> Result<(), AllocError>
-    ensures { OnOk result (text.new.items ≡ text.old.items ++ line_of (first_words template.now)) }
+/// Appends the first line of a history text of this template, in version 2. By itself it is the text of the template with
+/// no entry. After a refusal there may be a part of it.
+pub fn append_header<A: Allocator>(
+    template: &Template,
+    text: &mut Vec<u8, A>,
+) -> Result<(), AllocError>
+    ensures text { OnOk result (text.new.items ≡ text.old.items ++ header_line template.now) }
+    ensures spelled { SpellsAs (header_line template.now) template.now [] }
 {
     append_line(
         text,
@@ -87,9 +94,13 @@ fn auto_word(auto: AutoShutdown) -> &'static [u8]
     }
 }
 
-fn append_entry<A: Allocator>(entry: &Entry, text: &mut Vec<u8, A>) -> Result<(), AllocError>
-    ensures text { OnOk result (text.new.items ≡ text.old.items ++ line_of (entry_words entry.now)) }
+/// Appends the line of an entry. Behind a history text it makes the text of that history and this entry. After a refusal
+/// there may be a part of it.
+pub fn append_entry<A: Allocator>(entry: &Entry, text: &mut Vec<u8, A>) -> Result<(), AllocError>
+    ensures text { OnOk result (text.new.items ≡ text.old.items ++ entry_line entry.now) }
     ensures fits { OnOk result (IsEntry entry.now) }
+    ensures spelled { OnOk result (SpellsOneMore (entry_line entry.now) entry.now) }
+    ensures err { OnErr result (Grows text.old.items text.new.items) }
 {
     append_numbers(entry.handle, entry.serial, entry.moment, text)?;
     append_operation(&entry.operation, text)?;
@@ -106,6 +117,7 @@ fn append_numbers<A: Allocator>(
 ) -> Result<(), AllocError>
     ensures text { OnOk result (text.new.items ≡ text.old.items ++ spaced (decimal handle ∷ decimal serial ∷ decimal moment ∷ [])) }
     ensures fits { (handle < 2 ^ 64) × (serial < 2 ^ 64) × (moment < 2 ^ 64) }
+    ensures err { OnErr result (Grows text.old.items text.new.items) }
 {
     append_spaced(
         text,
@@ -124,6 +136,7 @@ fn append_operation<A: Allocator>(
 ) -> Result<(), AllocError>
     ensures text { OnOk result (text.new.items ≡ text.old.items ++ spaced (verb_word (operation_verb operation.now) ∷ argument_words operation.now)) }
     ensures fits { IsOperation operation.now }
+    ensures err { OnErr result (Grows text.old.items text.new.items) }
 {
     match operation {
         Operation::Start(argument) => append_spaced(
@@ -164,6 +177,7 @@ fn reason_field(reason: &Reason) -> Field<'_>
 fn append_answer<A: Allocator>(answer: Answer, text: &mut Vec<u8, A>) -> Result<(), AllocError>
     ensures text { OnOk result (text.new.items ≡ text.old.items ++ line_of (answer_words answer)) }
     ensures fits { IsAnswer answer }
+    ensures err { OnErr result (Grows text.old.items text.new.items) }
 {
     match answer {
         Answer::Running => append_line(text, &[Field::Word(b"running")]),

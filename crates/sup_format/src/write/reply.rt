@@ -192,6 +192,7 @@ pub fn append_line<A: Allocator>(out: &mut Vec<u8, A>, fields: &[Field]) -> Resu
 /// Appends words, each with a space behind it.
 pub fn append_spaced<A: Allocator>(out: &mut Vec<u8, A>, fields: &[Field]) -> Result<(), AllocError>
     ensures ok { OnOk result (out.new.items ≡ out.old.items ++ spaced (map field_word fields.now)) }
+    ensures err { OnErr result (Grows out.old.items out.new.items) }
 {
     for field in fields {
         append_field(out, field)?;

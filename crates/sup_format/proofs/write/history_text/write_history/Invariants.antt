@@ -2,7 +2,8 @@ use Rattle.std.proofs.Common.{◌≡◌, ◌++◌, take}
 use Rattle.std.specs.List.{flat_map}
 use Rattle.sup_format.specs.Writing.Replies.{line_of}
 use Rattle.sup_format.specs.Reading.History.{first_words}
-use Rattle.sup_format.proofs.Reading.HistoryLines.{entry_line, AllEntries}
+use Rattle.sup_format.specs.Writing.HistoryTexts.{entry_line}
+use Rattle.sup_format.proofs.Reading.HistoryLines.{AllEntries}
 use Rattle.sup_format.proofs.write.history_text.write_history.Given as goal
 
 abbrev pub invariant-loop-entry : goal.invariant-loop-entry

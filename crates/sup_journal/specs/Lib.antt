@@ -1,0 +1,4 @@
+pub mod Records
+pub mod Begun
+pub mod Ends
+pub mod Faults

@@ -1,0 +1,60 @@
+//! Why a journal was not begun, and why one ended.
+
+use crate::journal::JournalFault;
+use std::io::ErrorKind;
+use thiserror::Error;
+
+/// Why a journal was not begun.
+#[derive(Clone, Copy, Debug, PartialEq, Eq, Error)]
+pub enum BeginFault {
+    /// There was no memory for the first line, and the writer took nothing.
+    #[error("out of memory")]
+    OutOfMemory,
+    /// The writer took a part of the first line, or nothing.
+    #[error("the journal's writer refused its first line")]
+    Refused(JournalFault),
+}
+
+impl BeginFault {
+    ghost use Rattle.std.specs.Prelude.{◌≡◌};
+    ghost use Rattle.sup_journal.specs.Faults.{begin_fault_number};
+
+    /// The number of the fault: 1 or 11, in the order of the variants.
+    pub fn number(self) -> u8
+        ensures { result ≡ begin_fault_number self }
+    {
+        match self {
+            BeginFault::OutOfMemory => 1,
+            BeginFault::Refused(fault) => fault.number(),
+        }
+    }
+}
+
+/// A journal that was not begun, and its writer.
+#[derive(Debug, Drop)]
+pub struct NotBegun<W> {
+    pub fault: BeginFault,
+    pub writer: W,
+}
+
+/// What ended a journal.
+#[derive(Clone, Copy, Debug, PartialEq, Eq)]
+pub enum End {
+    Error(ErrorKind),
+    TookNothing,
+}
+
+impl End {
+    ghost use Rattle.std.specs.Prelude.{◌≡◌};
+    ghost use Rattle.sup_journal.specs.Ends.{fault_of};
+
+    /// The fault that a record answers.
+    pub fn fault(self) -> JournalFault
+        ensures { result ≡ fault_of self }
+    {
+        match self {
+            End::Error(_) => JournalFault::Failed,
+            End::TookNothing => JournalFault::TookNothing,
+        }
+    }
+}

@@ -1,0 +1,33 @@
+//! The text journal of a shared supervisor: what its history was is on a file, or in memory, before anyone sees it.
+//!
+//! A [`Journal`] is told each entry before it is published. [`TextJournal`] writes the history text: the first line when
+//! it is made, and then a line for each entry, in version 2. A batch is one write. So what its writer took is, at any time
+//! between two records, the text of the history so far. `sup_format::read_history` reads it back: whatever text a journal
+//! recorded is read as this template and exactly these entries (`laws::one_history`).
+//!
+//! A writer may refuse in the midst of a batch. It then holds the text of the entries before the batch and a first part of
+//! the text of the batch. The whole lines of that, which `sup_format::ended_part` gives, are read as the entries before and
+//! the first few of the batch, but not all of them (`laws::whole_lines`). The journal records nothing more.
+//!
+//! What the writer held at first is said by the type: a [`Origin`]. `Brand` stands for an empty writer, and `Unknown` for
+//! one like a file, of which no clause says what it holds.
+//!
+//! ```text
+//! let mut journal = TextJournal::<Brand, _, _>::new(rt.alloc(), Vec::new(rt.alloc()), &template)?;
+//! journal.prepare(&entry)?;
+//! journal.record()?;
+//! assert_eq!(rt; journal.into_writer().as_slice(), b"history 2 permanent worker 1 5 10 plain never\n1 0 0 start a running\n".as_slice());
+//! ```
+#![tactic(auto)]
+
+mod fault;
+mod journal;
+pub mod laws;
+mod origin;
+mod send;
+mod text_journal;
+
+pub use fault::{BeginFault, NotBegun};
+pub use journal::{Journal, JournalFault};
+pub use origin::{Origin, Unknown};
+pub use text_journal::TextJournal;

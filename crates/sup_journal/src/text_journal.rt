@@ -1,0 +1,124 @@
+//! A journal that writes the text of a history.
+
+ghost use Rattle.std.specs.Prelude.{◌≡◌, [], None, IfOk, IfErr};
+ghost use Rattle.std.specs.Io.KnownBytes.{Keeps};
+ghost use Rattle.sup_journal.specs.Begun.{Leaves};
+ghost use Rattle.sup_journal.specs.Ends.{error_of};
+
+use crate::fault::{BeginFault, End, NotBegun};
+use crate::journal::{Journal, JournalFault};
+use crate::origin::Origin;
+use crate::send::send;
+use std::alloc::Allocator;
+use std::io::{ErrorKind, Write};
+use std::marker::PhantomData;
+use sup_format::{append_entry, append_header};
+use sup_types::{Entry, OutOfMemory, Template};
+
+/// A journal that writes the text of a history, in version 2, to this writer: behind what it held, which the origin says.
+///
+/// It writes each batch as it is recorded and flushes nothing: give it a writer without a buffer of its own, as a file. The
+/// first error ends it.
+#[derive(Drop)]
+pub struct TextJournal<O, W, A: Allocator> {
+    writer: W,
+    text: Vec<u8, A>,
+    end: Option<End>,
+    origin: PhantomData<O>,
+}
+
+impl<O: Origin, W: Write, A: Allocator> TextJournal<O, W, A> {
+    /// A journal of a supervisor of this template, whose history is empty: the writer takes the first line. After a refusal
+    /// the writer comes back. It took nothing where memory was refused, and else a part of the first line.
+    pub fn new(
+        alloc: A,
+        writer: W,
+        template: &Template,
+    ) -> Result<TextJournal<O, W, A>, NotBegun<W>>
+        requires { Keeps O.held (W.contents writer) }
+        ensures ok { IfOk result (λ journal. ⟦<TextJournal<O, W, A> as Journal>⟧.has journal template.now [] []) }
+        ensures err { IfErr result (λ e. Leaves e.fault (W.contents writer) (W.contents e.writer) template.now) }
+    {
+        let mut writer = writer;
+        let mut text = Vec::new(alloc);
+        if append_header(template, &mut text).is_err() {
+            let fault = BeginFault::OutOfMemory;
+            return Err(NotBegun { fault, writer });
+        }
+        if let Err(end) = send(&mut writer, text.as_slice()) {
+            let fault = BeginFault::Refused(end.fault());
+            return Err(NotBegun { fault, writer });
+        }
+        text.clear();
+        Ok(TextJournal {
+            writer,
+            text,
+            end: None,
+            origin: PhantomData,
+        })
+    }
+
+    /// The kind of the error that ended it, if an error did.
+    pub fn error(&self) -> Option<ErrorKind>
+        ensures { result ≡ error_of self.now.end }
+    {
+        match self.end {
+            Some(End::Error(kind)) => Some(kind),
+            Some(End::TookNothing) | None => None,
+        }
+    }
+
+    /// The writer. What is ready and not recorded is dropped.
+    pub fn into_writer(self) -> W
+        ensures { result ≡ self.writer }
+    {
+        let TextJournal {
+            writer,
+            text: _,
+            end: _,
+            origin: _,
+        } = self;
+        writer
+    }
+}
+
+impl<O: Origin, W: Write, A: Allocator> Journal for TextJournal<O, W, A> {
+    ghost use Rattle.std.specs.Prelude.{◌≡◌, None, IsSome};
+    ghost use Rattle.sup_journal.specs.Records.{IsRecorded, IsCut};
+
+    ghost has = { λ journal template recorded ready. (journal.end ≡ None)
+        × IsRecorded O.held (W.contents journal.writer) journal.text.items template recorded ready };
+
+    ghost is_torn = { λ journal template recorded ready. IsSome journal.end
+        × IsCut O.held (W.contents journal.writer) template recorded ready };
+
+    ghost may_fail = { λ _. Unit {0} };
+
+    fn prepare(&mut self, entry: &Entry) -> Result<(), OutOfMemory> {
+        if self.end.is_some() {
+            return Ok(());
+        }
+        let start = self.text.len();
+        if append_entry(entry, &mut self.text).is_err() {
+            self.text.truncate(start);
+            return Err(OutOfMemory);
+        }
+        Ok(())
+    }
+
+    fn record(&mut self) -> Result<(), JournalFault> {
+        if let Some(end) = self.end {
+            return Err(end.fault());
+        }
+        match send(&mut self.writer, self.text.as_slice()) {
+            Ok(()) => {
+                self.text.clear();
+                Ok(())
+            }
+            Err(end) => {
+                self.end = Some(end);
+                Err(end.fault())
+            }
+        }
+    }
+}
