@@ -11,3 +11,4 @@ pub mod HistoryLines
 pub mod OneCommand
 pub mod Firsts
 pub mod WholeLines
+pub mod ReadAgain

@@ -83,6 +83,13 @@ full_on xs (y ∷ ys) f g = full-append xs (y ∷ ys) (omega arith) g
 pub full-both : (xs ys : List ℕ) → IsFull xs → IsFull ys → IsFull (xs ++ ys)
 full-both xs ys f g = full_on xs ys f g
 
+-- what ends such a text is one, too
+pub full-right : (xs ys : List ℕ) → IsFull (xs ++ ys) → IsFull ys
+full-right xs ys full = λ some.
+    let len = length-append xs ys in
+    let index : length (xs ++ ys) - 1 - length xs ≡ length ys - 1 = omega (arith, len) in
+    ap (λ i. get_or ys i 0) (sym index) ∙ sym (get_or-append_right xs ys (length xs) (length (xs ++ ys) - 1) 0 refl (omega (arith, len))) ∙ full (omega (arith, len))
+
 -- ---- how many
 
 -- a text has no more lines than bytes

@@ -3,9 +3,12 @@
 ghost use Rattle.std.specs.Prelude.{◌≡◌, ℕ, List, ◌++◌};
 ghost use Rattle.sup_types.specs.declared.template.Template.{Template};
 ghost use Rattle.sup_types.specs.declared.history.Entry.{Entry};
+ghost use Rattle.sup_format.specs.declared.fault.Fault.{Fault};
+ghost use Rattle.sup_format.specs.declared.fault.Fault.TheVariants as fault;
 ghost use Rattle.sup_format.specs.declared.read.command.Command.{Command};
 ghost use Rattle.sup_format.specs.Reading.Headers.{AreHeaderWords, IsFirst};
 ghost use Rattle.sup_format.specs.Reading.History.{Spells, SpellsAs, IsSameTemplate};
+ghost use Rattle.sup_format.specs.Reading.HistoryReading.{HistoryStops};
 ghost use Rattle.sup_format.specs.Reading.Lines.{LineMeans};
 ghost use Rattle.sup_format.specs.Reading.Texts.{IsFull};
 ghost use Rattle.sup_format.specs.Writing.HistoryTexts.{SpellsFirstsOf};
@@ -23,6 +26,12 @@ pub fn one_header()
 /// No history text, of either version, spells two values.
 pub fn one_value()
     ensures { (bytes : List ℕ) (t u : Template) (es fs : List Entry) → Spells bytes t es → Spells bytes u fs → IsSameTemplate t u × (es ≡ fs) }
+{}
+
+/// A text that spells a value is read: nothing but want of memory stops its reading.
+pub fn spelled_is_read()
+    ensures { (bytes : List ℕ) (template : Template) (entries : List Entry) → Spells bytes template entries
+        → (line : ℕ) (f : Fault) → HistoryStops bytes line f → f ≡ fault.OutOfMemory }
 {}
 
 /// Where the text of a history goes on with the lines of further entries, its first whole lines are the text of the history and

@@ -1,12 +1,13 @@
 -- What the text of a journal is read as.
 use Rattle.std.proofs.Common.{◌≡◌, ℕ, ◌-◌, ◌<◌, ◌==◌, true, false, List, [], ◌∷◌, ◌++◌, length, get_or, take, Option, refl, sym, ap, subst, ◌∙◌, append_assoc, arith}
-use Rattle.std.proofs.lemmas.List.{length-append, get_or-append_right, get_or_append_left}
+use Rattle.std.proofs.lemmas.List.{length-append, get_or_append_left}
 use Rattle.sup_types.specs.declared.template.Template.{Template}
 use Rattle.sup_types.specs.declared.history.Entry.{Entry}
 use Rattle.sup_format.specs.Reading.Headers.{IsTemplateOf}
 use Rattle.sup_format.specs.Reading.History.{Spells, SpellsAs, IsSameTemplate, template_parts}
 use Rattle.sup_format.specs.Reading.Texts.{IsFull, IsEndedPart}
 use Rattle.sup_format.specs.Reading.Words.{Lacks}
+use Rattle.sup_format.specs.LineLaws.{full-right}
 use Rattle.sup_format.specs.Writing.HistoryTexts.{SpellsFirstsOf}
 use Rattle.sup_journal.specs.Records.{IsRecorded, IsCut}
 
@@ -36,13 +37,6 @@ read_as law held contents waiting template read recorded ready entries r s =
     )
 
 -- ---- the whole lines of a torn record
-
--- what ends a text that is empty or ends with a line feed, does so too
-full-right : (xs ys : List ℕ) → IsFull (xs ++ ys) → IsFull ys
-full-right xs ys full = λ some.
-    let len = length-append xs ys in
-    let index : length (xs ++ ys) - 1 - length xs ≡ length ys - 1 = omega (arith, len) in
-    ap (λ i. get_or ys i 0) (sym index) ∙ sym (get_or-append_right xs ys (length xs) (length (xs ++ ys) - 1) 0 refl (omega (arith, len))) ∙ full (omega (arith, len))
 
 tail_same : (a b : ℕ) (xs ys : List ℕ) → a ∷ xs ≡ b ∷ ys → xs ≡ ys
 tail_same a b xs ys e = cc

@@ -1,15 +1,16 @@
 //! The text journal of a shared supervisor: what its history was is on a file, or in memory, before anyone sees it.
 //!
-//! A [`Journal`] is told each entry before it is published. [`TextJournal`] writes the history text: the first line when
-//! it is made, and then a line for each entry, in version 2. A batch is one write. So what its writer took is, at any time
-//! between two records, the text of the history so far. `sup_format::read_history` reads it back: whatever text a journal
-//! recorded is read as this template and exactly these entries (`laws::one_history`).
+//! A [`Journal`] is told each entry before it is published. [`TextJournal`] writes the history text, in version 2: the first
+//! line when it is made, and then a line for each entry. A batch is one write, if the writer takes it at once. So at any time
+//! between two records, what its writer took is the text of the history so far. `sup_format::read_history` reads it back:
+//! nothing but want of memory stops that (`laws::recorded_is_read`), and what is read is this template, with the most entries
+//! that there may be, and exactly these entries (`laws::one_history`).
 //!
 //! A writer may refuse in the midst of a batch. It then holds the text of the entries before the batch and a first part of
 //! the text of the batch. The whole lines of that, which `sup_format::ended_part` gives, are read as the entries before and
 //! the first few of the batch, but not all of them (`laws::whole_lines`). The journal records nothing more.
 //!
-//! What the writer held at first is said by the type: a [`Origin`]. `Brand` stands for an empty writer, and `Unknown` for
+//! What the writer held at first is said by the type: an [`Origin`]. `Brand` stands for an empty writer, and `Unknown` for
 //! one like a file, of which no clause says what it holds.
 //!
 //! ```text

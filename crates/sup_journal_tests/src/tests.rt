@@ -53,10 +53,12 @@ struct Narrow {
     held: Vec<u8>,
     room: usize,
     fails: bool,
+    calls: usize,
 }
 
 impl Write for Narrow {
     fn write(&mut self, bytes: &[u8]) -> io::Result<usize> {
+        self.calls = self.calls.saturating_add(1);
         if self.room == 0 && self.fails {
             return Err(io::Error::from(ErrorKind::StorageFull));
         }
@@ -142,6 +144,7 @@ fn record_narrowly(rt: &impl Abort, alloc: Global, room: usize, fails: bool) -> 
         held: Vec::new(alloc),
         room,
         fails,
+        calls: 0,
     };
     let fault = if fails {
         JournalFault::Failed
@@ -166,7 +169,10 @@ fn record_narrowly(rt: &impl Abort, alloc: Global, room: usize, fails: bool) -> 
             let wanted = if is_whole { Ok(()) } else { Err(fault) };
             assert!(rt; journal.record() == wanted && journal.record() == wanted);
             assert!(rt; journal.error().is_some() == (fails && !is_whole));
-            let held = journal.into_writer().held;
+            let writer = journal.into_writer();
+            // The first line is one write, and the batch another.
+            assert!(rt; writer.calls == 2 || !is_whole);
+            let held = writer.held;
             assert!(rt; held.len() == room && HISTORY.as_bytes().starts_with(held.as_slice()));
             let lines = ended_part(held.as_slice());
             let feeds = lines.iter().filter(|byte| **byte == b'\n').count();

@@ -29,7 +29,7 @@ use Rattle.sup_format.specs.declared.read.tokens.Verb.{Verb}
 use Rattle.sup_format.specs.declared.read.tokens.Verb.TheVariants as verb
 use Rattle.sup_format.specs.Reading.Words.{words_of, Lacks}
 use Rattle.sup_format.specs.Reading.Tokens.{restart_word, kind_word, mark_word, auto_word, reason_word, verb_word, operation_verb, argument_words, IsReason, IsOperation}
-use Rattle.sup_format.specs.Writing.Replies.{line_of, spaced, Grows}
+use Rattle.sup_format.specs.Writing.Replies.{line_of, spaced}
 use Rattle.sup_format.specs.Writing.HistoryTexts.{header_line, entry_line, SpellsOneMore}
 use Rattle.sup_format.specs.Reading.Texts.{lines_of, IsFull}
 use Rattle.sup_format.specs.Reading.Headers.{IsTemplateOf, FitsParts}

@@ -101,7 +101,7 @@ other_version xs ys ws a b = texts_differ (codes "1") (codes "2") refl (first_sa
 same_rest : (v : List ℕ) (xs ys ws : List (List ℕ)) → ws ≡ codes "history" ∷ v ∷ xs → ws ≡ codes "history" ∷ v ∷ ys → xs ≡ ys
 same_rest v xs ys ws a b = rest_same _ _ _ _ (rest_same _ _ _ _ (sym a ∙ b))
 
-parts_same : (line : List ℕ) (p q : Parts) → HasShape AreFirstWords line p → HasShape AreFirstWords line q → AreSameParts p q
+pub parts_same : (line : List ℕ) (p q : Parts) → HasShape AreFirstWords line p → HasShape AreFirstWords line q → AreSameParts p q
 parts_same line p q h k =
     elim h.words [
       | inl a ↦ elim k.words [
