@@ -13,12 +13,16 @@ use Rattle.sup_desk.specs.declared.recovery.RecoverFault.TheVariants as recover
 use Rattle.sup_desk.specs.declared.faults.DeskFault.{DeskFault}
 use Rattle.sup_desk.specs.declared.faults.DeskFault.TheVariants as desk
 
+-- a journal that breaks off
+abbrev pub journal_fault_number : ℕ
+journal_fault_number = 13
+
 abbrev pub update_fault_number : UpdateFault → ℕ
 update_fault_number update.OutOfMemory = 1
 update_fault_number update.HistoryFull = 2
 update_fault_number update.Split = 3
 update_fault_number update.Gone = 4
-update_fault_number (update.Journal fault) = 13
+update_fault_number (update.Journal fault) = journal_fault_number
 
 abbrev pub ticket_fault_number : TicketFault → ℕ
 ticket_fault_number ticket.Split = 3

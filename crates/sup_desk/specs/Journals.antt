@@ -9,6 +9,11 @@ abbrev pub HoldsOneMore : {J : Type 0} → (J → Template → List Entry → Li
 HoldsOneMore has old new entry =
     (template : Template) (recorded ready : List Entry) → has old template recorded ready → has new template recorded (ready ++ entry ∷ [])
 
+-- whatever the journal had recorded and held ready, it has and holds still
+abbrev pub HoldsAsBefore : {J : Type 0} → (J → Template → List Entry → List Entry → Type 0) → J → J → Type 0
+HoldsAsBefore has old new =
+    (template : Template) (recorded ready : List Entry) → has old template recorded ready → has new template recorded ready
+
 -- whatever it held ready, it now has recorded
 abbrev pub HasAll : {J : Type 0} → (J → Template → List Entry → List Entry → Type 0) → J → J → Type 0
 HasAll has old new =

@@ -38,7 +38,7 @@ impl UpdateFault {
             UpdateFault::HistoryFull => 2,
             UpdateFault::Split => 3,
             UpdateFault::Gone => 4,
-            UpdateFault::Journal(_) => 13,
+            UpdateFault::Journal(fault) => fault.number(),
         }
     }
 }

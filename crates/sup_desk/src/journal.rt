@@ -1,6 +1,7 @@
 //! Journals: what keeps a record of a desk's history.
 ghost use Rattle.std.specs.Prelude.{◌≡◌, OnOk, OnErr, IfErr};
-ghost use Rattle.sup_desk.specs.Journals.{HoldsOneMore, HasAll, IsTornOff};
+ghost use Rattle.sup_desk.specs.Faults.{journal_fault_number};
+ghost use Rattle.sup_desk.specs.Journals.{HoldsOneMore, HoldsAsBefore, HasAll, IsTornOff};
 
 use sup_types::{Entry, OutOfMemory};
 use thiserror::Error;
@@ -14,6 +15,15 @@ pub enum JournalFault {
     /// Its writer took nothing of bytes that were not empty.
     #[error("its writer took nothing")]
     TookNothing,
+}
+
+impl JournalFault {
+    /// The number of this fault.
+    pub fn number(self) -> u8
+        ensures { result ≡ journal_fault_number }
+    {
+        13
+    }
 }
 
 /// What keeps a record of a supervisor's history: a file, say, to which the text of each entry is written. A desk makes each
@@ -33,10 +43,11 @@ pub trait Journal {
     /// Whether a record may fail so.
     ghost may_fail: { JournalFault → Type 0 };
 
-    /// Makes an entry ready to be recorded, behind those that are. It records nothing. After a refusal nothing has changed.
+    /// Makes an entry ready to be recorded, behind those that are. It records nothing. After a refusal the same entries are ready
+    /// as before.
     fn prepare(&mut self, entry: &Entry) -> Result<(), OutOfMemory>
         ensures ok { OnOk result (HoldsOneMore has self.old self.new entry.now) }
-        ensures err { OnErr result (self.new ≡ self.old) };
+        ensures err { OnErr result (HoldsAsBefore has self.old self.new) };
 
     /// Records what is ready, in one write.
     fn record(&mut self) -> Result<(), JournalFault>

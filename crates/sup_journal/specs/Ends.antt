@@ -3,8 +3,8 @@ use Rattle.std.specs.Prelude.{Option, None, Some}
 use Rattle.std.specs.declared.io.ErrorKind.{ErrorKind}
 use Rattle.sup_journal.specs.declared.fault.End.{End}
 use Rattle.sup_journal.specs.declared.fault.End.TheVariants as end
-use Rattle.sup_journal.specs.declared.journal.JournalFault.{JournalFault}
-use Rattle.sup_journal.specs.declared.journal.JournalFault.TheVariants as fault
+use Rattle.sup_desk.specs.declared.journal.JournalFault.{JournalFault}
+use Rattle.sup_desk.specs.declared.journal.JournalFault.TheVariants as fault
 
 -- the fault that a record answers
 abbrev pub fault_of : End → JournalFault

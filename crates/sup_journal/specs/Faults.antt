@@ -5,4 +5,4 @@ use Rattle.sup_journal.specs.declared.fault.BeginFault.TheVariants as begin
 
 abbrev pub begin_fault_number : BeginFault → ℕ
 begin_fault_number begin.OutOfMemory = 1
-begin_fault_number (begin.Refused fault) = 11
+begin_fault_number (begin.Refused fault) = 13

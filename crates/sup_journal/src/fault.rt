@@ -1,6 +1,6 @@
 //! Why a journal was not begun, and why one ended.
 
-use crate::journal::JournalFault;
+use sup_desk::JournalFault;
 use std::io::ErrorKind;
 use thiserror::Error;
 
@@ -19,7 +19,7 @@ impl BeginFault {
     ghost use Rattle.std.specs.Prelude.{◌≡◌};
     ghost use Rattle.sup_journal.specs.Faults.{begin_fault_number};
 
-    /// The number of the fault: 1 or 11, in the order of the variants.
+    /// The number of the fault: 1 or 13, in the order of the variants.
     pub fn number(self) -> u8
         ensures { result ≡ begin_fault_number self }
     {

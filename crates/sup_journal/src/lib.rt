@@ -22,13 +22,11 @@
 #![tactic(auto)]
 
 mod fault;
-mod journal;
 pub mod laws;
 mod origin;
 mod send;
 mod text_journal;
 
 pub use fault::{BeginFault, NotBegun};
-pub use journal::{Journal, JournalFault};
 pub use origin::{Origin, Unknown};
 pub use text_journal::TextJournal;

@@ -6,7 +6,7 @@ ghost use Rattle.sup_journal.specs.Begun.{Leaves};
 ghost use Rattle.sup_journal.specs.Ends.{error_of};
 
 use crate::fault::{BeginFault, End, NotBegun};
-use crate::journal::{Journal, JournalFault};
+use sup_desk::{Journal, JournalFault};
 use crate::origin::Origin;
 use crate::send::send;
 use std::alloc::Allocator;

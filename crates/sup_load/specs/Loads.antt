@@ -23,6 +23,7 @@ of_update update.OutOfMemory = stop.OutOfMemory
 of_update update.HistoryFull = stop.HistoryFull
 of_update update.Split = stop.Split
 of_update update.Gone = stop.Gone
+of_update (update.Journal fault) = stop.Journal
 
 -- the fault that stopped the run, else Gone where a reader was refused
 abbrev pub fault_behind : Option UpdateFault → Result (Unit {0}) Gone → Option StopFault

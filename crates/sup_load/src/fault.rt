@@ -28,12 +28,14 @@ pub enum StopFault {
     NoPlace,
     /// A number is out of the range of the template or the desk.
     BadTemplate,
+    /// The journal broke off.
+    Journal,
 }
 
 impl StopFault {
     ghost use Rattle.sup_load.specs.Loads.{of_update};
 
-    /// The number of the fault: 1 to 7, in the order of the variants.
+    /// The number of the fault: 1 to 7, in the order of the variants, and 13.
     pub fn number(self) -> u8
         ensures { result ≡ stop_fault_number self }
     {
@@ -45,6 +47,7 @@ impl StopFault {
             StopFault::NoHandle => 5,
             StopFault::NoPlace => 6,
             StopFault::BadTemplate => 7,
+            StopFault::Journal => 13,
         }
     }
 
@@ -57,6 +60,7 @@ impl StopFault {
             UpdateFault::HistoryFull => StopFault::HistoryFull,
             UpdateFault::Split => StopFault::Split,
             UpdateFault::Gone => StopFault::Gone,
+            UpdateFault::Journal(_) => StopFault::Journal,
         }
     }
 }
