@@ -8,8 +8,8 @@ use std::io::{ErrorKind, Write};
 use std::marker::Brand;
 use std::process::Abort;
 use std::test::Fail;
-use sup_format::{ended_part, read_history, write_history};
 use sup_desk::{Journal, JournalFault};
+use sup_format::{ended_part, read_history, write_history};
 use sup_journal::{BeginFault, TextJournal, Unknown};
 use sup_types::{Answer, Entry, Kind, Operation, Reason, Restart, Template, Text};
 

@@ -5,8 +5,8 @@ use std::alloc::Global;
 use std::process::Abort;
 use std::sync::Wait;
 use sup_desk::{
-    Closed, Desk, Handle, HandleFault, Journal, JournalFault, JournaledProgram, Name, RecoverFault,
-    UpdateFault, on_journaled_desk,
+    Closed, Desk, Handle, HandleFault, HandleOf, Journal, JournalFault, JournaledProgram, Name,
+    RecoverFault, UpdateFault, on_journaled_desk,
 };
 use sup_types::{
     Answer, Counts, Entry, Operation, OutOfMemory, Reason, Reply, Restart, Seen, Template,
@@ -190,6 +190,7 @@ impl<R: Wait + Abort> JournaledProgram<Always, R, Takes> for GoesOn {
         let done = handle.start_child(rt, 0, text(rt, "b"));
         assert!(rt; reply_of(done) == Ok(Reply::Started(3)));
         assert!(rt; handles.push(handle).is_ok());
+        assert!(rt; HandleOf::are_in_order(&handles));
         desk.audit(rt, &mut handles).map(|t| t.stamp()).unwrap_or(0)
     }
 }
