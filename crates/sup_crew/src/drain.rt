@@ -8,12 +8,14 @@ ghost use Rattle.sup_crew.specs.Drains.{DrainModel, entered_of, notes_of, replie
 use arrayvec::ArrayVec;
 use std::alloc::Global;
 use std::collections::VecDeque;
+use std::fmt;
 use std::marker::Model;
 use std::sync::Wait;
 use sup_desk::{Dones, Handle, Name, Part, UpdateFault};
 use sup_inbox::{Inbox, Note, Taker};
 use sup_log::Ticket;
 use sup_types::{Operation, OutOfMemory, Reply, Starter};
+use thiserror::Error;
 
 /// How many notes a drain holds at most.
 pub const HELD: usize = 64;
@@ -44,12 +46,34 @@ pub struct Drained {
 }
 
 /// A drain that did not enter all that it was to: what it entered before, and why it stopped.
-#[derive(Drop)]
+#[derive(Drop, Error)]
+#[error("the drain stopped: {fault}")]
 pub struct DrainFault {
     /// What was entered.
     pub done: Drained,
     /// Why the others were not. They are held, and go first next time.
     pub fault: UpdateFault,
+}
+
+/// How many notes were entered, and the fault. A ticket shows nothing of itself.
+impl fmt::Debug for DrainFault {
+    fn fmt<W: fmt::Write>(&self, f: &mut fmt::Formatter<W>) -> fmt::Result {
+        write!(
+            f,
+            "DrainFault {{ entered: {}, fault: {:?} }}",
+            self.done.pairs.len(),
+            self.fault
+        )
+    }
+}
+
+/// The fault alone. What was entered is let go.
+impl From<DrainFault> for UpdateFault {
+    ghost from_gives = { λ e f. f ≡ e.fault };
+
+    fn from(met: DrainFault) -> Self {
+        met.fault
+    }
 }
 
 /// Takes notes until `limit` are held, or the inbox is empty.

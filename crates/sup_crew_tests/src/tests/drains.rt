@@ -7,6 +7,7 @@ use std::alloc::Global;
 use std::marker::Brand;
 use std::process::Abort;
 use std::sync::Wait;
+use std::test::*;
 use sup_crew::{Drain, DrainFault, Drained};
 use sup_desk::{Desk, Ground, Handle, Name, UpdateFault};
 use sup_inbox::{Inbox, Note, Poster, Root, Taker};
@@ -61,7 +62,7 @@ fn assert_pairs(rt: &impl Abort, pairs: &[(Note, Reply)], from: usize) {
 fn told(rt: &impl Abort, answer: Result<Drained, DrainFault>, from: usize) -> Told {
     match answer {
         Ok(done) => (entered(rt, &done, from), None),
-        Err(met) => (entered(rt, &met.done, from), Some(met.fault)),
+        Err(met) => (entered(rt, &met.done, from), Some(met.into())),
     }
 }
 
@@ -226,4 +227,27 @@ fn a_full_history_leaves_a_note_held(rt: HostRuntime) {
 fn a_drain_enters_later_what_it_was_refused(rt: HostRuntime) {
     let alloc = rt.alloc();
     start_and_drain::<Brand, HostRuntime>(&rt, alloc, ground(&rt, alloc, 5), None);
+}
+
+/// It says why the drain stopped, and turns into that.
+#[test]
+fn a_drain_fault_says_why_it_stopped(rt: HostRuntime) -> Result<(), Fail> {
+    let met = DrainFault {
+        done: Drained {
+            pairs: Vec::new(rt.alloc()),
+            ticket: None,
+        },
+        fault: UpdateFault::HistoryFull,
+    };
+    shows(&rt, rt.alloc(), &met)?;
+    assert!(rt; UpdateFault::from(met) == UpdateFault::HistoryFull);
+    Ok(())
+}
+
+fn shows(rt: &impl Abort, alloc: Global, met: &DrainFault) -> Result<(), Fail> {
+    let displayed = format!(in alloc; "{met}")?;
+    assert!(rt; displayed.as_str() == "the drain stopped: the history is full");
+    let debugged = format!(in alloc; "{met:?}")?;
+    assert!(rt; debugged.as_str() == "DrainFault { entered: 0, fault: HistoryFull }");
+    Ok(())
 }
