@@ -55,31 +55,8 @@ impl<'d, N: Name, S: Starter + Drop, P: Wait + Drop> Driver<'d, N, S, P> {
         }
     }
 
-    /// Starts the children in order, and then drains until the note of each queued job was taken or the crew's number of turns
-    /// in a row took none. How many children were started, and the fault that stopped it.
-    pub fn start_and_drain<R: Wait>(
-        &mut self,
-        rt: &R,
-        alloc: Global,
-        crew: &Crew<N>,
-    ) -> (usize, Option<UpdateFault>)
-        requires { IsAtWork crew.now.jobs crew.now.inbox.id self.old }
-        ensures same { IsSameDriver self.old self.new }
-        ensures cause { IfSome result.1 (λ e. IsCause N.template self.new.knows e) }
-        ensures started { Starts N.template N.press crew.now.moment (take result.0 crew.now.children.items) self.old self.new }
-        ensures all { IfNone result.1 (result.0 ≡ length crew.now.children.items) }
-        ensures few { result.0 ≤ length crew.now.children.items }
-    {
-        let (started, fault) = self.start_all(rt, crew);
-        if fault.is_some() {
-            return (started, fault);
-        }
-        let fault = self.drain_all(rt, alloc, crew);
-        (started, fault)
-    }
-
     /// Starts the children in order. How many were started, and the fault that stopped it.
-    fn start_all<R: Wait>(&mut self, rt: &R, crew: &Crew<N>) -> (usize, Option<UpdateFault>)
+    pub fn start_all<R: Wait>(&mut self, rt: &R, crew: &Crew<N>) -> (usize, Option<UpdateFault>)
         requires { self.old.jobs.queue ≡ crew.now.jobs }
         ensures same { IsSameDriver self.old self.new }
         ensures cause { IfSome result.1 (λ e. IsCause N.template self.new.knows e) }
@@ -131,43 +108,14 @@ impl<'d, N: Name, S: Starter + Drop, P: Wait + Drop> Driver<'d, N, S, P> {
         self.ticket = Some(ticket);
     }
 
-    /// Drains until the note of each queued job was taken, a fault comes, or the crew's number of turns in a row took none.
-    fn drain_all<R: Wait>(&mut self, rt: &R, alloc: Global, crew: &Crew<N>) -> Option<UpdateFault>
-        requires { IsAtWork crew.now.jobs crew.now.inbox.id self.old }
-        ensures same { IsSameDriver self.old self.new }
-        ensures cause { IfSome result (λ e. IsCause N.template self.new.knows e) }
-        ensures drained { GoesOn N.template N.press crew.now.moment self.old self.new }
-    {
-        let signals = &crew.signals;
-        let mut taken = 0usize;
-        let mut idle = 0u64;
-        for _ in rt.forever() {
-            if taken >= self.jobs.queued() || idle >= crew.turns {
-                return None;
-            }
-            let noted = signals.posted.noted();
-            let (count, fault) = self.drain_once(rt, alloc, crew);
-            if fault.is_some() {
-                return fault;
-            }
-            if count == 0 {
-                idle += 1;
-                signals.posted.wait(rt, noted);
-            } else {
-                idle = 0;
-                taken = taken.saturating_add(count);
-                signals.drained.give_to_all();
-            }
-        }
-        unreachable!()
-    }
-
-    /// Drains until no note is left or a fault comes, unless there is a fault already.
-    pub fn drain_rest<R: Wait>(
+    /// Drains until as many notes were taken as jobs are queued, a fault comes, or this number of turns in a row took none; not
+    /// where there is a fault already.
+    pub fn drain_all<R: Wait>(
         &mut self,
         rt: &R,
         alloc: Global,
         crew: &Crew<N>,
+        turns: u64,
         fault: Option<UpdateFault>,
     ) -> Option<UpdateFault>
         requires at_work { IsAtWork crew.now.jobs crew.now.inbox.id self.old }
@@ -180,10 +128,27 @@ impl<'d, N: Name, S: Starter + Drop, P: Wait + Drop> Driver<'d, N, S, P> {
         if fault.is_some() {
             return fault;
         }
+        let signals = &crew.signals;
+        let mut taken = 0usize;
+        let mut idle = 0u64;
         for _ in rt.forever() {
+            if taken >= self.jobs.queued() || idle >= turns {
+                return None;
+            }
+            let noted = signals.posted.noted();
             let (count, fault) = self.drain_once(rt, alloc, crew);
-            if count == 0 || fault.is_some() {
+            if fault.is_some() {
                 return fault;
+            }
+            if count > 0 {
+                idle = 0;
+                taken = taken.saturating_add(count);
+                signals.drained.give_to_all();
+                continue;
+            }
+            idle += 1;
+            if idle < turns {
+                signals.posted.wait(rt, noted);
             }
         }
         unreachable!()

@@ -29,6 +29,7 @@ mod drain;
 mod driver;
 mod job;
 mod plan;
+mod prepare;
 mod queue;
 mod run;
 mod turns;

@@ -5,21 +5,22 @@ ghost use Rattle.sup_crew.specs.Reports.{IsRun, IsRunOfItsOwn};
 ghost use Rattle.sup_crew.specs.Runs.{IsRunOutcome, AreParts};
 ghost use denote.Param.Send.{IsSend};
 
-use crate::closing::{Buffers, close};
-use crate::crew::{Crew, Signals};
+use crate::closing::close;
+use crate::crew::Crew;
 use crate::drain::Drain;
 use crate::driver::{Driver, Tally};
 use crate::job::Body;
 use crate::plan::{CrewFault, Plan, Report};
-use crate::queue::{Dispatcher, Endpoint, Jobs};
+use crate::prepare::{Prepared, prepare};
+use crate::queue::{Dispatcher, Endpoint};
 use crate::worker::{Finished, join_all, start};
 use core::mem::replace_with;
 use std::alloc::Global;
 use std::sync::Wait;
 use std::thread;
 use std::thread::{Scope, Threads};
-use sup_desk::{Asker, Caller, Desk, Handle, Name, UpdateFault};
-use sup_inbox::{Inbox, Poster, Taker};
+use sup_desk::{Caller, Desk, Handle, Name, UpdateFault};
+use sup_inbox::{Poster, Taker};
 use sup_log::Ticket;
 use sup_types::Starter;
 
@@ -67,7 +68,6 @@ fn drive<'s, 'd: 's, E, N, S, P, B, R>(
     desk: &'d Desk<N, S, P>,
     caller: Caller<N>,
     parts: Parts<N>,
-    askers: Vec<Asker<N>>,
 ) -> (Caller<N>, Result<RunOutcome<N>, CrewFault>)
 where
     N: Name + Send + Sync + 's,
@@ -84,19 +84,20 @@ where
         taker,
         finished,
     } = parts;
-    let Ok((endpoint, workers)) = start(scope, rt, alloc, crew, body, endpoint, posters, askers)
-    else {
-        return (caller, Err(CrewFault::OutOfMemory));
+    let (endpoint, workers) = match start(scope, rt, alloc, crew, body, desk, endpoint, posters) {
+        Ok(started) => started,
+        Err(fault) => return (caller, Err(fault)),
     };
     let mut driver = Driver::new(
         desk.bind(caller),
         Dispatcher::new(alloc, endpoint),
         Drain::new(taker),
     );
-    let (started, fault) = driver.start_and_drain(rt, alloc, crew);
+    let (started, fault) = driver.start_all(rt, crew);
+    let fault = driver.drain_all(rt, alloc, crew, crew.turns, fault);
     crew.signals.end();
     let finished = join_all(rt, crew, body, workers, finished);
-    let fault = driver.drain_rest(rt, alloc, crew, fault);
+    let fault = driver.drain_all(rt, alloc, crew, 1, fault);
     let Driver {
         handle,
         jobs,
@@ -118,88 +119,7 @@ where
     (caller, Ok(outcome))
 }
 
-/// An asker for each of so many workers.
-fn lend<N, S, P, R>(
-    rt: &R,
-    alloc: Global,
-    desk: &Desk<N, S, P>,
-    workers: usize,
-) -> Result<Vec<Asker<N>>, CrewFault>
-where
-    N: Name,
-    S: Starter + Drop,
-    P: Wait + Drop,
-    R: Wait,
-    ensures { IfOk result (λ askers. vec_len askers ≡ workers) }
-{
-    let Ok(mut askers) = Vec::with_capacity(alloc, workers) else {
-        return Err(CrewFault::OutOfMemory);
-    };
-    while askers.len() < workers {
-        match desk.asker(rt) {
-            Ok(asker) => askers.push_reserved(asker),
-            Err(_) => return Err(CrewFault::NoHandle),
-        }
-    }
-    Ok(askers)
-}
-
-/// Makes an asker for each worker, and runs.
-fn run_in<'s, E, N, S, P, B, R>(
-    scope: &Scope<'s, E>,
-    rt: &'s R,
-    alloc: Global,
-    crew: &'s Crew<N>,
-    body: &'s B,
-    desk: &'s Desk<N, S, P>,
-    caller: Caller<N>,
-    parts: Parts<N>,
-) -> (Caller<N>, Result<RunOutcome<N>, CrewFault>)
-where
-    N: Name + Send + Sync + 's,
-    S: Starter + Drop + Send + Sync + 's,
-    P: Wait + Drop + Send + Sync + 's,
-    B: Body + Sync,
-    R: Threads + Wait + Sync,
-    requires { AreParts crew.now.jobs crew.now.inbox.id parts }
-    ensures { MatchResult result.1 (λ j. IsRunOutcome (B.may_end body.now) (run_of N.template N.press crew.now.moment caller) crew.now.jobs crew.now.inbox.id (vec_len parts.posters) crew.now.children.items result.0 j) (λ _. HasNotCalled caller result.0) }
-{
-    match lend(rt, alloc, desk, parts.posters.len()) {
-        Ok(askers) => drive(scope, rt, alloc, crew, body, desk, caller, parts, askers),
-        Err(fault) => (caller, Err(fault)),
-    }
-}
-
-/// Starts the threads, and joins them all.
-fn run_threads<N, S, P, B, R>(
-    rt: &R,
-    alloc: Global,
-    crew: &Crew<N>,
-    body: &B,
-    desk: &Desk<N, S, P>,
-    caller: Caller<N>,
-    parts: Parts<N>,
-) -> (Caller<N>, Result<RunOutcome<N>, CrewFault>)
-where
-    N: Name + Send + Sync,
-    S: Starter + Drop + Send + Sync,
-    P: Wait + Drop + Send + Sync,
-    B: Body + Sync,
-    R: Threads + Wait + Sync,
-    requires { AreParts crew.now.jobs crew.now.inbox.id parts }
-    ensures { MatchResult result.1 (λ j. IsRunOutcome (B.may_end body.now) (run_of N.template N.press crew.now.moment caller) crew.now.jobs crew.now.inbox.id (vec_len parts.posters) crew.now.children.items result.0 j) (λ _. HasNotCalled caller result.0) }
-{
-    thread::scope(
-        thread::scope_env(),
-        rt,
-        move |scope| -> (Caller<N>, Result<RunOutcome<N>, CrewFault>)
-            requires { AreParts crew.now.jobs crew.now.inbox.id parts }
-            ensures { MatchResult result.1 (λ j. IsRunOutcome (B.may_end body.entry.now) (run_of N.template N.press crew.entry.now.moment caller) crew.entry.now.jobs crew.entry.now.inbox.id (vec_len parts.posters) crew.entry.now.children.items result.0 j) (λ _. HasNotCalled caller result.0) }
-        { run_in(scope, rt, alloc, crew, body, desk, caller, parts) },
-    )
-}
-
-/// The same for a driver's handle.
+/// Starts the threads, and joins them all. The driver's handle is taken apart meanwhile.
 fn run_bound<'d, N, S, P, B, R>(
     rt: &R,
     alloc: Global,
@@ -219,7 +139,13 @@ where
     ensures kept { OnErr result.1 (HasNotCalled handle.entry result.0) }
 {
     let (caller, desk) = handle.unbind();
-    let (caller, outcome) = run_threads(rt, alloc, crew, body, desk, caller, parts);
+    let (caller, outcome) = thread::scope(
+        thread::scope_env(),
+        rt,
+        move |scope| -> (Caller<N>, Result<RunOutcome<N>, CrewFault>)
+            requires { AreParts crew.now.jobs crew.now.inbox.id parts }
+        { drive(scope, rt, alloc, crew, body, desk, caller, parts) },
+    );
     (desk.bind(caller), outcome)
 }
 
@@ -251,8 +177,6 @@ where
         )
             requires threads { IsSend N.row × IsSend S.row × IsSend P.row }
             requires parts { AreParts crew.now.jobs crew.now.inbox.id parts }
-            ensures outcome { IfOk result.1 (λ j. IsRunOutcome (B.may_end body.entry.now) (run_of N.template N.press crew.entry.now.moment handle.entry) crew.entry.now.jobs crew.entry.now.inbox.id (vec_len parts.posters) crew.entry.now.children.items result.0 j) }
-            ensures kept { OnErr result.1 (HasNotCalled handle.entry result.0) }
         { run_bound(rt, alloc, crew, body, handle, parts) },
     )
 }
@@ -283,36 +207,12 @@ where
     ensures ran { IfOk result (λ r. IsRun (B.may_end body.now) (run_of N.template N.press plan.moment driver.old) plan.children.items driver.new r) }
     ensures kept { OnErr result ((driver.new.calls ≡ driver.old.calls) × (driver.new.number ≡ driver.old.number)) }
 {
-    let Plan {
-        children,
-        workers,
-        inbox: capacity,
-        turns,
-        moment,
-    } = plan;
-    let buffers = Buffers::new(alloc, workers, capacity)?;
-    let Ok(finished) = Vec::with_capacity(alloc, workers) else {
-        return Err(CrewFault::OutOfMemory);
-    };
-    let (jobs, endpoint) = Jobs::new(alloc)?;
-    let (inbox, root) = Inbox::new(alloc, capacity)?;
-    let Ok((posters, taker)) = root.split(alloc, &inbox, workers) else {
-        return Err(CrewFault::OutOfMemory);
-    };
-    let crew = Crew {
-        jobs,
-        inbox,
-        signals: Signals::new(),
-        children,
-        turns,
-        moment,
-    };
-    let parts = Parts {
-        endpoint,
-        posters,
-        taker,
-        finished,
-    };
+    let Prepared {
+        crew,
+        parts,
+        buffers,
+    } = prepare(alloc, plan)?;
+    let workers = parts.posters.len();
     let outcome = run_lent(rt, alloc, &crew, body, driver, parts)?;
     Ok(close(rt, crew, body, workers, outcome, buffers))
 }

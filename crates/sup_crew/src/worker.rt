@@ -7,13 +7,14 @@ ghost use Rattle.sup_inbox.specs.Ends.{AreFrom, AreNew};
 
 use crate::crew::Crew;
 use crate::job::{Body, Job};
+use crate::plan::CrewFault;
 use crate::queue::Endpoint;
 use std::alloc::Global;
 use std::sync::Wait;
 use std::thread::{Promise, PromisedHandle, Scope, Threads};
-use sup_desk::{Asker, Name};
+use sup_desk::{Asker, Desk, Name};
 use sup_inbox::{InboxFull, Poster};
-use sup_types::{OutOfMemory, Reason, Text};
+use sup_types::{Reason, Starter, Text};
 
 /// How a body ended.
 #[derive(Drop)]
@@ -174,20 +175,52 @@ impl<'a, N: Name, B: Body> Promise<Finished<N>> for Works<'a, N, B> {
 /// A worker that was started.
 pub type Worker<'a, N, B> = PromisedHandle<Finished<N>, Works<'a, N, B>>;
 
-/// Starts a worker for each poster, with an asker each. Where one can't be started, the run is over, and the started ones
-/// are joined.
-pub fn start<'s, E, N, B, R>(
+/// Starts a worker with this asker, if there is one, and this poster. It has an endpoint of its own.
+fn start_one<'s, E, N, B, R>(
+    scope: &Scope<'s, E>,
+    rt: &'s R,
+    crew: &'s Crew<N>,
+    body: &'s B,
+    asker: Option<Asker<N>>,
+    endpoint: &mut Endpoint<N>,
+    poster: Poster,
+) -> Result<Worker<'s, N, B>, CrewFault>
+where
+    N: Name + Send + Sync + 's,
+    B: Body + Sync,
+    R: Threads + Wait + Sync,
+    requires endpoint { (endpoint.old.queue ≡ crew.now.jobs) × (1 < endpoint.old.permission.parts) }
+    requires poster { (poster.inbox ≡ crew.now.inbox.id) × (poster.posted ≡ []) }
+    ensures endpoint { IfOk result (λ _. (endpoint.new.queue ≡ crew.now.jobs) × (endpoint.new.permission.parts + 1 ≡ endpoint.old.permission.parts) × (endpoint.new.permission.put ≡ endpoint.old.permission.put) × (endpoint.new.permission.taken ≡ endpoint.old.permission.taken)) }
+    ensures worker { IfOk result (λ w. (w.promise.crew.now ≡ crew.now) × (w.promise.body.now ≡ body.now) × (w.promise.number ≡ poster.number)) }
+{
+    let Some(asker) = asker else {
+        return Err(CrewFault::NoHandle);
+    };
+    let number = poster.number();
+    let promise = Works { crew, body, number };
+    let theirs = endpoint.give(&crew.jobs);
+    match scope.spawn_with(promise, move || work(rt, crew, body, theirs, poster, asker)) {
+        Ok(worker) => Ok(worker),
+        Err(_) => Err(CrewFault::OutOfMemory),
+    }
+}
+
+/// Starts a worker for each poster. Where one can't be started, the run is over, and the started ones are joined.
+pub fn start<'s, E, N, S, P, B, R>(
     scope: &Scope<'s, E>,
     rt: &'s R,
     alloc: Global,
     crew: &'s Crew<N>,
     body: &'s B,
+    desk: &Desk<N, S, P>,
     endpoint: Endpoint<N>,
     posters: Vec<Poster>,
-    askers: Vec<Asker<N>>,
-) -> Result<(Endpoint<N>, Vec<Worker<'s, N, B>>), OutOfMemory>
+) -> Result<(Endpoint<N>, Vec<Worker<'s, N, B>>), CrewFault>
 where
     N: Name + Send + Sync + 's,
+    S: Starter + Drop,
+    P: Wait + Drop,
     B: Body + Sync,
     R: Threads + Wait + Sync,
     requires endpoint { endpoint ≡ record { queue = crew.now.jobs; permission = permission 1024 [] [] } }
@@ -197,24 +230,18 @@ where
     ensures each { IfOk result (λ r. (k : ℕ) (d : _) → k < vec_len posters → ((slice_index_or r.1.items k d).promise.crew.now ≡ crew.now) × ((slice_index_or r.1.items k d).promise.body.now ≡ body.now) × ((slice_index_or r.1.items k d).promise.number ≡ k + 1)) }
 {
     let mut endpoint = endpoint;
-    let mut askers = askers;
-    let mut workers = Vec::with_capacity(alloc, posters.len())?;
+    let Ok(mut workers) = Vec::with_capacity(alloc, posters.len()) else {
+        return Err(CrewFault::OutOfMemory);
+    };
     for poster in posters {
-        let number = poster.number();
-        let promise = Works { crew, body, number };
-        let Some(asker) = askers.pop() else {
-            stop(rt, crew, workers);
-            return Err(OutOfMemory);
-        };
-        let theirs = endpoint.give(&crew.jobs);
-        let Ok(worker) = scope.spawn_with(
-            promise,
-            move || work(rt, crew, body, theirs, poster, asker),
-        ) else {
-            stop(rt, crew, workers);
-            return Err(OutOfMemory);
-        };
-        workers.push_reserved(worker);
+        let asker = desk.asker(rt).ok();
+        match start_one(scope, rt, crew, body, asker, &mut endpoint, poster) {
+            Ok(worker) => workers.push_reserved(worker),
+            Err(fault) => {
+                stop(rt, crew, workers);
+                return Err(fault);
+            }
+        }
     }
     Ok((endpoint, workers))
 }

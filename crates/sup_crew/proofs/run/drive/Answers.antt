@@ -8,14 +8,15 @@ use Rattle.sup_crew.proofs.run.drive.Goals as goal
 pub returns : goal.returns
 returns g c =
     let h = c.in-Ok.ensures in
-    let s = c.start_and_drain-started.ensures in
-    let d = c.drain_rest-fault.ensures in
+    let s = c.start_all-started.ensures in
+    let f = c.drain_all-fault.ensures in
+    let d = c.drain_all-fault-2.ensures in
     let taker = c.requires.taker in
     let new = c.new-driver.ensures in
     let jobs = c.new.ensures in
     let view = c.driver.view_is in
     let it = c.driver.inside in
-    let end = c.drain_rest-fault.new.self in
+    let end = c.drain_all-fault-2.new.self in
     let run = run_of g.N.Name.template g.N.Name.press c.args.crew.now.moment c.args.caller in
     let begins : HasDriven run [] c.new-driver.result =
     driven_begins run c.new-driver.result (ap (λ (d : DriverModel). d.knows) new ∙ c.bind.ensures) (ap (λ (d : DriverModel). d.ticket) new) (ap (λ (d : DriverModel). d.tally) new)
@@ -27,18 +28,18 @@ returns g c =
     in
     record {
       driver = c.number.ensures;
-      driven = subst (HasDriven run (take c.start_and_drain-started.result.0 c.args.crew.now.children.items)) (sym last) (d.drained _ _ (s.started _ [] begins));
+      driven = subst (HasDriven run (take c.start_all-started.result.0 c.args.crew.now.children.items)) (sym last) (d.drained _ _ (f.drained _ _ (s.started _ [] begins)));
       of_queue = (
-        ap (λ (d : DriverModel). d.jobs.queue) view ∙ d.same.0.0 ∙ s.same.0.0 ∙ ap (λ (d : DriverModel). d.jobs.queue) new ∙ jobs.0 ∙ ap (λ v. v.queue) h.endpoint.0,
-        (let p = ap (λ (d : DriverModel). d.jobs.parts) view ∙ d.same.0.1 ∙ s.same.0.1 ∙ ap (λ (d : DriverModel). d.jobs.parts) new ∙ jobs.1 in let r = h.endpoint.1 in omega (arith, p, r)),
+        ap (λ (d : DriverModel). d.jobs.queue) view ∙ d.same.0.0 ∙ f.same.0.0 ∙ s.same.0.0 ∙ ap (λ (d : DriverModel). d.jobs.queue) new ∙ jobs.0 ∙ ap (λ v. v.queue) h.endpoint.0,
+        (let p = ap (λ (d : DriverModel). d.jobs.parts) view ∙ d.same.0.1 ∙ f.same.0.1 ∙ s.same.0.1 ∙ ap (λ (d : DriverModel). d.jobs.parts) new ∙ jobs.1 in let r = h.endpoint.1 in omega (arith, p, r)),
       );
       of_inbox = (
-        ap (λ (d : DriverModel). d.drain.inbox) view ∙ d.same.1 ∙ s.same.1 ∙ ap (λ (d : DriverModel). d.drain.inbox) new ∙ ap (λ d. d.inbox) c.new-2.ensures ∙ ap (λ t. t.inbox) taker,
-        ap (λ (d : DriverModel). d.drain.posters) view ∙ d.same.2 ∙ s.same.2 ∙ ap (λ (d : DriverModel). d.drain.posters) new ∙ ap (λ d. d.posters) c.new-2.ensures ∙ ap (λ t. t.posters) taker,
+        ap (λ (d : DriverModel). d.drain.inbox) view ∙ d.same.1 ∙ f.same.1 ∙ s.same.1 ∙ ap (λ (d : DriverModel). d.drain.inbox) new ∙ ap (λ d. d.inbox) c.new-2.ensures ∙ ap (λ t. t.inbox) taker,
+        ap (λ (d : DriverModel). d.drain.posters) view ∙ d.same.2 ∙ f.same.2 ∙ s.same.2 ∙ ap (λ (d : DriverModel). d.drain.posters) new ∙ ap (λ d. d.posters) c.new-2.ensures ∙ ap (λ t. t.posters) taker,
       );
-      all = none_before c.start_and_drain-started.result.1 c.drain_rest-fault.result _ d.stays s.all;
+      all = none_before c.start_all-started.result.1 c.drain_all-fault-2.result _ (λ is. d.stays (f.stays is)) s.all;
       few = s.few;
-      cause = subst (λ (k : Knowledge). IfSome c.drain_rest-fault.result (IsCause run.template k)) (sym (ap (λ (d : DriverModel). d.knows) last)) d.cause;
+      cause = subst (λ (k : Knowledge). IfSome c.drain_all-fault-2.result (IsCause run.template k)) (sym (ap (λ (d : DriverModel). d.knows) last)) d.cause;
       count = sym c.join_all-finished.result.ok.0 ∙ c.join_all-finished.ensures.len ∙ h.len;
       worked = c.join_all-finished.ensures.each;
     }

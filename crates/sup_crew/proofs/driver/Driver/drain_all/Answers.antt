@@ -1,11 +1,22 @@
 use Rattle.sup_crew.proofs.Driven.{same_trans, at_work}
 use Rattle.sup_crew.proofs.driver.Driver.drain_all.Goals as goal
 
-pub returns-then-is_some-clause-drained : goal.returns-then-is_some-clause-drained
-returns-then-is_some-clause-drained g c before begun driven = c.drain_once-count.ensures.drained before begun (c.loop.invariant.drained before begun driven)
+pub returns-then-is_some-2-clause-drained : goal.returns-then-is_some-2-clause-drained
+returns-then-is_some-2-clause-drained g c before begun driven = c.drain_once-count.ensures.drained before begun (c.loop.invariant.drained before begun driven)
 
-pub loop-preserved-then-count-eq0 : goal.loop-preserved-then-count-eq0
-loop-preserved-then-count-eq0 g c =
+pub loop-preserved-then-count-gt0 : goal.loop-preserved-then-count-gt0
+loop-preserved-then-count-gt0 g c =
+    let i = c.loop.invariant in
+    let e = c.drain_once-count.ensures in
+    let new = c.drain_once-count.new.self in
+    record {
+      same = same_trans c.args.self.now c.loop.self new i.same e.same;
+      at_work = at_work c.args.crew.now.jobs c.args.crew.now.inbox.id c.loop.self new e.same i.at_work;
+      drained = λ before begun driven. e.drained before begun (i.drained before begun driven);
+    }
+
+pub loop-preserved-then-idle-turns-2 : goal.loop-preserved-then-idle-turns-2
+loop-preserved-then-idle-turns-2 g c =
     let i = c.loop.invariant in
     let e = c.drain_once-count.ensures in
     let new = c.drain_once-count.new.self in
