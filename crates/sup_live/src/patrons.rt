@@ -1,6 +1,5 @@
 //! Patrons: programs in threads of their own, with a door each.
 ghost use Rattle.std.specs.Prelude.{◌≡◌, ◌≤◌, [], vec_len, vec_capacity};
-ghost use denote.Param.Send.{IsSend};
 
 use crate::program::Program;
 use std::sync::Wait;
@@ -119,12 +118,7 @@ where
 {
     let mut threads = room;
     for patron in patrons {
-        let begun = scope.spawn(
-            move || -> Patron<N, U::Outcome>
-                requires threads { IsSend N.row × IsSend S.row × IsSend Q.row × IsSend I.row × IsSend P.row }
-                requires children { IsSend B.Message.row × IsSend B.Child.row }
-            { attend(rt, desk, yard, patron) },
-        );
+        let begun = scope.spawn(move || attend(rt, desk, yard, patron));
         let thread = match begun {
             Ok(thread) => Some(thread),
             Err(_) => None,

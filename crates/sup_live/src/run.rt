@@ -4,19 +4,20 @@ ghost use Rattle.sup_driver.specs.Leads.{exits_among, are_driven};
 ghost use Rattle.sup_inbox.specs.Ends.{AreOf};
 ghost use denote.Param.Send.{IsSend};
 
-use crate::patrons::{Nobody, Patron, Programs, join_patrons, start_patrons};
+use crate::patrons::{Attending, Nobody, Patron, Programs, join_patrons, start_patrons};
 use crate::plan::{LiveFault, Plan};
 use crate::program::Program;
 use crate::report::Report;
 use arrayvec::ArrayVec;
 use futures::Future;
+use futures::task::Hold;
 use std::alloc::{AllocGlobal, Global};
 use std::collections::VecDeque;
 use std::marker::Brand;
 use std::random::RandomSource;
 use std::sync::Wait;
 use std::thread;
-use std::thread::{Scope, Threads};
+use std::thread::{JoinHandle, Scope, Threads};
 use std::time::Clock;
 use sup_crew::HELD;
 use sup_desk::{Caller, Desk, Handle, Name};
@@ -56,6 +57,80 @@ where
     }
 }
 
+/// A run whose workers were started: room for its patrons and for their threads, and what keeps the yard open.
+#[derive(Drop)]
+struct Staffed<'s, T: Drop> {
+    threads: Attending<T>,
+    room: Vec<T>,
+    holds: Vec<Hold<'s>>,
+}
+
+/// Makes room for so many patrons, and starts the workers.
+fn staff<'s, 'h: 's, E, I, B, P, T, R>(
+    scope: &Scope<'s, E>,
+    rt: &'s R,
+    yard: &'s Yard<'h, I, B, P, Alive<'h, I, B, P>>,
+    workers: usize,
+    patrons: usize,
+) -> Result<Staffed<'s, T>, LiveFault>
+where
+    I: Office + Send + Sync + 's,
+    B: Behaviour + Sync + 's,
+    B::Message: Send + 's,
+    B::Child: Send + 's,
+    P: Wait + Drop + Send + Sync + 's,
+    T: Drop,
+    R: Threads + Wait + Clock + Sync,
+    ensures empty { IfOk result (λ b. (b.threads.items ≡ []) × (b.room.items ≡ [])) }
+    ensures room { IfOk result (λ b. (patrons ≤ vec_capacity b.threads) × (patrons ≤ vec_capacity b.room)) }
+{
+    let Ok(threads) = Vec::with_capacity(yard.alloc(), patrons) else {
+        return Err(LiveFault::OutOfMemory);
+    };
+    let Ok(room) = Vec::with_capacity(yard.alloc(), patrons) else {
+        return Err(LiveFault::OutOfMemory);
+    };
+    let Ok(holds) = yard.hold() else {
+        return Err(LiveFault::OutOfMemory);
+    };
+    start_workers(scope, rt, yard, workers);
+    if yard.hub().counts().have_all_gone() {
+        return Err(LiveFault::NoThread);
+    }
+    Ok(Staffed {
+        threads,
+        room,
+        holds,
+    })
+}
+
+/// Starts the driver, or shuts the yard down.
+fn start_driver<'s, 'h: 's, 'd: 's, E, N, S, Q, I, B, P, R>(
+    scope: &Scope<'s, E>,
+    rt: &'s R,
+    yard: &'s Yard<'h, I, B, P, Alive<'h, I, B, P>>,
+    driver: Driver<'d, N, S, Q, I>,
+) -> Result<JoinHandle<Driven<N, I>>, LiveFault>
+where
+    N: Name + Send + Sync + 's,
+    S: Starter + Drop + Send + Sync + 's,
+    Q: Wait + Drop + Send + Sync + 's,
+    I: Office + Send + Sync + 's,
+    B: Behaviour + Sync + 's,
+    B::Message: Send + 's,
+    B::Child: Send + 's,
+    P: Wait + Drop + Send + Sync + 's,
+    R: Threads + Wait + Clock + Sync,
+{
+    match scope.spawn(move || driver.drive(rt, yard)) {
+        Ok(driving) => Ok(driving),
+        Err(_) => {
+            yard.shut_down();
+            Err(LiveFault::NoThread)
+        }
+    }
+}
+
 /// Starts the threads, runs the program, and joins the patrons and the driver.
 fn run_program<'s, 'h: 's, 'd: 's, E, N, S, Q, I, B, P, T, U, R>(
     scope: &Scope<'s, E>,
@@ -82,24 +157,20 @@ where
     R: Threads + Wait + Clock + Sync,
     ensures { IfOk result (λ j. vec_len j.patrons ≡ vec_len programs.patrons) }
 {
+    let staffed = match staff(scope, rt, yard, workers, programs.patrons.len()) {
+        Ok(staffed) => staffed,
+        Err(fault) => return Err(fault),
+    };
+    let driving = match start_driver(scope, rt, yard, driver) {
+        Ok(driving) => driving,
+        Err(fault) => return Err(fault),
+    };
+    let Staffed {
+        threads,
+        room,
+        holds,
+    } = staffed;
     let Programs { program, patrons } = programs;
-    let Ok(threads) = Vec::with_capacity(yard.alloc(), patrons.len()) else {
-        return Err(LiveFault::OutOfMemory);
-    };
-    let Ok(room) = Vec::with_capacity(yard.alloc(), patrons.len()) else {
-        return Err(LiveFault::OutOfMemory);
-    };
-    let Ok(holds) = yard.hold() else {
-        return Err(LiveFault::OutOfMemory);
-    };
-    start_workers(scope, rt, yard, workers);
-    if yard.hub().counts().have_all_gone() {
-        return Err(LiveFault::NoThread);
-    }
-    let Ok(driving) = scope.spawn(move || driver.drive(rt, yard)) else {
-        yard.shut_down();
-        return Err(LiveFault::NoThread);
-    };
     let threads = start_patrons(scope, rt, desk, yard, patrons, threads);
     let mut door = Door::new(desk, handle, yard);
     let outcome = program.run(rt, &mut door);
@@ -158,6 +229,35 @@ fn end_yard<'h, I: Office, B: Behaviour, P: Wait + Drop, F: Future>(yard: Yard<'
     drop(yard);
 }
 
+/// The two ends by which a run uses its desk: the driver, and the handle of the program's first door.
+#[derive(Drop)]
+struct Ends<'d, N: Name, S: Starter + Drop, Q: Wait + Drop, I: Office> {
+    driver: Driver<'d, N, S, Q, I>,
+    door: Handle<'d, N, S, Q>,
+}
+
+/// Makes the two ends.
+fn ends_of<'d, N, S, Q, I, R>(
+    rt: &R,
+    alloc: Global,
+    desk: &'d Desk<N, S, Q>,
+    taker: Taker,
+    retry_after: u64,
+) -> Result<Ends<'d, N, S, Q, I>, LiveFault>
+where
+    N: Name,
+    S: Starter + Drop,
+    Q: Wait + Drop,
+    I: Office,
+    R: Wait,
+    requires taker { taker ≡ record { inbox = I.inbox; posters = I.posters; taken = [] } }
+{
+    let handle = desk.handle(rt)?;
+    let door = desk.handle(rt)?;
+    let driver = Driver::new(alloc, handle, taker, retry_after)?;
+    Ok(Ends { driver, door })
+}
+
 /// Makes the yard and the handles, and runs the threads.
 fn run_in_yard<'h, 'd, N, S, Q, I, B, P, T, U, R>(
     rt: &R,
@@ -186,12 +286,14 @@ where
     requires taker { taker ≡ record { inbox = I.inbox; posters = I.posters; taken = [] } }
     ensures { IfOk result (λ j. vec_len j.patrons ≡ vec_len programs.patrons) }
 {
-    let handle = desk.handle(rt)?;
-    let door = desk.handle(rt)?;
-    let driver = Driver::new(alloc, handle, taker, plan.retry_after)?;
+    let ends: Ends<'d, N, S, Q, I> = match ends_of(rt, alloc, desk, taker, plan.retry_after) {
+        Ok(ends) => ends,
+        Err(fault) => return Err(fault),
+    };
     let Ok(yard) = Yard::new(rt, alloc, hub, behaviour, moments, plan.grace, plan.workers) else {
         return Err(LiveFault::OutOfMemory);
     };
+    let Ends { driver, door } = ends;
     let joined = run_threads(rt, desk, &yard, driver, door, programs, plan.workers);
     end_yard(yard);
     joined
@@ -226,6 +328,29 @@ struct Parts {
     posters: Vec<Poster>,
     taker: Taker,
     room: Room,
+}
+
+impl Parts {
+    fn new(alloc: Global, workers: usize, inbox: usize) -> Result<Parts, LiveFault>
+        requires { 1 ≤ inbox }
+        ensures inbox { IfOk result (λ p. p.inbox.capacity ≡ inbox) }
+        ensures posters { IfOk result (λ p. AreOf p.inbox.id p.posters.items × (vec_len p.posters ≡ workers)) }
+        ensures taker { IfOk result (λ p. p.taker ≡ record { inbox = p.inbox.id; posters = workers; taken = [] }) }
+        ensures empty { IfOk result (λ p. (p.room.posters.items ≡ []) × (p.room.waiting.items ≡ []) × (p.room.left.items ≡ []) × (p.room.held.items ≡ [])) }
+        ensures room { IfOk result (λ p. (workers ≤ vec_capacity p.room.posters) × (workers ≤ vec_capacity p.room.waiting) × (inbox ≤ vec_capacity p.room.left) × (64 ≤ vec_capacity p.room.held)) }
+    {
+        let room = Room::new(alloc, workers, inbox)?;
+        let (inbox, root) = Inbox::new(alloc, inbox)?;
+        let Ok((posters, taker)) = root.split(alloc, &inbox, workers) else {
+            return Err(LiveFault::OutOfMemory);
+        };
+        Ok(Parts {
+            inbox,
+            posters,
+            taker,
+            room,
+        })
+    }
 }
 
 /// Runs the crew of an office.
@@ -266,11 +391,22 @@ where
         taker,
         room,
     } = parts;
-    let hub: Hub<I, B::Message, &R> = Hub::new(rt, alloc, inbox, posters, plan.workers as u64)?;
-    let joined = run_in_yard(
+    let hub: Hub<I, B::Message, &R> = match Hub::new(
+        rt,
+        alloc,
+        inbox,
+        posters,
+        plan.workers as u64,
+    ) {
+        Ok(hub) => hub,
+        Err(_) => return Err(LiveFault::OutOfMemory),
+    };
+    match run_in_yard(
         rt, alloc, desk, behaviour, moments, plan, programs, &hub, taker,
-    )?;
-    Ok(report(rt, hub, joined, room))
+    ) {
+        Ok(joined) => Ok(report(rt, hub, joined, room)),
+        Err(fault) => Err(fault),
+    }
 }
 
 /// The notes that are held, in a list that has room for them.
@@ -399,16 +535,9 @@ where
     ensures counted { IfOk result (λ r. r.exits ≡ length (exits_among r.driver.calls)) }
     ensures patrons { IfOk result (λ r. vec_len r.patrons ≡ vec_len patrons) }
 {
-    let room = Room::new(alloc, plan.workers, plan.inbox)?;
-    let (inbox, root) = Inbox::new(alloc, plan.inbox)?;
-    let Ok((posters, taker)) = root.split(alloc, &inbox, plan.workers) else {
-        return Err(LiveFault::OutOfMemory);
-    };
-    let parts = Parts {
-        inbox,
-        posters,
-        taker,
-        room,
+    let parts = match Parts::new(alloc, plan.workers, plan.inbox) {
+        Ok(parts) => parts,
+        Err(fault) => return Err(fault),
     };
     let programs = Programs { program, patrons };
     run_office::<N, S, Q, Brand, B, T, U, R>(
