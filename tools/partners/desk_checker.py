@@ -1,7 +1,7 @@
 #!/usr/bin/env python3
 """Checks what the threads of a round over one desk recorded (desk/lines.rt.txt writes it): that there is one order of all
-updates in which each reply, each query, each ticket and each front can be. The replies are those of the supervisor in
-recount.py.
+updates in which each reply, each query, each ticket and each front can be, and that the desk's journal is the text of that
+order. The replies are those of the supervisor in recount.py.
 
 usage: tools/partners/desk_checker.py < RECORD
 
@@ -77,11 +77,12 @@ class Call:
 
 
 class Record:
-    """A round: its template, the most entries of its history, its calls in the order of the lines, and the history's length
-    once the threads had ended."""
+    """A round: its template, the most entries of its history, its calls in the order of the lines, the history's length once the
+    threads had ended, and the text of the desk's journal."""
 
     def __init__(self, text):
         try:
+            text, _, self.journal = text.partition("journal\n")
             first, *lines, last = text.splitlines()
             words = first.split(" ")
             end, length = last.split(" ")
@@ -95,7 +96,7 @@ class Record:
             raise Broken(f"this is no record: {why}") from None
 
     def text(self):
-        return "\n".join([self.head, *(it.line() for it in self.calls), f"end {self.end}", ""])
+        return "\n".join([self.head, *(it.line() for it in self.calls), f"end {self.end}", "journal", self.journal])
 
     def updates(self):
         """The updates that were entered, by place: a ticket's stamp is the place of the last that it answers."""
@@ -120,6 +121,7 @@ def check(record):
     tickets_are_at_their_fronts(record)
     updates = record.updates()
     places_are_gapless(record, updates)
+    journal_is_the_history(record, updates)
     real_time_is_kept(updates)
     tickets_have_all(record, updates)
     writes_follow_reads(record)
@@ -172,6 +174,24 @@ def places_are_gapless(record, updates):
             raise Violation("lost update", f"none stands at place {place}, and the next is this", update.call)
     if len(updates) != record.end:
         raise Violation("lost update", f"the history has {record.end} entries, and {len(updates)} were answered")
+
+
+def journal_is_the_history(record, updates):
+    """The journal has the template and then a line for each update, in the order of the places: its handle, how many that had
+    made before, its moment and operation, and what the start function answered."""
+    first, *lines = record.journal.split("\n")
+    if lines[-1:] != [""]:
+        raise Violation("journal", "its last line is torn")
+    if first.split(" ")[2:] != record.head.split(" ")[1:-2]:
+        raise Violation("journal", f"its first line is '{first}'")
+    made = collections.Counter()
+    for update, line in zip(updates, lines[:-1]):
+        entry = f"{update.call.thread} {made[update.call.thread]} {update.moment} {update.operation} "
+        if not re.fullmatch(re.escape(entry) + "(running|ignore|failed [0-9]+)", line):
+            raise Violation("journal", f"the line at place {update.place} is '{line}'", update.call)
+        made[update.call.thread] += 1
+    if len(lines) - 1 != len(updates):
+        raise Violation("journal", f"it has {len(lines) - 1} entries, and {len(updates)} were answered")
 
 
 def real_time_is_kept(updates):

@@ -163,6 +163,29 @@ def refusal_without_a_reason(record):
     return call
 
 
+def of_journal(record, change):
+    """Changes the lines behind the first one of the journal, where there are two that differ."""
+    first, *lines = record.journal.splitlines(True)
+    pairs = [at for at, (line, then) in enumerate(zip(lines, lines[1:])) if line != then]
+    at = middle(pairs)
+    if at is not None:
+        change(lines, at)
+        record.journal = "".join([first, *lines])
+    return at is not None
+
+
+def journal_lacks_an_entry(record):
+    return of_journal(record, lambda lines, at: lines.pop(at))
+
+
+def journal_in_another_order(record):
+    return of_journal(record, lambda lines, at: lines.insert(at, lines.pop(at + 1)))
+
+
+def torn_journal(record):
+    return of_journal(record, lambda lines, at: lines.append(lines.pop()[:-1]))
+
+
 ALL = (
     Mutant("a_stale_query", "query", stale_query),
     Mutant("a_query_at_a_lower_front", "front that goes back", query_at_a_lower_front),
@@ -179,4 +202,7 @@ ALL = (
     Mutant("a_query_of_what_is_yet_to_come", "seen early", query_of_what_comes),
     Mutant("a_part_of_a_batch_is_seen", "part of a batch", part_of_a_batch),
     Mutant("a_refusal_without_a_reason", "refusal", refusal_without_a_reason),
+    Mutant("a_journal_that_lacks_an_entry", "journal", journal_lacks_an_entry),
+    Mutant("a_journal_in_another_order", "journal", journal_in_another_order),
+    Mutant("a_torn_journal", "journal", torn_journal),
 )

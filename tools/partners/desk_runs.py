@@ -9,7 +9,7 @@ import tempfile
 import runs
 
 SECONDS = 60
-CRATES = ("sup_types", "sup_window", "sup_core", "sup_format", "sup_script", "sup_log", "sup_desk")
+CRATES = ("sup_types", "sup_window", "sup_core", "sup_format", "sup_script", "sup_log", "sup_desk", "sup_journal")
 SOURCES = f"{runs.HERE}/desk"
 BUILT = f"{SOURCES}/out/desk_stress"
 
@@ -69,7 +69,7 @@ def place_of(file):
 
 def copy_crates(room, *left_out):
     """Copies the crates that the program needs, and writes its own beside them."""
-    copy_program(room, CRATES, SOURCES, "desk_stress: sup_types sup_log sup_desk sup_script", *left_out)
+    copy_program(room, CRATES, SOURCES, "desk_stress: sup_types sup_log sup_desk sup_journal sup_script", *left_out)
 
 
 def copy_program(room, crates, sources, line, *left_out):
