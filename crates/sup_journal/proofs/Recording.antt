@@ -23,12 +23,13 @@ nothing_waits : (text : List ℕ) (template : Template) (entries : List Entry) �
 nothing_waits text template entries s =
     subst (λ (l : List ℕ). SpellsAs l template (entries ++ [])) (sym (append-nil text)) (subst (λ (es : List Entry). SpellsAs text template es) (sym (append-nil entries)) s)
 
-pub begun : (held old new : Option (List ℕ)) (line : List ℕ) (template : Template) → Keeps held old → Appends old new line → SpellsAs line template [] → IsRecorded held new [] template [] []
-begun held old new line template keeps took s = record {
-  text = line;
-  took = Appends-of_kept held old new line keeps took;
+pub begun : (held old new : Option (List ℕ)) (text : List ℕ) (template : Template) (entries : List Entry) → Keeps held old → Appends old new text → SpellsAs text template entries
+    → IsRecorded held new [] template entries []
+begun held old new text template entries keeps took s = record {
+  text = text;
+  took = Appends-of_kept held old new text keeps took;
   spelled = s;
-  waits = nothing_waits line template [] s;
+  waits = nothing_waits text template entries s;
 }
 
 module _ (held old : Option (List ℕ)) (waiting : List ℕ) (template : Template) (recorded ready : List Entry) (r : IsRecorded held old waiting template recorded ready) where

@@ -1,7 +1,7 @@
 //! Why a journal was not begun, and why one ended.
 
-use sup_desk::JournalFault;
 use std::io::ErrorKind;
+use sup_desk::JournalFault;
 use thiserror::Error;
 
 /// Why a journal was not begun.

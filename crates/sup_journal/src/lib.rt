@@ -10,6 +10,9 @@
 //! the text of the batch. The whole lines of that, which `sup_format::ended_part` gives, are read as the entries before and
 //! the first few of the batch, but not all of them (`laws::whole_lines`). The journal records nothing more.
 //!
+//! After a crash `read_journal` reads what there is, and [`TextJournal::resume`] goes on behind it, in a writer of its own: so a
+//! torn last line is gone. `sup_desk::on_journaled_desk` makes a desk of both.
+//!
 //! What the writer held at first is said by the type: an [`Origin`]. `Brand` stands for an empty writer, and `Unknown` for
 //! one like a file, of which no clause says what it holds.
 //!
@@ -24,9 +27,11 @@
 mod fault;
 pub mod laws;
 mod origin;
+mod reading;
 mod send;
 mod text_journal;
 
 pub use fault::{BeginFault, NotBegun};
 pub use origin::{Origin, Unknown};
+pub use reading::read_journal;
 pub use text_journal::TextJournal;

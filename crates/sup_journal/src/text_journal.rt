@@ -2,17 +2,17 @@
 
 ghost use Rattle.std.specs.Prelude.{◌≡◌, [], None, IfOk, IfErr};
 ghost use Rattle.std.specs.Io.KnownBytes.{Keeps};
-ghost use Rattle.sup_journal.specs.Begun.{Leaves};
+ghost use Rattle.sup_journal.specs.Begun.{Leaves, LeavesText};
 ghost use Rattle.sup_journal.specs.Ends.{error_of};
 
 use crate::fault::{BeginFault, End, NotBegun};
-use sup_desk::{Journal, JournalFault};
 use crate::origin::Origin;
 use crate::send::send;
 use std::alloc::Allocator;
 use std::io::{ErrorKind, Write};
 use std::marker::PhantomData;
-use sup_format::{append_entry, append_header};
+use sup_desk::{Journal, JournalFault};
+use sup_format::{append_entry, append_header, write_history};
 use sup_types::{Entry, OutOfMemory, Template};
 
 /// A journal that writes the text of a history, in version 2, to this writer: behind what it held, which the origin says.
@@ -45,6 +45,38 @@ impl<O: Origin, W: Write, A: Allocator> TextJournal<O, W, A> {
             let fault = BeginFault::OutOfMemory;
             return Err(NotBegun { fault, writer });
         }
+        if let Err(end) = send(&mut writer, text.as_slice()) {
+            let fault = BeginFault::Refused(end.fault());
+            return Err(NotBegun { fault, writer });
+        }
+        text.clear();
+        Ok(TextJournal {
+            writer,
+            text,
+            end: None,
+            origin: PhantomData,
+        })
+    }
+
+    /// A journal that goes on behind a history of before: the writer takes the text of that history. After a refusal the writer
+    /// comes back. It took nothing where memory was refused, and else a part of that text.
+    pub fn resume(
+        alloc: A,
+        writer: W,
+        template: &Template,
+        entries: &[Entry],
+    ) -> Result<TextJournal<O, W, A>, NotBegun<W>>
+    where
+        A: Copy,
+        requires { Keeps O.held (W.contents writer) }
+        ensures ok { IfOk result (λ journal. ⟦<TextJournal<O, W, A> as Journal>⟧.has journal template.now entries.now []) }
+        ensures err { IfErr result (λ e. LeavesText e.fault (W.contents writer) (W.contents e.writer) template.now entries.now) }
+    {
+        let mut writer = writer;
+        let Ok(mut text) = write_history(alloc, template, entries) else {
+            let fault = BeginFault::OutOfMemory;
+            return Err(NotBegun { fault, writer });
+        };
         if let Err(end) = send(&mut writer, text.as_slice()) {
             let fault = BeginFault::Refused(end.fault());
             return Err(NotBegun { fault, writer });

@@ -10,7 +10,7 @@ use std::process::Abort;
 use std::test::Fail;
 use sup_desk::{Journal, JournalFault};
 use sup_format::{ended_part, read_history, write_history};
-use sup_journal::{BeginFault, TextJournal, Unknown};
+use sup_journal::{BeginFault, TextJournal, Unknown, read_journal};
 use sup_types::{Answer, Entry, Kind, Operation, Reason, Restart, Template, Text};
 
 /// The history of the tests, as text.
@@ -100,6 +100,31 @@ fn records_what_is_written_of_a_history(rt: HostRuntime) -> Result<(), Fail> {
     };
     assert!(rt; text.starts_with(first.as_slice()) && first.len() == 68);
     Ok(())
+}
+
+#[test]
+fn goes_on_behind_a_torn_journal(rt: HostRuntime) -> Result<(), Fail> {
+    let entries = entries(&rt);
+    let torn = &HISTORY.as_bytes()[..HISTORY.len() - 3];
+    let Ok(history) = read_journal(rt.alloc(), torn) else {
+        return Err(Fail::new("its whole lines are read"));
+    };
+    assert!(rt; history.entries.as_slice() == &entries[..2]);
+    let before = history.entries.as_slice();
+    let text = go_on(rt.alloc(), &history.template, before, &entries[2]);
+    assert!(rt; text.is_some_and(|it| it.as_slice() == HISTORY.as_bytes()));
+    Ok(())
+}
+
+/// Goes on behind these entries with one more.
+fn go_on(alloc: Global, template: &Template, before: &[Entry], entry: &Entry) -> Option<Vec<u8>> {
+    let resumed = TextJournal::<Brand, _, _>::resume(alloc, Vec::new(alloc), template, before);
+    let Ok(mut journal) = resumed else {
+        return None;
+    };
+    journal.prepare(entry).ok()?;
+    journal.record().ok()?;
+    Some(journal.into_writer())
 }
 
 /// How many entries the text is read as, if it is read and they are the first of these.
