@@ -73,18 +73,18 @@ impl<O: Origin, W: Write, A: Allocator> TextJournal<O, W, A> {
         ensures err { IfErr result (λ e. LeavesText e.fault (W.contents writer) (W.contents e.writer) template.now entries.now) }
     {
         let mut writer = writer;
-        let Ok(mut text) = write_history(alloc, template, entries) else {
+        let Ok(mut before) = write_history(alloc, template, entries) else {
             let fault = BeginFault::OutOfMemory;
             return Err(NotBegun { fault, writer });
         };
-        if let Err(end) = send(&mut writer, text.as_slice()) {
+        if let Err(end) = send(&mut writer, before.as_slice()) {
             let fault = BeginFault::Refused(end.fault());
             return Err(NotBegun { fault, writer });
         }
-        text.clear();
+        before.clear();
         Ok(TextJournal {
             writer,
-            text,
+            text: before,
             end: None,
             origin: PhantomData,
         })

@@ -5,7 +5,7 @@ use Rattle.sup_journal.proofs.text_journal.TextJournal.resume.Goals as goal
 
 pub returns-clause-ok : goal.returns-clause-ok
 returns-clause-ok g c =
-    let took : Appends (g.W.Write.contents c.args.writer) (g.W.Write.contents c.send.new.writer) c.in-Ok.text.items = search rules in (
+    let took : Appends (g.W.Write.contents c.args.writer) (g.W.Write.contents c.send.new.writer) c.in-Ok.before.items = search rules in (
       refl,
-      rw c.clear.ensures.items (begun g.O.Origin.held (g.W.Write.contents c.args.writer) (g.W.Write.contents c.send.new.writer) c.in-Ok.text.items c.args.template.now c.args.entries.now c.requires took c.in-Ok.ensures),
+      rw c.clear.ensures.items (begun g.O.Origin.held (g.W.Write.contents c.args.writer) (g.W.Write.contents c.send.new.writer) c.in-Ok.before.items c.args.template.now c.args.entries.now c.requires took c.in-Ok.ensures),
     )
