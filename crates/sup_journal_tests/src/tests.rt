@@ -2,6 +2,8 @@
 ghost use Rattle.std.specs.Prelude.{[], ◌∷◌, IfSome};
 ghost use Rattle.sup_format.specs.Reading.History.{SpellsAs};
 
+mod desks;
+
 use std::alloc::Global;
 use std::io;
 use std::io::{ErrorKind, Write};
