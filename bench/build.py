@@ -17,6 +17,7 @@ USES = {
     "step": "sup_types sup_core linked_list_allocator",
     "log": "sup_types sup_core sup_log left_right core",
     "desk": "sup_types sup_desk",
+    "journal": "sup_types sup_desk sup_journal",
     "inbox": "sup_types sup_inbox crossbeam_queue atomic_table",
     "crew": "sup_types sup_desk sup_crew",
     "live": "sup_types sup_desk sup_live futures anyhow",
