@@ -12,10 +12,12 @@ use sup_types::{
     Answer, Counts, Entry, Operation, OutOfMemory, Reason, Reply, Restart, Seen, Template,
 };
 
-/// Takes so many records, and then breaks off. It counts the entries that it has recorded.
+/// Takes so many records, and then breaks off. It counts the entries that it has recorded. One that is scarce has no memory for its
+/// next entry.
 #[derive(Drop)]
 struct Takes {
     records: u64,
+    scarce: bool,
     ready: u64,
     recorded: u64,
 }
@@ -30,6 +32,10 @@ impl Journal for Takes {
     ghost may_fail = { λ _. ⊤ };
 
     fn prepare(&mut self, _entry: &Entry) -> Result<(), OutOfMemory> {
+        if self.scarce {
+            self.scarce = false;
+            return Err(OutOfMemory);
+        }
         self.ready = self.ready.saturating_add(1);
         Ok(())
     }
@@ -51,12 +57,13 @@ const BROKEN: UpdateFault = UpdateFault::Journal(JournalFault::Failed);
 fn journal_for(records: u64) -> Takes {
     Takes {
         records,
+        scarce: false,
         ready: 0,
         recorded: 0,
     }
 }
 
-/// Two updates and a batch are recorded, and then no more.
+/// After an update that is refused for want of memory, two updates and a batch are recorded, and then no more.
 #[derive(Drop)]
 struct BreaksOff {
     alloc: Global,
@@ -67,10 +74,17 @@ impl<R: Wait + Abort> JournaledProgram<Always, R, Takes> for BreaksOff {
 
     fn run<N: Name + Send + Sync>(self, rt: &R, desk: &Desk<N, Always, &R, Takes>) {
         let mut handle = desk.handle(rt).expect(rt, "a handle");
+        is_refused(rt, &mut handle);
         start_two(rt, &mut handle);
         enter_batch(rt, self.alloc, &mut handle);
         is_broken(rt, self.alloc, &mut handle);
     }
+}
+
+/// Nothing is entered.
+fn is_refused<N: Name, R: Wait + Abort>(rt: &R, handle: &mut Handle<'_, N, Always, &R, Takes>) {
+    let done = handle.start_child(rt, 0, text(rt, "a"));
+    assert!(rt; reply_of(done) == Err(UpdateFault::OutOfMemory) && handle.front() == 0);
 }
 
 fn start_two<N: Name, R: Wait + Abort>(rt: &R, handle: &mut Handle<'_, N, Always, &R, Takes>) {
@@ -127,16 +141,9 @@ fn is_as_before<N: Name, R: Wait + Abort>(
 fn a_journal_that_breaks_off_refuses_all_updates(rt: HostRuntime) {
     let template = template(&rt, Restart::Permanent, 10, 1 << 62);
     let program = BreaksOff { alloc: rt.alloc() };
-    let ran = on_journaled_desk(
-        &rt,
-        rt.alloc(),
-        template,
-        1,
-        Always,
-        journal_for(3),
-        &[],
-        program,
-    );
+    let mut journal = journal_for(3);
+    journal.scarce = true;
+    let ran = on_journaled_desk(&rt, rt.alloc(), template, 1, Always, journal, &[], program);
     let Ok(
         (
             (),
