@@ -17,7 +17,9 @@
 //! one like a file, of which no clause says what it holds.
 //!
 //! ```text
-//! let mut journal = TextJournal::<Brand, _, _>::new(rt.alloc(), Vec::new(rt.alloc()), &template)?;
+//! let Ok(mut journal) = TextJournal::<Brand, _, _>::new(rt.alloc(), Vec::new(rt.alloc()), &template) else {
+//!     ..
+//! };
 //! journal.prepare(&entry)?;
 //! journal.record()?;
 //! assert_eq!(rt; journal.into_writer().as_slice(), b"history 2 permanent worker 1 5 10 plain never\n1 0 0 start a running\n".as_slice());
