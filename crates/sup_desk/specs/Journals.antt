@@ -24,14 +24,14 @@ abbrev pub IsTornOff : {J : Type 0} → (J → Template → List Entry → List 
 IsTornOff has torn old new =
     (template : Template) (recorded ready : List Entry) → has old template recorded ready → torn new template recorded ready
 
--- a journal that goes on has recorded what is published and holds ready what is pending; with one that broke off, a part of what
+-- a journal that goes on has recorded what is published and holds ready what is pending; with one that broke off, some of what
 -- is pending may be recorded, and it will never be published
 abbrev pub IsKept : (List Entry → List Entry → Type 0) → (List Entry → List Entry → Type 0) → (JournalFault → Type 0) → Option JournalFault → List Entry → List Entry → Type 0
 IsKept has torn may None published pending = has published pending
 IsKept has torn may (Some fault) published pending = torn published pending × may fault
 
--- the journal of a desk that was closed with this history has recorded just that; if it broke off, it has recorded that, and at
--- most a part of what was refused
+-- the journal of a desk that was closed with this history has recorded just that; if it broke off, it has recorded that, and
+-- perhaps some of what was refused
 abbrev pub HasJust : (List Entry → List Entry → Type 0) → (List Entry → List Entry → Type 0) → (JournalFault → Type 0) → Option JournalFault → List Entry → Type 0
 HasJust has torn may None history = has history []
 HasJust has torn may (Some fault) history = ((refused : List Entry) × torn history refused) × may fault

@@ -5,6 +5,7 @@ pub mod Faults
 pub mod Asking
 pub mod Batches
 pub mod Audits
+pub mod Recoveries
 pub mod Results
 pub mod EntryLaws
 pub mod BatchLaws

@@ -3,6 +3,7 @@ ghost use Rattle.std.specs.Prelude.{◌≡◌, ◌≤◌, [], length, All, IfOk,
 ghost use Rattle.sup_desk.specs.Knowledge.{entries_of};
 ghost use Rattle.sup_desk.specs.Books.{IsMade};
 ghost use Rattle.sup_desk.specs.Journals.{HasJust};
+ghost use Rattle.sup_desk.specs.Recoveries.{IsCauseOf};
 ghost use Rattle.sup_desk.specs.Audits.{AreNumbered, AreGrown, HaveSeenAll};
 
 use crate::asker::Asker;
@@ -52,8 +53,9 @@ impl<N: Name, S: Starter + Drop, R: Wait + Drop, J: Journal + Drop> Desk<N, S, R
 
     /// A desk on this ground, which N names, that goes on from a history of before: all of its entries are published, in order,
     /// and the journal has recorded them. The ticket is for this history, so a handle that learns it has seen all of it. New
-    /// handles get numbers above those of the history; `resume` gives these. A fault where an entry can't be entered: there is no
-    /// desk then.
+    /// handles get numbers above those of the history; `resume` gives these. A fault where an entry can't be entered: HistoryFull
+    /// for more entries than the template allows, NoHandle for one of a number that no handle of the ground can have, and
+    /// OutOfMemory for want of memory. There is no desk then.
     pub fn recover(
         ground: Ground<R>,
         starter: S,
@@ -62,7 +64,8 @@ impl<N: Name, S: Starter + Drop, R: Wait + Drop, J: Journal + Drop> Desk<N, S, R
     ) -> Result<(Desk<N, S, R, J>, Ticket), RecoverFault>
         requires name { (ground.press ≡ N.press) × (ground.template ≡ N.template) }
         requires journal { J.has journal N.template entries.now [] }
-        ensures { IfOk result (λ p. (p.1.press ≡ N.press) × (p.1.front ≡ entries.now)) }
+        ensures ok { IfOk result (λ p. (p.1.press ≡ N.press) × (p.1.front ≡ entries.now)) }
+        ensures err { IfErr result (λ f. IsCauseOf f N.template ground.handles entries.now) }
     {
         let leaf = enter_again(ground.leaf(), entries)?;
         let ticket = leaf.tell();
@@ -74,7 +77,8 @@ impl<N: Name, S: Starter + Drop, R: Wait + Drop, J: Journal + Drop> Desk<N, S, R
     }
 
     /// Ends the desk: a ticket for all of its history, and the journal. The journal has recorded just this history, unless it
-    /// broke off; then it has recorded this history, and at most a part of what was refused. It waits for the lenses that look.
+    /// broke off; then it has recorded this history, and of what was refused a part, or all where a flush failed. It waits for the
+    /// lenses that look.
     /// Askers that are left are answered no more.
     pub fn close(self) -> Closed<J>
         ensures ticket { result.ticket.press ≡ N.press }

@@ -15,6 +15,9 @@ pub enum JournalFault {
     /// Its writer took nothing of bytes that were not empty.
     #[error("its writer took nothing")]
     TookNothing,
+    /// Its writer took all of a record, and could not flush it.
+    #[error("its writer could not flush what it took")]
+    NotFlushed,
 }
 
 impl JournalFault {
@@ -37,7 +40,8 @@ pub trait Journal {
     /// Whether the journal has recorded this history of a supervisor of this template, and holds these further entries ready.
     ghost has: { Self → Template → List Entry → List Entry → Type 0 };
 
-    /// Whether a record of these further entries broke off: the journal has recorded this history, and of these at most a part.
+    /// Whether a record of these further entries broke off: the journal has recorded this history, and then a part of these, or all
+    /// of them where a flush failed.
     ghost is_torn: { Self → Template → List Entry → List Entry → Type 0 };
 
     /// Whether a record may fail so.
@@ -49,7 +53,7 @@ pub trait Journal {
         ensures ok { OnOk result (HoldsOneMore has self.old self.new entry.now) }
         ensures err { OnErr result (HoldsAsBefore has self.old self.new) };
 
-    /// Records what is ready, in one write.
+    /// Records what is ready, in one write. It may then flush its writer, too.
     fn record(&mut self) -> Result<(), JournalFault>
         ensures ok { OnOk result (HasAll has self.old self.new) }
         ensures err { OnErr result (IsTornOff has is_torn self.old self.new) }

@@ -1,6 +1,7 @@
 //! Desks for programs that write no proof: the name is picked here.
-ghost use Rattle.std.specs.Prelude.{◌≡◌, ◌≤◌, ◌↔◌, [], IfOk};
+ghost use Rattle.std.specs.Prelude.{◌≡◌, ◌≤◌, ◌↔◌, [], IfOk, IfErr};
 ghost use Rattle.sup_desk.specs.Journals.{HasJust};
+ghost use Rattle.sup_desk.specs.Recoveries.{IsCauseOf};
 
 use crate::desk::Desk;
 use crate::faults::DeskFault;
@@ -84,6 +85,7 @@ pub fn on_journaled_desk<
 ) -> Result<(P::Outcome, Closed<J>), RecoverFault>
     requires { J.has journal template entries.now [] }
     ensures journal { IfOk result (λ p. HasJust (J.has p.1.journal template) (J.is_torn p.1.journal template) J.may_fail p.1.fault p.1.ticket.front) }
+    ensures err { IfErr result (λ f. IsCauseOf f template handles entries.now) }
 {
     let ground = Ground::new(alloc, rt, template, handles)?;
     run_recorded::<Brand, S, R, J, P>(rt, ground, starter, journal, entries, program)
@@ -107,6 +109,7 @@ fn run_recorded<
     requires name { (ground.press ≡ N.press) × (ground.template ≡ N.template) }
     requires journal { J.has journal N.template entries.now [] }
     ensures journal { IfOk result (λ p. HasJust (J.has p.1.journal N.template) (J.is_torn p.1.journal N.template) J.may_fail p.1.fault p.1.ticket.front) }
+    ensures err { IfErr result (λ f. IsCauseOf f N.template ground.entry.handles entries.now) }
 {
     let (desk, _) = Desk::<N, S, &R, J>::recover(ground, starter, journal, entries)?;
     let outcome = program.run(rt, &desk);

@@ -1,7 +1,8 @@
 //! Recovery: a desk goes on from a history of before.
-ghost use Rattle.std.specs.Prelude.{◌≡◌, ◌≤◌, ◌++◌, ◌∷◌, [], OnOk, IfOk, None};
+ghost use Rattle.std.specs.Prelude.{◌≡◌, ◌≤◌, ◌++◌, ◌∷◌, [], OnOk, IfOk, IfErr, None};
 ghost use Rattle.sup_log.specs.Tokens.{in_one_step};
 ghost use Rattle.sup_desk.specs.Faults.{recover_fault_number, desk_fault_number};
+ghost use Rattle.sup_desk.specs.Recoveries.{IsCauseOf, StopsAt};
 
 use crate::faults::DeskFault;
 use crate::journal::NoJournal;
@@ -70,7 +71,8 @@ fn again<N: Name, R: Wait + Drop>(
     entry: Entry,
 ) -> Result<(), RecoverFault>
     requires clean { (leaf.old.fault ≡ None) × (leaf.old.pending ≡ []) }
-    ensures ok { OnOk result ((leaf.new.fault ≡ None) × (leaf.new.pending ≡ []) × (leaf.new.published ≡ leaf.old.published ++ entry ∷ [])) }
+    ensures ok { OnOk result ((leaf.new.fault ≡ None) × (leaf.new.pending ≡ []) × (leaf.new.published ≡ leaf.old.published ++ entry ∷ []) × (leaf.new.handles ≡ leaf.old.handles)) }
+    ensures err { IfErr result (λ f. StopsAt f N.template leaf.old.handles leaf.old.published entry) }
 {
     let number = entry.handle;
     if number == 0 || number > leaf.handles() {
@@ -97,7 +99,8 @@ pub fn enter_again<N: Name, R: Wait + Drop>(
     entries: &[Entry],
 ) -> Result<Leaf<N, R, NoJournal>, RecoverFault>
     requires clean { (leaf.fault ≡ None) × (leaf.pending ≡ []) × (leaf.published ≡ []) }
-    ensures { IfOk result (λ l. (l.fault ≡ None) × (l.pending ≡ []) × (l.published ≡ entries.now)) }
+    ensures ok { IfOk result (λ l. (l.fault ≡ None) × (l.pending ≡ []) × (l.published ≡ entries.now)) }
+    ensures err { IfErr result (λ f. IsCauseOf f N.template leaf.handles entries.now) }
 {
     let mut leaf = leaf;
     for entry in entries {
