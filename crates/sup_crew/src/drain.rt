@@ -11,7 +11,7 @@ use std::collections::VecDeque;
 use std::fmt;
 use std::marker::Model;
 use std::sync::Wait;
-use sup_desk::{Dones, Handle, Name, Part, UpdateFault};
+use sup_desk::{Dones, Handle, Journal, Name, Part, UpdateFault};
 use sup_inbox::{Inbox, Note, Taker};
 use sup_log::Ticket;
 use sup_types::{Operation, OutOfMemory, Reply, Starter};
@@ -143,10 +143,10 @@ fn pair_up(
 }
 
 /// Enters the first of the notes that are held, in order and in one step. Those that were entered are held no more.
-fn enter_held<N: Name, S: Starter + Drop, P: Wait + Drop, R: Wait>(
+fn enter_held<N: Name, S: Starter + Drop, P: Wait + Drop, J: Journal + Drop, R: Wait>(
     rt: &R,
     alloc: Global,
-    handle: &mut Handle<'_, N, S, P>,
+    handle: &mut Handle<'_, N, S, P, J>,
     moment: u64,
     held: &mut ArrayVec<Note, HELD>,
     count: usize,
@@ -215,12 +215,12 @@ impl Drain {
     /// Takes notes until `limit` are held or the inbox is empty, and enters the first `limit` of them as exits, in order
     /// and in one step. `limit` is 1 to 64. Notes that were not entered stay held and go first next time. With no note it
     /// takes no lock and no memory. The room for what it answers is made before anything is entered.
-    pub fn drain<N: Name, S: Starter + Drop, P: Wait + Drop, R: Wait>(
+    pub fn drain<N: Name, S: Starter + Drop, P: Wait + Drop, J: Journal + Drop, R: Wait>(
         &mut self,
         rt: &R,
         alloc: Global,
         inbox: &Inbox,
-        handle: &mut Handle<'_, N, S, P>,
+        handle: &mut Handle<'_, N, S, P, J>,
         moment: u64,
         limit: usize,
     ) -> Result<Drained, DrainFault>

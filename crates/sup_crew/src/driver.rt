@@ -15,16 +15,16 @@ use crate::queue::Dispatcher;
 use std::alloc::Global;
 use std::marker::Model;
 use std::sync::Wait;
-use sup_desk::{Done, Handle, Name, UpdateFault};
+use sup_desk::{Done, Handle, Journal, Name, UpdateFault};
 use sup_inbox::Note;
 use sup_log::Ticket;
 use sup_types::{Reply, Starter, Text};
 
 /// The driver of a run: it makes all updates.
 #[derive(Drop)]
-pub struct Driver<'d, N: Name, S: Starter + Drop, P: Wait + Drop> {
+pub struct Driver<'d, N: Name, S: Starter + Drop, P: Wait + Drop, J: Journal + Drop> {
     /// The handle by which it makes its updates.
-    pub handle: Handle<'d, N, S, P>,
+    pub handle: Handle<'d, N, S, P, J>,
     /// What it does with the jobs for the children that it made.
     pub jobs: Dispatcher<N>,
     /// What it takes of the inbox.
@@ -35,15 +35,16 @@ pub struct Driver<'d, N: Name, S: Starter + Drop, P: Wait + Drop> {
     pub tally: Tally,
 }
 
-impl<'d, N: Name, S: Starter + Drop, P: Wait + Drop> Model for Driver<'d, N, S, P> {
+impl<'d, N: Name, S: Starter + Drop, P: Wait + Drop, J: Journal + Drop> Model
+    for Driver<'d, N, S, P, J> {
     ghost Value = { DriverModel };
 
     ghost view = { λ d. record { knows = d.handle; jobs = d.jobs; drain = d.drain; ticket = d.ticket; tally = d.tally } };
 }
 
-impl<'d, N: Name, S: Starter + Drop, P: Wait + Drop> Driver<'d, N, S, P> {
+impl<'d, N: Name, S: Starter + Drop, P: Wait + Drop, J: Journal + Drop> Driver<'d, N, S, P, J> {
     /// A driver that did nothing yet.
-    pub fn new(handle: Handle<'d, N, S, P>, jobs: Dispatcher<N>, drain: Drain) -> Self
+    pub fn new(handle: Handle<'d, N, S, P, J>, jobs: Dispatcher<N>, drain: Drain) -> Self
         ensures { result ≡ record { knows = handle.entry; jobs = jobs; drain = drain; ticket = None; tally = tally_of [] } }
     {
         Driver {

@@ -1,4 +1,4 @@
-//! What a run needs. It is made before the first update, so what can be refused for want of memory is refused here.
+//! What a run needs. It is made before the first update: a run that has no memory for it has entered nothing.
 ghost use Rattle.std.specs.Prelude.{◌≡◌, ◌<◌, ◌≤◌, [], IfOk, vec_len, vec_capacity};
 ghost use Rattle.sup_crew.specs.Runs.{AreParts};
 ghost use Rattle.sup_inbox.specs.Ends.{AreFrom, AreNew};

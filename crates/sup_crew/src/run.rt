@@ -19,7 +19,7 @@ use std::alloc::Global;
 use std::sync::Wait;
 use std::thread;
 use std::thread::{Scope, Threads};
-use sup_desk::{Caller, Desk, Handle, Name, UpdateFault};
+use sup_desk::{Caller, Desk, Handle, Journal, Name, UpdateFault};
 use sup_inbox::{Poster, Taker};
 use sup_log::Ticket;
 use sup_types::Starter;
@@ -59,13 +59,13 @@ pub struct RunOutcome<N: Name> {
 }
 
 /// What the driver does inside the scope of the threads.
-fn drive<'s, 'd: 's, E, N, S, P, B, R>(
+fn drive<'s, 'd: 's, E, N, S, P, J, B, R>(
     scope: &Scope<'s, E>,
     rt: &'s R,
     alloc: Global,
     crew: &'s Crew<N>,
     body: &'s B,
-    desk: &'d Desk<N, S, P>,
+    desk: &'d Desk<N, S, P, J>,
     caller: Caller<N>,
     parts: Parts<N>,
 ) -> (Caller<N>, Result<RunOutcome<N>, CrewFault>)
@@ -73,6 +73,7 @@ where
     N: Name + Send + Sync + 's,
     S: Starter + Drop + Send + Sync + 's,
     P: Wait + Drop + Send + Sync + 's,
+    J: Journal + Drop + Send + 's,
     B: Body + Sync,
     R: Threads + Wait + Sync,
     requires { AreParts crew.now.jobs crew.now.inbox.id parts }
@@ -120,18 +121,19 @@ where
 }
 
 /// Starts the threads, and joins them all. The driver's handle is taken apart meanwhile.
-fn run_bound<'d, N, S, P, B, R>(
+fn run_bound<'d, N, S, P, J, B, R>(
     rt: &R,
     alloc: Global,
     crew: &Crew<N>,
     body: &B,
-    handle: Handle<'d, N, S, P>,
+    handle: Handle<'d, N, S, P, J>,
     parts: Parts<N>,
-) -> (Handle<'d, N, S, P>, Result<RunOutcome<N>, CrewFault>)
+) -> (Handle<'d, N, S, P, J>, Result<RunOutcome<N>, CrewFault>)
 where
     N: Name + Send + Sync,
     S: Starter + Drop + Send + Sync,
     P: Wait + Drop + Send + Sync,
+    J: Journal + Drop + Send,
     B: Body + Sync,
     R: Threads + Wait + Sync,
     requires { AreParts crew.now.jobs crew.now.inbox.id parts }
@@ -150,18 +152,19 @@ where
 }
 
 /// The same for a driver's handle that is lent.
-fn run_lent<'d, N, S, P, B, R>(
+fn run_lent<'d, N, S, P, J, B, R>(
     rt: &R,
     alloc: Global,
     crew: &Crew<N>,
     body: &B,
-    driver: &mut Handle<'d, N, S, P>,
+    driver: &mut Handle<'d, N, S, P, J>,
     parts: Parts<N>,
 ) -> Result<RunOutcome<N>, CrewFault>
 where
     N: Name + Send + Sync,
     S: Starter + Drop + Send + Sync,
     P: Wait + Drop + Send + Sync,
+    J: Journal + Drop + Send,
     B: Body + Sync,
     R: Threads + Wait + Sync,
     requires { AreParts crew.now.jobs crew.now.inbox.id parts }
@@ -171,11 +174,11 @@ where
     replace_with(
         driver,
         parts,
-        |handle: Handle<'_, N, S, P>, parts: Parts<N>| -> (
-            Handle<'_, N, S, P>,
+        |handle: Handle<'_, N, S, P, J>, parts: Parts<N>| -> (
+            Handle<'_, N, S, P, J>,
             Result<RunOutcome<N>, CrewFault>,
         )
-            requires threads { IsSend N.row × IsSend S.row × IsSend P.row }
+            requires threads { IsSend N.row × IsSend S.row × IsSend P.row × IsSend J.row }
             requires parts { AreParts crew.now.jobs crew.now.inbox.id parts }
         { run_bound(rt, alloc, crew, body, handle, parts) },
     )
@@ -188,10 +191,10 @@ where
 /// refused. What was not done is in the report.
 ///
 /// A fault comes before the first update. It leaves the history and the driver's calls as they were.
-pub fn run_crew_with<'d, N, S, P, B, R>(
+pub fn run_crew_with<'d, N, S, P, J, B, R>(
     rt: &R,
     alloc: Global,
-    driver: &mut Handle<'d, N, S, P>,
+    driver: &mut Handle<'d, N, S, P, J>,
     body: &B,
     plan: Plan,
 ) -> Result<Report<N>, CrewFault>
@@ -199,6 +202,7 @@ where
     N: Name + Send + Sync,
     S: Starter + Drop + Send + Sync,
     P: Wait + Drop + Send + Sync,
+    J: Journal + Drop + Send,
     B: Body + Sync,
     R: Threads + Wait + Sync,
     requires workers { (1 ≤ plan.workers) × (plan.workers ≤ 64) }
@@ -218,10 +222,10 @@ where
 }
 
 /// The same with a handle that is made for the run, and is not given back: an audit then lacks it.
-pub fn run_crew<N, S, P, B, R>(
+pub fn run_crew<N, S, P, J, B, R>(
     rt: &R,
     alloc: Global,
-    desk: &Desk<N, S, P>,
+    desk: &Desk<N, S, P, J>,
     body: &B,
     plan: Plan,
 ) -> Result<Report<N>, CrewFault>
@@ -229,6 +233,7 @@ where
     N: Name + Send + Sync,
     S: Starter + Drop + Send + Sync,
     P: Wait + Drop + Send + Sync,
+    J: Journal + Drop + Send,
     B: Body + Sync,
     R: Threads + Wait + Sync,
     requires workers { (1 ≤ plan.workers) × (plan.workers ≤ 64) }

@@ -12,7 +12,7 @@ use crate::queue::Endpoint;
 use std::alloc::Global;
 use std::sync::Wait;
 use std::thread::{Promise, PromisedHandle, Scope, Threads};
-use sup_desk::{Asker, Desk, Name};
+use sup_desk::{Asker, Desk, Journal, Name};
 use sup_inbox::{InboxFull, Poster};
 use sup_types::{Reason, Starter, Text};
 
@@ -207,13 +207,13 @@ where
 }
 
 /// Starts a worker for each poster. Where one can't be started, the run is over, and the started ones are joined.
-pub fn start<'s, E, N, S, P, B, R>(
+pub fn start<'s, E, N, S, P, J, B, R>(
     scope: &Scope<'s, E>,
     rt: &'s R,
     alloc: Global,
     crew: &'s Crew<N>,
     body: &'s B,
-    desk: &Desk<N, S, P>,
+    desk: &Desk<N, S, P, J>,
     endpoint: Endpoint<N>,
     posters: Vec<Poster>,
 ) -> Result<(Endpoint<N>, Vec<Worker<'s, N, B>>), CrewFault>
@@ -221,6 +221,7 @@ where
     N: Name + Send + Sync + 's,
     S: Starter + Drop,
     P: Wait + Drop,
+    J: Journal + Drop,
     B: Body + Sync,
     R: Threads + Wait + Sync,
     requires endpoint { endpoint ≡ record { queue = crew.now.jobs; permission = permission 1024 [] [] } }
