@@ -1,6 +1,7 @@
 -- The words of a load lead to the load of their numbers.
 use Rattle.std.proofs.Common.{◌≡◌, ◌∙◌, ◌++◌, ◌<◌, ◌≤◌, ◌^◌, ℕ, Bool, true, false, List, [], ◌∷◌, Some, None, refl, sym, ap, ap₂, subst, arith, codes, get_or, map, inl, inr}
-use Rattle.std.specs.Prelude.{Result, Ok, Err, decimal, find, if◌then◌else◌, is_some, option_and_then, option_map}
+use Rattle.std.specs.Prelude.{Result, Ok, Err, decimal, Option, find, if◌then◌else◌, is_some, option_and_then, option_map}
+use Rattle.std.specs.Borrow.{Bor}
 use Rattle.std.specs.Str.{bytes_eq}
 use Rattle.std.specs.Str.Parse.{IsNumeral, digits_value, without_leading_plus}
 use Rattle.std.specs.Char.{digit_value}
@@ -12,7 +13,7 @@ use Rattle.clap.specs.Kinds.{IsAmong, Kinds, or_else}
 use Rattle.clap.specs.Simple.{App, built, entered, names_of, subcommand_of}
 use Rattle.clap.specs.Takes.{is_given}
 use Rattle.clap.specs.Values.{Accepts, kind_of}
-use Rattle.clap.specs.Walk.{Row, Text, Walk, finished, idle, nothing_held, row_text, rows_after, settled, walk, walk_from}
+use Rattle.clap.specs.Walk.{Row, Text, Walk, finished, first_of, idle, nothing_held, row_text, rows_after, settled, walk, walk_from}
 use Rattle.clap.specs.declared.builder.value_parser.ValueParser.TheVariants.{Unsigned}
 use Rattle.clap.proofs.FaultLemmas.{stopped_fault}
 use Rattle.clap.proofs.KindLemmas.{value_kinds-ok}
@@ -183,23 +184,44 @@ at_load rest = refl
 entered_below : (name : Text) (rest : List Text) → subcommand_of supload_app (name ∷ codes "load" ∷ rest) ≡ Some (codes "load", rows_after load_rules [] rest)
 entered_below name rest = ap (λ (w : Walk). entered app w.stopped) (stops rest) ∙ at_load rest
 
--- an order of the numbers is the load of them, and an error is want of memory
+-- the four numbers have no path of a journal
+no_path : (given : Given) → first_of (codes "journal") (map row_for given) ≡ None
+unfolding row_for
+no_path [] = refl
+no_path ((workers, n) ∷ ps) = no_path ps
+no_path ((children, n) ∷ ps) = no_path ps
+no_path ((readers, n) ∷ ps) = no_path ps
+no_path ((turns, n) ∷ ps) = no_path ps
+
+no_text : (path : Option (Bor Text)) → option_map (λ s. s.now) path ≡ None → path ≡ None
+no_text None e = refl
+no_text (Some s) e = cc
+
+-- an order of the numbers alone is the load of them, and an error is want of memory
 load_of : (kinds : Kinds) (command : Command) (rows : List Row) (w n r t : ℕ) → kinds ≡ [] → command ≡ Some (codes "load", rows)
-    → AreNumbers rows w n r t → IsWithin w n r t → (result : Result Order Error) → LeadsTo kinds command result → IsLoadOf w n r t result
+    → AreNumbers rows w n r t → first_of (codes "journal") rows ≡ None → IsWithin w n r t → (result : Result Order Error) → LeadsTo kinds command result
+    → IsLoadOf w n r t result
 unfolding first_byte rows_in
-load_of kinds command rows w n r t none is are within (Ok (order.Script d)) leads =
+load_of kinds command rows w n r t none is are bare within (Ok (order.Script d)) leads =
     let bad : ◌≡◌ {A = ℕ} 115 108 = ap first_byte (sym leads.1.1 ∙ is) in absurd (omega arith)
-load_of kinds command rows w n r t none is are within (Ok (order.Replay d)) leads =
+load_of kinds command rows w n r t none is are bare within (Ok (order.Replay d)) leads =
     let bad : ◌≡◌ {A = ℕ} 114 108 = ap first_byte (sym leads.1.1 ∙ is) in absurd (omega arith)
-load_of kinds command rows w n r t none is are within (Ok (order.Serve d)) leads =
+load_of kinds command rows w n r t none is are bare within (Ok (order.Serve d)) leads =
     let bad : ◌≡◌ {A = ℕ} 115 108 = ap first_byte (sym leads.1.1 ∙ is) in absurd (omega arith)
-load_of kinds command rows w n r t none is are within (Ok (order.Load load)) leads =
+load_of kinds command rows w n r t none is are bare within (Ok (order.Load load path)) leads =
     let same : leads.1.0 ≡ rows = ap rows_in (sym leads.1.1 ∙ is) in
     let those = subst (λ (R : List Row). AreNumbers R load.workers load.children load.readers load.turns) same leads.1.2 in
-    (same_number those.workers are.workers, same_number those.children are.children, same_number those.readers are.readers, same_number those.turns are.turns)
-load_of kinds command rows w n r t none is are within (Err e) (inl memory) = memory
-load_of kinds command rows w n r t none is are within (Err e) (inr (inl among)) = absurd (subst (IsAmong (kind_of e)) none among)
-load_of kinds command rows w n r t none is are within (Err e) (inr (inr other)) =
+    let path_is : option_map (λ s. s.now) path ≡ None = leads.1.3 ∙ (ap (first_of (codes "journal")) same ∙ bare) in
+    (
+      same_number those.workers are.workers,
+      same_number those.children are.children,
+      same_number those.readers are.readers,
+      same_number those.turns are.turns,
+      no_text path path_is,
+    )
+load_of kinds command rows w n r t none is are bare within (Err e) (inl memory) = memory
+load_of kinds command rows w n r t none is are bare within (Err e) (inr (inl among)) = absurd (subst (IsAmong (kind_of e)) none among)
+load_of kinds command rows w n r t none is are bare within (Err e) (inr (inr other)) =
     let load : Load = record {
       workers = w;
       children = n;
@@ -210,7 +232,7 @@ load_of kinds command rows w n r t none is are within (Err e) (inr (inr other)) 
       asking = within.4;
       asked = (within.5, within.6);
     } in
-    absurd (other.1.none (order.Load load) (rows, is, are))
+    absurd (other.1.none (order.Load load None) (rows, is, are, sym bare))
 
 pub load_leads : (name : Text) (given : Given) (w n r t : ℕ) → IsWhole given w n r t → (result : Result Order Error)
     → WordsLeadTo (name ∷ codes "load" ∷ words_of given) result → IsLoadOf w n r t result
@@ -231,4 +253,4 @@ load_leads name given w n r t whole result leads =
       (range turns t whole.has_turns).1,
     ) in
     load_of (fault_of supload_app words) (subcommand_of supload_app words) (map row_for given) w n r t
-    (fault_below name (words_of given) ∙ leaf_passes given w n r t whole) entered (numbers given w n r t whole) within result leads
+    (fault_below name (words_of given) ∙ leaf_passes given w n r t whole) entered (numbers given w n r t whole) (no_path given) within result leads

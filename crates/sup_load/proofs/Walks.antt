@@ -14,7 +14,7 @@ use Rattle.clap.specs.Walk.{Held, Row, Rule, Text, Walk, idle, option, walked, s
 use Rattle.clap.specs.Takes.{is_given}
 use Rattle.clap.specs.declared.builder.value_parser.ValueParser.TheVariants.{Unsigned}
 use Rattle.clap.proofs.OnLiterals.{clap_on_literals}
-use Rattle.sup_load.specs.Grammar.{setting_rule}
+use Rattle.sup_load.specs.Grammar.{journal_rule, setting_rule}
 use Rattle.sup_load.specs.Settings.{Setting, Given, workers, children, readers, turns, name_of, flag_of, words_of, least_of, most_of}
 
 -- ---- the load as clap builds it
@@ -23,7 +23,7 @@ abbrev pub ready : Setting → Rule
 ready s = filled (setting_rule s)
 
 abbrev pub load_rules : List Rule
-load_rules = ready workers ∷ ready children ∷ ready readers ∷ ready turns ∷ filled help_rule ∷ []
+load_rules = ready workers ∷ ready children ∷ ready readers ∷ ready turns ∷ filled journal_rule ∷ filled help_rule ∷ []
 
 abbrev pub load_shape : Shape
 load_shape = record (new_shape (codes "load")) {
@@ -213,7 +213,7 @@ unfolding parts missing
 leaf_fault given plain =
     let end = run given nothing_held in
     let R = (settled load_rules end).rows in
-    let none = defaults_none load_rules R (refl, (refl, (refl, (refl, (refl, tt))))) in
+    let none = defaults_none load_rules R (refl, (refl, (refl, (refl, (refl, (refl, tt)))))) in
     let parted : level_fault load_shape [] nothing_held (words_of given) false [] ≡ parts (faults given nothing_held) (idle_at end) =
     ap₂ parts (fault_is given nothing_held plain) (walk_is given nothing_held plain) in
     let tail : or_else (defaults_fault R load_rules) (check_fault load_shape (fold with_default R load_rules) false) ≡ missing (rows_from [] given) =
@@ -225,4 +225,4 @@ pub leaf_rows : (given : Given) → AllPlain given → rows_after load_rules [] 
 leaf_rows given plain =
     let end = run given nothing_held in
     ap (λ w. finished load_rules w.held) (walk_is given nothing_held plain)
-    ∙ ((defaults_none load_rules (settled load_rules end).rows (refl, (refl, (refl, (refl, (refl, tt)))))).1 ∙ rows_are given nothing_held)
+    ∙ ((defaults_none load_rules (settled load_rules end).rows (refl, (refl, (refl, (refl, (refl, (refl, tt))))))).1 ∙ rows_are given nothing_held)

@@ -56,7 +56,7 @@ IsDone (order.Script detail) remaining left contents held has_failed given has_r
     IsScriptAnswered remaining left contents held has_failed given has_refused status
 IsDone (order.Replay detail) remaining left contents held has_failed given has_refused status =
     IsReplayAnswered remaining left contents held has_failed given has_refused status
-IsDone (order.Load load) remaining left contents held has_failed given has_refused status =
+IsDone (order.Load load path) remaining left contents held has_failed given has_refused status =
     (left ≡ remaining) × IsLoadAnswered contents held has_refused status
 IsDone (order.Serve notices) remaining left contents held has_failed given has_refused status = IsServed has_failed has_refused status
 

@@ -34,10 +34,22 @@ status_rule = record (new_rule (codes "status")) { long = Some (codes "status");
 abbrev pub serve_app : App
 serve_app = with_rule (new_app (codes "serve")) status_rule
 
--- the load, with its four numbers
+-- an option that may be given once, with a path
+abbrev pub path_rule : List ℕ → Rule
+path_rule name = record (new_rule name) {
+  long = Some name;
+  value_names = 1;
+  action = Some Set;
+}
+
+-- `--journal`, which takes the path of a file
+abbrev pub journal_rule : Rule
+journal_rule = path_rule (codes "journal")
+
+-- the load, with its four numbers, and perhaps a journal
 abbrev pub load_app : App
-load_app = with_rule (with_rule (with_rule (with_rule (new_app (codes "load"))
-    (setting_rule workers)) (setting_rule children)) (setting_rule readers)) (setting_rule turns)
+load_app = with_rule (with_rule (with_rule (with_rule (with_rule (new_app (codes "load"))
+    (setting_rule workers)) (setting_rule children)) (setting_rule readers)) (setting_rule turns)) journal_rule
 
 -- the program has a version and asks for a command
 abbrev pub bare_app : App

@@ -1,11 +1,12 @@
 -- Which words lead where: what each order takes of them, and the kind of error where they are none.
-use Rattle.std.specs.Prelude.{◌≡◌, ◌⊎◌, ◌<◌, ◌^◌, ℕ, List, [], ◌∷◌, Option, Some, Result, Ok, Err, MatchResult, codes}
+use Rattle.std.specs.Prelude.{◌≡◌, ◌⊎◌, ◌<◌, ◌^◌, ℕ, List, [], ◌∷◌, Option, None, Some, Result, Ok, Err, MatchResult, codes, option_map}
+use Rattle.std.specs.Borrow.{Bor}
 use Rattle.std.specs.Str.Parse.{IsNumeral, digits_value, without_leading_plus}
 use Rattle.clap.specs.Faults.{fault_of}
 use Rattle.clap.specs.Kinds.{IsAmong, Kinds}
 use Rattle.clap.specs.Simple.{subcommand_of}
 use Rattle.clap.specs.Values.{kind_of}
-use Rattle.clap.specs.Walk.{Row, Text, one_of}
+use Rattle.clap.specs.Walk.{Row, Text, first_of, one_of}
 use Rattle.clap.specs.declared.error.Error.{Error}
 use Rattle.clap.specs.declared.error.kind.ErrorKind.{ErrorKind}
 use Rattle.clap.specs.declared.error.kind.ErrorKind.TheVariants.{InvalidSubcommand, OutOfMemory, ValueValidation}
@@ -46,12 +47,16 @@ pub record AreNumbers (rows : List Row) (w n r t : ℕ) : Type 0 where
   pub readers : HasNumber rows (codes "readers") r
   pub turns : HasNumber rows (codes "turns") t
 
+-- the path is what `--journal` says, if it was given
+abbrev pub IsPath : List Row → Option (Bor Text) → Type 0
+IsPath rows path = option_map (λ s. s.now) path ≡ first_of (codes "journal") rows
+
 -- the order is the one that the command names, with what its options say
 abbrev pub IsOrder : Command → Order → Type 0
 IsOrder command (order.Script answer) = (rows : List Row) × (command ≡ Some (codes "script", rows)) × IsDetail rows answer
 IsOrder command (order.Replay answer) = (rows : List Row) × (command ≡ Some (codes "replay", rows)) × IsDetail rows answer
-IsOrder command (order.Load load) = (rows : List Row) × (command ≡ Some (codes "load", rows))
-    × AreNumbers rows load.workers load.children load.readers load.turns
+IsOrder command (order.Load load path) = (rows : List Row) × (command ≡ Some (codes "load", rows))
+    × AreNumbers rows load.workers load.children load.readers load.turns × IsPath rows path
 IsOrder command (order.Serve answer) = (rows : List Row) × (command ≡ Some (codes "serve", rows)) × IsNotices rows answer
 
 -- no order is the command's
@@ -80,8 +85,9 @@ command_at words = subcommand_of supload_app words
 abbrev pub WordsLeadTo : List Text → Result Order Error → Type 0
 WordsLeadTo words = LeadsTo (kinds_at words) (command_at words)
 
--- the load of these numbers, unless memory ran out
+-- the load of these numbers, without a journal, unless memory ran out
 abbrev pub IsLoadOf : ℕ → ℕ → ℕ → ℕ → Result Order Error → Type 0
-IsLoadOf w n r t (Ok (order.Load load)) = (load.workers ≡ w) × (load.children ≡ n) × (load.readers ≡ r) × (load.turns ≡ t)
+IsLoadOf w n r t (Ok (order.Load load path)) =
+    (load.workers ≡ w) × (load.children ≡ n) × (load.readers ≡ r) × (load.turns ≡ t) × (path ≡ None)
 IsLoadOf w n r t (Ok _) = ⊥
 IsLoadOf w n r t (Err e) = kind_of e ≡ OutOfMemory

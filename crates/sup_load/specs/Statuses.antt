@@ -19,6 +19,7 @@ stop_fault_number stop.NoHandle = 5
 stop_fault_number stop.NoPlace = 6
 stop_fault_number stop.BadTemplate = 7
 stop_fault_number stop.Journal = 13
+stop_fault_number stop.NoJournal = 14
 
 abbrev pub load_fault_number : LoadFault → ℕ
 load_fault_number (load.Stopped fault) = stop_fault_number fault
@@ -33,6 +34,7 @@ status_of_stop_fault stop.NoHandle = status.OtherFault
 status_of_stop_fault stop.NoPlace = status.OtherFault
 status_of_stop_fault stop.BadTemplate = status.BadInput
 status_of_stop_fault stop.Journal = status.OtherFault
+status_of_stop_fault stop.NoJournal = status.OtherFault
 
 abbrev pub status_of_load_fault : LoadFault → Status
 status_of_load_fault (load.Stopped fault) = status_of_stop_fault fault

@@ -9,6 +9,7 @@ use std::alloc::AllocError;
 use std::fmt;
 use sup_crew::CrewFault;
 use sup_desk::{DeskFault, HandleFault, UpdateFault};
+use sup_journal::BeginFault;
 use sup_types::BadTemplate;
 
 /// What stopped a load before there was a report, or the run of which it reports.
@@ -30,12 +31,14 @@ pub enum StopFault {
     BadTemplate,
     /// The journal broke off.
     Journal,
+    /// The journal's file was there already, or could not be made.
+    NoJournal,
 }
 
 impl StopFault {
     ghost use Rattle.sup_load.specs.Loads.{of_update};
 
-    /// The number of the fault: 1 to 7, in the order of the variants, and 13.
+    /// The number of the fault: 1 to 7, in the order of the variants, and 13 and 14.
     pub fn number(self) -> u8
         ensures { result ≡ stop_fault_number self }
     {
@@ -48,6 +51,7 @@ impl StopFault {
             StopFault::NoPlace => 6,
             StopFault::BadTemplate => 7,
             StopFault::Journal => 13,
+            StopFault::NoJournal => 14,
         }
     }
 
@@ -127,6 +131,19 @@ impl From<DeskFault> for StopFault {
         match fault {
             DeskFault::OutOfMemory => StopFault::OutOfMemory,
             DeskFault::BadTemplate => StopFault::BadTemplate,
+        }
+    }
+}
+
+impl From<BeginFault> for StopFault {
+    ghost use Rattle.sup_journal.specs.Faults.{begin_fault_number};
+
+    ghost from_gives = { λ e f. stop_fault_number f ≡ begin_fault_number e };
+
+    fn from(fault: BeginFault) -> StopFault {
+        match fault {
+            BeginFault::OutOfMemory => StopFault::OutOfMemory,
+            BeginFault::Refused(_) => StopFault::Journal,
         }
     }
 }

@@ -1,6 +1,6 @@
 //! The load: a crew over a desk, and readers that ask meanwhile.
 
-ghost use Rattle.std.specs.Prelude.{◌≡◌, ◌≤◌, ℕ, List, Err, IfErr, IfOk, MatchOption, OnOk, true, vec_len};
+ghost use Rattle.std.specs.Prelude.{◌≡◌, ◌≤◌, ℕ, List, [], Err, IfErr, IfOk, MatchOption, OnOk, true, vec_len};
 ghost use Rattle.std.specs.Io.KnownBytes.{Appends};
 ghost use Rattle.sup_load.specs.Loads.{fault_behind, IsWithin};
 ghost use Rattle.sup_load.specs.Lines.{load_lines, named};
@@ -14,13 +14,15 @@ ghost use Rattle.sup_load.specs.declared.fault.LoadFault.TheVariants.{WriteFault
 use crate::fault::{LoadFault, StopFault};
 use itoa::Buffer;
 use std::alloc::{AllocError, Global};
+use std::fs::{File, Files};
 use std::io::Write;
 use std::marker::Brand;
 use std::sync::Wait;
 use std::thread;
 use std::thread::{JoinHandle, Threads};
 use sup_crew::{Body, Job, Plan, Reads, Report, read_turns, run_crew};
-use sup_desk::{Asker, Desk, Ground, Handle, Name};
+use sup_desk::{Asker, Desk, Ground, Handle, Journal, Name, NoJournal};
+use sup_journal::{TextJournal, Unknown};
 use sup_log::Gone;
 use sup_script::{ScriptStarter, WatchedWriter};
 use sup_types::{Kind, Reason, Restart, Starter, Template, Text};
@@ -97,18 +99,27 @@ impl Body for EndsAtOnce {
     }
 }
 
-/// Runs the load, and writes what it came to: two lines. The fault is one that comes before there is a report, and then
-/// nothing is written; or that of a refused write, else of the run, else of a reader.
-pub fn run_load<R: Threads + Wait + Sync, W: Write>(
+/// Runs the load, and writes what it came to: two lines. With a path the history is written to a new file there, each update
+/// before it takes effect. The fault is one that comes before there is a report, and then nothing is written; or that of a
+/// refused write, else of the run, else of a reader.
+pub fn run_load<R, W: Write>(
     rt: &R,
     alloc: Global,
     load: Load,
+    journal: Option<&str>,
     out: &mut WatchedWriter<W>,
 ) -> Result<(), LoadFault>
+where
+    R: Threads + Wait + Files + Sync,
+    R::File: Send,
     ensures loaded { IsLoaded (W.contents out.old.writer) (W.contents out.new.writer) out.new.has_refused result }
     ensures cause { result ≡ Err WriteFault → out.new.has_refused ≡ true }
 {
-    tell(measure(rt, alloc, load), out)
+    let outcome = match journal {
+        None => measure_bare(rt, alloc, load),
+        Some(path) => measure_recorded(rt, alloc, load, path),
+    };
+    tell(outcome, out)
 }
 
 /// Writes what a load came to, if there is a report. WriteFault: the writer refused, and a front of the lines is written.
@@ -172,27 +183,87 @@ pub fn write_text<W: Write>(out: &mut WatchedWriter<W>, text: &str) -> Result<()
     }
 }
 
-/// Runs the load.
-fn measure<R: Threads + Wait + Sync>(rt: &R, alloc: Global, load: Load) -> Result<Sums, StopFault>
-    ensures { IfOk result (λ s. (template : ATemplate) × AreCounts template s) }
-{
+/// The template of the load's supervisor.
+fn template_of(load: &Load) -> Result<Template, StopFault> {
     let rows = load.children;
-    let template = Template::new(Restart::Temporary, Kind::Worker, 0, 5, rows, 1 << 62)?;
-    let handles = (load.workers + 1 + load.readers) as u64;
-    let ground = Ground::new(alloc, rt, template, handles)?;
-    on_ground::<Brand, R>(rt, alloc, ground, load)
+    Ok(Template::new(Restart::Temporary, Kind::Worker, 0, 5, rows, 1 << 62)?)
 }
 
-fn on_ground<N: Name + Send + Sync, R: Threads + Wait + Sync>(
+/// Runs the load without a journal.
+fn measure_bare<R: Threads + Wait + Sync>(
+    rt: &R,
+    alloc: Global,
+    load: Load,
+) -> Result<Sums, StopFault>
+    ensures { IfOk result (λ s. (template : ATemplate) × AreCounts template s) }
+{
+    let template = template_of(&load)?;
+    measure(rt, alloc, load, template, NoJournal)
+}
+
+/// Runs the load with a journal on a new file at this path.
+fn measure_recorded<R>(
+    rt: &R,
+    alloc: Global,
+    load: Load,
+    path: &str,
+) -> Result<Sums, StopFault>
+where
+    R: Threads + Wait + Files + Sync,
+    R::File: Send,
+    ensures { IfOk result (λ s. (template : ATemplate) × AreCounts template s) }
+{
+    let template = template_of(&load)?;
+    let Ok(file) = File::create_new(rt, path) else {
+        return Err(StopFault::NoJournal);
+    };
+    match TextJournal::<Unknown, R::File, Global>::new(alloc, file, &template) {
+        Ok(journal) => measure(rt, alloc, load, template, journal),
+        Err(not_begun) => Err(StopFault::from(not_begun.fault)),
+    }
+}
+
+/// Runs the load with this journal.
+fn measure<R: Threads + Wait + Sync, J: Journal + Drop + Send>(
+    rt: &R,
+    alloc: Global,
+    load: Load,
+    template: Template,
+    journal: J,
+) -> Result<Sums, StopFault>
+    requires { J.has journal template [] [] }
+    ensures { IfOk result (λ s. (template : ATemplate) × AreCounts template s) }
+{
+    let handles = (load.workers + 1 + load.readers) as u64;
+    let ground = Ground::new(alloc, rt, template, handles)?;
+    on_ground::<Brand, R, J>(rt, alloc, ground, load, journal)
+}
+
+/// Runs the load on a desk of this ground, which N names, with this journal.
+fn on_ground<N: Name + Send + Sync, R: Threads + Wait + Sync, J: Journal + Drop + Send>(
     rt: &R,
     alloc: Global,
     ground: Ground<&R>,
     load: Load,
+    journal: J,
 ) -> Result<Sums, StopFault>
-    requires { (ground.press ≡ N.press) × (ground.template ≡ N.template) }
+    requires name { (ground.press ≡ N.press) × (ground.template ≡ N.template) }
+    requires journal { J.has journal N.template [] [] }
     ensures { IfOk result (λ s. AreCounts N.template s) }
 {
-    let desk: Desk<N, ScriptStarter, &R> = Desk::new(ground, ScriptStarter);
+    let desk: Desk<N, ScriptStarter, &R, J> = Desk::with_journal(ground, ScriptStarter, journal);
+    on_desk(rt, alloc, &desk, load)
+}
+
+/// Runs the load on this desk, with a handle for each reader.
+fn on_desk<N: Name + Send + Sync, R: Threads + Wait + Sync, J: Journal + Drop + Send>(
+    rt: &R,
+    alloc: Global,
+    desk: &Desk<N, ScriptStarter, &R, J>,
+    load: Load,
+) -> Result<Sums, StopFault>
+    ensures { IfOk result (λ s. AreCounts N.template s) }
+{
     let mut handles = Vec::with_capacity(alloc, load.readers)?;
     for _ in 0..load.readers {
         if handles.push(desk.handle(rt)?).is_err() {
@@ -200,7 +271,7 @@ fn on_ground<N: Name + Send + Sync, R: Threads + Wait + Sync>(
         }
     }
     let plan = plan(alloc, load)?;
-    beside_readers(rt, alloc, &desk, handles, plan, load.turns)
+    beside_readers(rt, alloc, desk, handles, plan, load.turns)
 }
 
 /// The children `c1`, `c2` and so on, as many as the load says.
@@ -224,11 +295,16 @@ fn plan(alloc: Global, load: Load) -> Result<Plan, AllocError>
 }
 
 /// Runs the crew while each of these handles asks in a thread of its own.
-fn beside_readers<'d, N: Name + Send + Sync, R: Threads + Wait + Sync>(
+fn beside_readers<
+    'd,
+    N: Name + Send + Sync,
+    R: Threads + Wait + Sync,
+    J: Journal + Drop + Send,
+>(
     rt: &R,
     alloc: Global,
-    desk: &'d Desk<N, ScriptStarter, &R>,
-    handles: Vec<Handle<'d, N, ScriptStarter, &R>>,
+    desk: &'d Desk<N, ScriptStarter, &R, J>,
+    handles: Vec<Handle<'d, N, ScriptStarter, &R, J>>,
     plan: Plan,
     turns: u64,
 ) -> Result<Sums, StopFault>

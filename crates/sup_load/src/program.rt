@@ -16,6 +16,7 @@ use crate::words::{Order, read_words};
 use clap::error::{Error, ErrorKind};
 use std::alloc::{AllocError, AllocGlobal, Global};
 use std::convert::AsStr;
+use std::fs::Files;
 use std::io;
 use std::io::{Read, Write};
 use std::random::RandomSource;
@@ -60,7 +61,8 @@ pub fn run_words<T, S, R, W, E>(
     err: &mut E,
 ) -> u8
 where
-    T: Threads + Wait + Clock + RandomSource + AllocGlobal + Sync,
+    T: Threads + Wait + Clock + RandomSource + AllocGlobal + Files + Sync,
+    T::File: Send,
     S: AsStr,
     R: Read,
     W: Write,
@@ -103,7 +105,8 @@ fn answer_words<T, S, R, W, E>(
     err: &mut E,
 ) -> Status
 where
-    T: Threads + Wait + Clock + RandomSource + AllocGlobal + Sync,
+    T: Threads + Wait + Clock + RandomSource + AllocGlobal + Files + Sync,
+    T::File: Send,
     S: AsStr,
     R: Read,
     W: Write,
@@ -131,7 +134,7 @@ where
     match read_words(alloc, words) {
         Ok(Order::Script(detail)) => answer_text(alloc, Format::Script, detail, reader, out, err),
         Ok(Order::Replay(detail)) => answer_text(alloc, Format::History, detail, reader, out, err),
-        Ok(Order::Load(load)) => answer_load(rt, alloc, load, out, err),
+        Ok(Order::Load(load, journal)) => answer_load(rt, alloc, load, journal, out, err),
         Ok(Order::Serve(notices)) => answer_serve(rt, alloc, notices, reader, out, err),
         Err(error) => show(alloc, &error, out, err),
     }
@@ -147,18 +150,23 @@ pub fn refuse_words<E: Write>(error: &io::Error, err: &mut E) -> u8 {
     told_load(Err(LoadFault::from(AllocError)), err).number()
 }
 
-/// Runs a load. The fault that stopped it, if there is one, is a line on standard error.
-fn answer_load<T: Threads + Wait + Sync, W: Write, E: Write>(
+/// Runs a load, with a journal at this path, if there is one. The fault that stopped it, if there is one, is a line on standard
+/// error.
+fn answer_load<T, W: Write, E: Write>(
     rt: &T,
     alloc: Global,
     load: Load,
+    journal: Option<&str>,
     out: &mut WatchedWriter<W>,
     err: &mut E,
 ) -> Status
+where
+    T: Threads + Wait + Files + Sync,
+    T::File: Send,
     ensures loaded { IsLoadAnswered (W.contents out.old.writer) (W.contents out.new.writer) out.new.has_refused result }
     ensures cause { result ≡ Failed → out.new.has_refused ≡ true }
 {
-    told_load(run_load(rt, alloc, load, out), err)
+    told_load(run_load(rt, alloc, load, journal, out), err)
 }
 
 /// Serves sessions. The fault that stopped the server, if there is one, is a line on standard error.

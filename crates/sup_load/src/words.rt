@@ -5,9 +5,9 @@ ghost use Rattle.clap.specs.Kinds.{IsAmong};
 ghost use Rattle.clap.specs.Words.{app_of, found_of, kind_of, rows_of, rule_of, subcommand_rows_of};
 ghost use Rattle.clap.specs.declared.builder.command.Command.TheViews.{out-Command as fields_of};
 ghost use Rattle.clap.specs.declared.error.kind.ErrorKind.TheVariants.{OutOfMemory};
-ghost use Rattle.sup_load.specs.Grammar.{load_app, number_rule, serve_app, supload_app, text_app};
+ghost use Rattle.sup_load.specs.Grammar.{load_app, number_rule, path_rule, serve_app, supload_app, text_app};
 ghost use Rattle.sup_load.specs.Loads.{IsWithin};
-ghost use Rattle.sup_load.specs.Orders.{AreNumbers, IsDetail, IsLoadOf, IsNoOrder, IsNotices, IsOrder, WordsLeadTo};
+ghost use Rattle.sup_load.specs.Orders.{AreNumbers, IsDetail, IsLoadOf, IsNoOrder, IsNotices, IsOrder, IsPath, WordsLeadTo};
 ghost use Rattle.sup_load.specs.Settings.{Given, IsWhole, words_of};
 ghost use Rattle.sup_load.specs.declared.words.Order.TheVariants as order;
 ghost use Rattle.sup_script.specs.declared.runs.answer.Detail.TheVariants as detail;
@@ -23,13 +23,13 @@ use sup_serve::Notices;
 
 /// What the program is asked to do.
 #[derive(Clone, Copy, Debug, PartialEq, Eq)]
-pub enum Order {
+pub enum Order<'a> {
     /// To answer a script.
     Script(Detail),
     /// To replay a history text.
     Replay(Detail),
-    /// To run a crew beside readers.
-    Load(Load),
+    /// To run a crew beside readers, with a journal on the file at this path, if there is one.
+    Load(Load, Option<&'a str>),
     /// To serve sessions.
     Serve(Notices),
 }
@@ -120,8 +120,11 @@ Writes two lines: `made A exits B strays C restarts D gave_up E left F held G`, 
 made, of exits that were entered, of those answered stray, restarted and gave_up, of children that were left without a
 run and of exits that were held back; and `reads Q`, the number of questions that were answered.
 
+With --journal the history is written to FILE, which must not be there yet, as a text that `supload replay` reads: each
+update before it takes effect.
+
 Example:
-  supload load --workers 4 --children 100 --readers 2 --turns 50";
+  supload load --workers 4 --children 100 --readers 2 --turns 50 --journal load.txt";
 
 const SERVE: &str =
     "Serves sessions: reads a command a line on standard input, and answers each at once";
@@ -200,6 +203,8 @@ const LOAD_FAULTS: &str = "A fault is one line on standard error: `fault N`, wit
    5  all handles were made
    6  there is no place for a reader
   11  standard output could not be written
+  13  the journal could not be written
+  14  the journal's file is there already, or could not be made
 
 Exit status:
   0  the load was run
@@ -209,7 +214,7 @@ Exit status:
 
 /// Reads the words of the command line, of which the first is the program's name. A help text, the version and words that
 /// are refused are an error of `clap`, which says where it is to be written.
-pub fn read_words<S: AsStr>(alloc: Global, words: &[S]) -> Result<Order, Error>
+pub fn read_words<'a, S: AsStr>(alloc: Global, words: &'a [S]) -> Result<Order<'a>, Error>
     ensures script { (name : List ℕ) → map S.text words.now ≡ name ∷ codes "script" ∷ [] → result ≡ Ok (order.Script detail.Number) }
     ensures replay { (name : List ℕ) → map S.text words.now ≡ name ∷ codes "replay" ∷ [] → result ≡ Ok (order.Replay detail.Number) }
     ensures words { WordsLeadTo (map S.text words.now) result }
@@ -234,7 +239,7 @@ fn is_command<S: AsStr>(words: &[S], command: &str) -> bool
 }
 
 /// Reads words that are more than a command.
-fn read_options<S: AsStr>(alloc: Global, words: &[S]) -> Result<Order, Error>
+fn read_options<'a, S: AsStr>(alloc: Global, words: &'a [S]) -> Result<Order<'a>, Error>
     ensures { WordsLeadTo (map S.text words.now) result }
 {
     let matches = command(alloc)?.try_get_matches_from(words)?;
@@ -242,7 +247,7 @@ fn read_options<S: AsStr>(alloc: Global, words: &[S]) -> Result<Order, Error>
 }
 
 /// The order that `clap` found among the words.
-fn read_matches(alloc: Global, matches: &ArgMatches) -> Result<Order, Error>
+fn read_matches<'a>(alloc: Global, matches: &ArgMatches<'a>) -> Result<Order<'a>, Error>
     ensures { MatchResult result (IsOrder (subcommand_rows_of matches.now))
         (λ e. (kind_of e ≡ OutOfMemory) ⊎ IsNoOrder (subcommand_rows_of matches.now) (kind_of e)) }
 {
@@ -250,7 +255,7 @@ fn read_matches(alloc: Global, matches: &ArgMatches) -> Result<Order, Error>
         Some(("script", words)) => Ok(Order::Script(read_detail(words))),
         Some(("replay", words)) => Ok(Order::Replay(read_detail(words))),
         Some(("load", words)) => match read_load(words) {
-            Some(load) => Ok(Order::Load(load)),
+            Some(load) => Ok(Order::Load(load, read_path(words))),
             None => Err(refused(alloc, ErrorKind::ValueValidation, "a number is missing")),
         },
         Some(("serve", words)) => Ok(Order::Serve(read_notices(words))),
@@ -307,6 +312,25 @@ fn read_load(words: &ArgMatches) -> Option<Load>
     Load::new(workers, children, readers, turns)
 }
 
+/// The path of the journal, if one is wanted.
+fn read_path<'a>(words: &ArgMatches<'a>) -> Option<&'a str>
+    ensures { IsPath (rows_of (found_of words.now)) result }
+{
+    words.get_str("journal")
+}
+
+/// An argument that takes the path of a file, and may be left out.
+fn path<'a>(alloc: Global, name: &'a str, value: &'a str, help: &'a str) -> Arg<'a>
+    ensures rule { rule_of result ≡ path_rule name.entry.now }
+    ensures local { result.global ≡ false }
+{
+    Arg::new(alloc, name)
+        .long(name)
+        .value_name(value)
+        .help(help)
+        .action(ArgAction::Set)
+}
+
 /// An argument that takes a number of this range.
 fn number<'a>(
     alloc: Global,
@@ -352,6 +376,12 @@ fn load_command<'a>(alloc: Global) -> Result<Command<'a>, AllocError>
         "Questions of each: 1 to 1000000",
         (1, 1_000_000),
     );
+    let journal = path(
+        alloc,
+        "journal",
+        "FILE",
+        "A new file to which the history is written",
+    );
     Command::new(alloc, "load")
         .about(LOAD)
         .long_about(LOAD_HELP)
@@ -359,7 +389,8 @@ fn load_command<'a>(alloc: Global) -> Result<Command<'a>, AllocError>
         .arg(workers)?
         .arg(children)?
         .arg(readers)?
-        .arg(turns)
+        .arg(turns)?
+        .arg(journal)
 }
 
 /// A command that reads a text on standard input.

@@ -1,4 +1,4 @@
--- The load has its four options.
+-- The load has its five options.
 use Rattle.std.proofs.Common.{◌≡◌, ◌∙◌, ◌||◌, Bool, false, rules, ap₂, codes}
 use Rattle.std.proofs.lemmas.Result.{IfOk-weaker}
 use Rattle.clap.specs.Words.{app_of, new_app, with_rule}
@@ -21,7 +21,9 @@ returns c =
     let none1 = c.in_ok-arg.ensures.globals ∙ ap₂ (λ a b. a || b) none c.number-workers.ensures.local in
     let none2 = c.in_ok-arg-2.ensures.globals ∙ ap₂ (λ a b. a || b) none1 c.number-children.ensures.local in
     let none3 = c.in_ok-arg-3.ensures.globals ∙ ap₂ (λ a b. a || b) none2 c.number-readers.ensures.local in
-    IfOk-weaker c.arg-4.result _ _ (λ r h. (
-      h.shape c.number-turns.ensures.local ∙ ap₂ with_rule three c.number-turns.ensures.rule,
-      h.globals ∙ ap₂ (λ a b. a || b) none3 c.number-turns.ensures.local,
-    )) c.arg-4.ensures
+    let four = c.in_ok-arg-4.ensures.shape c.number-turns.ensures.local ∙ ap₂ with_rule three c.number-turns.ensures.rule in
+    let none4 = c.in_ok-arg-4.ensures.globals ∙ ap₂ (λ a b. a || b) none3 c.number-turns.ensures.local in
+    IfOk-weaker c.arg-5.result _ _ (λ r h. (
+      h.shape c.path-journal.ensures.local ∙ ap₂ with_rule four c.path-journal.ensures.rule,
+      h.globals ∙ ap₂ (λ a b. a || b) none4 c.path-journal.ensures.local,
+    )) c.arg-5.ensures
