@@ -10,7 +10,7 @@ use Rattle.sup_types.specs.declared.template.Template.{Template}
 use Rattle.sup_types.specs.declared.history.Entry.{Entry}
 use Rattle.sup_format.specs.Reading.History.{SpellsAs}
 use Rattle.sup_format.specs.Writing.HistoryTexts.{SpellsOneMore}
-use Rattle.sup_journal.specs.Records.{IsRecorded, IsCut, TookPart}
+use Rattle.sup_journal.specs.Records.{IsRecorded, IsCut, IsTaken, TookPart}
 
 Appends-of_kept : (a b c : Option (List ℕ)) (bs : List ℕ) → Keeps a b → Appends b c bs → Appends a c bs
 Appends-of_kept None b c bs p q = tt
@@ -28,6 +28,16 @@ pub begun : (held old new : Option (List ℕ)) (text : List ℕ) (template : Tem
 begun held old new text template entries keeps took s = record {
   text = text;
   took = Appends-of_kept held old new text keeps took;
+  spelled = s;
+  waits = nothing_waits text template entries s;
+}
+
+-- the writer held that text before
+pub reopened : (held contents : Option (List ℕ)) (text : List ℕ) (template : Template) (entries : List Entry) → Appends held contents text → SpellsAs text template entries
+    → IsRecorded held contents [] template entries []
+reopened held contents text template entries took s = record {
+  text = text;
+  took = took;
   spelled = s;
   waits = nothing_waits text template entries s;
 }
@@ -50,6 +60,13 @@ module _ (held old : Option (List ℕ)) (waiting : List ℕ) (template : Templat
     waits = nothing_waits (r.text ++ waiting) template (recorded ++ ready) r.waits;
   }
 
+  pub taken_all : (new : Option (List ℕ)) → Appends old new waiting → IsTaken held new template recorded ready
+  taken_all new took = record {
+    text = r.text ++ waiting;
+    took = Appends-trans held old new r.text waiting r.took took;
+    whole = r.waits;
+  }
+
   pub cut_off : (new : Option (List ℕ)) → TookPart old new waiting → IsCut held new template recorded ready
   cut_off new p = record {
     text = r.text;
@@ -70,7 +87,7 @@ of_ok (Err e) ok p = absurd cc
 pub taken_more : (old mid new : Option (List ℕ)) (bytes : List ℕ) (taken n : ℕ) → Appends old mid (take taken bytes) → Appends mid new (take n (drop taken bytes)) → Appends old new (take (taken + n) bytes)
 taken_more old mid new bytes taken n so_far more = subst (Appends old new) (sym (take-add taken n bytes)) (Appends-trans old mid new _ _ so_far more)
 
-Appends-then_kept : (a b c : Option (List ℕ)) (bs : List ℕ) → Appends a b bs → Keeps b c → Appends a c bs
+pub Appends-then_kept : (a b c : Option (List ℕ)) (bs : List ℕ) → Appends a b bs → Keeps b c → Appends a c bs
 Appends-then_kept None b c bs p q = tt
 Appends-then_kept (Some x) None c bs p q = absurd p
 Appends-then_kept (Some x) (Some y) None bs p q = absurd q

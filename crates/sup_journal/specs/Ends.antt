@@ -10,9 +10,11 @@ use Rattle.sup_desk.specs.declared.journal.JournalFault.TheVariants as fault
 abbrev pub fault_of : End → JournalFault
 fault_of (end.Error kind) = fault.Failed
 fault_of end.TookNothing = fault.TookNothing
+fault_of (end.Flush kind) = fault.NotFlushed
 
 -- the error that ended it, if an error did
 abbrev pub error_of : Option End → Option ErrorKind
 error_of None = None
 error_of (Some (end.Error kind)) = Some kind
 error_of (Some end.TookNothing) = None
+error_of (Some (end.Flush kind)) = Some kind

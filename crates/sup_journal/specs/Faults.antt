@@ -1,8 +1,17 @@
 -- The numbers of a journal's faults.
 use Rattle.std.specs.Prelude.{ℕ}
+use Rattle.sup_format.specs.Faults.{fault_number}
+use Rattle.sup_journal.specs.declared.opening.OpenFault.{OpenFault}
+use Rattle.sup_journal.specs.declared.opening.OpenFault.TheVariants as opening
 use Rattle.sup_journal.specs.declared.fault.BeginFault.{BeginFault}
 use Rattle.sup_journal.specs.declared.fault.BeginFault.TheVariants as begin
 
 abbrev pub begin_fault_number : BeginFault → ℕ
 begin_fault_number begin.OutOfMemory = 1
 begin_fault_number (begin.Refused fault) = 13
+
+abbrev pub open_fault_number : OpenFault → ℕ
+open_fault_number opening.OutOfMemory = 1
+open_fault_number (opening.File kind) = 10
+open_fault_number (opening.Text fault) = fault_number fault.fault
+open_fault_number opening.OtherForm = 9

@@ -2,3 +2,4 @@ pub mod Records
 pub mod Begun
 pub mod Ends
 pub mod Faults
+pub mod Flushes

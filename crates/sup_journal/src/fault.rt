@@ -31,7 +31,8 @@ impl BeginFault {
 }
 
 /// A journal that was not begun, and its writer.
-#[derive(Debug, Drop)]
+#[derive(Debug, Drop, Error)]
+#[error("{}", .fault)]
 pub struct NotBegun<W> {
     pub fault: BeginFault,
     pub writer: W,
@@ -40,8 +41,12 @@ pub struct NotBegun<W> {
 /// What ended a journal.
 #[derive(Clone, Copy, Debug, PartialEq, Eq)]
 pub enum End {
+    /// A write answered an error of this kind.
     Error(ErrorKind),
+    /// A write took nothing of bytes that were not empty.
     TookNothing,
+    /// All was written, and a flush answered an error of this kind.
+    Flush(ErrorKind),
 }
 
 impl End {
@@ -55,6 +60,7 @@ impl End {
         match self {
             End::Error(_) => JournalFault::Failed,
             End::TookNothing => JournalFault::TookNothing,
+            End::Flush(_) => JournalFault::NotFlushed,
         }
     }
 }

@@ -1,6 +1,8 @@
 //! Writing all of some bytes.
 
-ghost use Rattle.std.specs.Prelude.{ℕ, ◌<◌, ◌≤◌, length, take, MatchResult};
+ghost use Rattle.std.specs.Prelude.{◌≡◌, ℕ, ◌<◌, ◌≤◌, length, take, IfErr, MatchResult};
+ghost use Rattle.std.specs.declared.io.ErrorKind.{ErrorKind};
+ghost use Rattle.sup_journal.specs.declared.fault.End.TheVariants as end;
 ghost use Rattle.std.specs.Io.KnownBytes.{Appends, Keeps};
 ghost use Rattle.sup_journal.specs.Records.{IsSentOrCut};
 
@@ -19,6 +21,20 @@ pub fn send<W: Write>(writer: &mut W, bytes: &[u8]) -> Result<(), End>
         }
     }
     Ok(())
+}
+
+/// Flushes the writer, if that is wanted.
+pub fn flush<W: Write>(writer: &mut W, wanted: bool) -> Result<(), End>
+    ensures kept { Keeps (W.contents writer.old) (W.contents writer.new) }
+    ensures err { IfErr result (λ e. (kind : ErrorKind) × (e ≡ end.Flush kind)) }
+{
+    if !wanted {
+        return Ok(());
+    }
+    match writer.flush() {
+        Ok(()) => Ok(()),
+        Err(error) => Err(End::Flush(error.kind())),
+    }
 }
 
 /// Writes once: how many of the bytes the writer took, at least one, or why it took none.

@@ -1,13 +1,18 @@
 //! A journal that writes the text of a history.
 
-ghost use Rattle.std.specs.Prelude.{◌≡◌, [], None, IfOk, IfErr};
-ghost use Rattle.std.specs.Io.KnownBytes.{Keeps};
+ghost use Rattle.std.specs.Prelude.{◌≡◌, ℕ, List, [], None, IfOk, IfErr};
+ghost use Rattle.std.specs.Io.KnownBytes.{Appends, Keeps};
+ghost use Rattle.sup_types.specs.declared.template.Template.{Template as ATemplate};
+ghost use Rattle.sup_types.specs.declared.history.Entry.{Entry as AnEntry};
+ghost use Rattle.sup_format.specs.Reading.History.{SpellsAs};
+ghost use Rattle.sup_desk.specs.Journals.{HoldsAsBefore};
 ghost use Rattle.sup_journal.specs.Begun.{Leaves, LeavesText};
 ghost use Rattle.sup_journal.specs.Ends.{error_of};
 
 use crate::fault::{BeginFault, End, NotBegun};
+use crate::flush::Flush;
 use crate::origin::Origin;
-use crate::send::send;
+use crate::send::{flush, send};
 use std::alloc::Allocator;
 use std::io::{ErrorKind, Write};
 use std::marker::PhantomData;
@@ -17,12 +22,14 @@ use sup_types::{Entry, OutOfMemory, Template};
 
 /// A journal that writes the text of a history, in version 2, to this writer: behind what it held, which the origin says.
 ///
-/// It writes each batch as it is recorded and flushes nothing: give it a writer without a buffer of its own, as a file. The
-/// first error ends it.
+/// It writes each batch as it is recorded, and flushes its writer as [`Flush`] says: never, if nothing else is said. The first
+/// error ends it.
 #[derive(Drop)]
 pub struct TextJournal<O, W, A: Allocator> {
     writer: W,
     text: Vec<u8, A>,
+    ready: usize,
+    flush: Flush,
     end: Option<End>,
     origin: PhantomData<O>,
 }
@@ -53,6 +60,8 @@ impl<O: Origin, W: Write, A: Allocator> TextJournal<O, W, A> {
         Ok(TextJournal {
             writer,
             text,
+            ready: 0,
+            flush: Flush::Never,
             end: None,
             origin: PhantomData,
         })
@@ -85,9 +94,50 @@ impl<O: Origin, W: Write, A: Allocator> TextJournal<O, W, A> {
         Ok(TextJournal {
             writer,
             text: before,
+            ready: 0,
+            flush: Flush::Never,
             end: None,
             origin: PhantomData,
         })
+    }
+
+    /// A journal that goes on at the end of a writer that holds the text of a history already: behind what the origin says, the
+    /// writer holds such a text. Nothing is written, and no memory is taken.
+    pub fn reopen(alloc: A, writer: W) -> TextJournal<O, W, A>
+        ensures { (text : List ℕ) (template : ATemplate) (entries : List AnEntry) → SpellsAs text template entries → Appends O.held (W.contents writer) text
+            → ⟦<TextJournal<O, W, A> as Journal>⟧.has result template entries [] }
+    {
+        TextJournal {
+            writer,
+            text: Vec::new(alloc),
+            ready: 0,
+            flush: Flush::Never,
+            end: None,
+            origin: PhantomData,
+        }
+    }
+
+    /// The same journal, which flushes its writer as this says.
+    pub fn with_flush(self, flush: Flush) -> TextJournal<O, W, A>
+        ensures has { HoldsAsBefore (⟦<TextJournal<O, W, A> as Journal>⟧.has) self result }
+        ensures flush { result.flush ≡ flush }
+    {
+        let TextJournal {
+            writer,
+            text,
+            ready,
+            flush: _,
+            end,
+            origin,
+        } = self;
+        TextJournal {
+            writer,
+            text,
+            ready,
+            flush,
+            end,
+            origin,
+        }
     }
 
     /// The kind of the error that ended it, if an error did.
@@ -95,7 +145,7 @@ impl<O: Origin, W: Write, A: Allocator> TextJournal<O, W, A> {
         ensures { result ≡ error_of self.now.end }
     {
         match self.end {
-            Some(End::Error(kind)) => Some(kind),
+            Some(End::Error(kind) | End::Flush(kind)) => Some(kind),
             Some(End::TookNothing) | None => None,
         }
     }
@@ -107,6 +157,8 @@ impl<O: Origin, W: Write, A: Allocator> TextJournal<O, W, A> {
         let TextJournal {
             writer,
             text: _,
+            ready: _,
+            flush: _,
             end: _,
             origin: _,
         } = self;
@@ -116,13 +168,13 @@ impl<O: Origin, W: Write, A: Allocator> TextJournal<O, W, A> {
 
 impl<O: Origin, W: Write, A: Allocator> Journal for TextJournal<O, W, A> {
     ghost use Rattle.std.specs.Prelude.{◌≡◌, None, IsSome};
-    ghost use Rattle.sup_journal.specs.Records.{IsRecorded, IsCut};
+    ghost use Rattle.sup_journal.specs.Records.{IsRecorded, IsBroken};
 
     ghost has = { λ journal template recorded ready. (journal.end ≡ None)
         × IsRecorded O.held (W.contents journal.writer) journal.text.items template recorded ready };
 
     ghost is_torn = { λ journal template recorded ready. IsSome journal.end
-        × IsCut O.held (W.contents journal.writer) template recorded ready };
+        × IsBroken journal.end O.held (W.contents journal.writer) template recorded ready };
 
     ghost may_fail = { λ _. Unit {0} };
 
@@ -135,6 +187,7 @@ impl<O: Origin, W: Write, A: Allocator> Journal for TextJournal<O, W, A> {
             self.text.truncate(start);
             return Err(OutOfMemory);
         }
+        self.ready = self.ready.saturating_add(1);
         Ok(())
     }
 
@@ -142,15 +195,16 @@ impl<O: Origin, W: Write, A: Allocator> Journal for TextJournal<O, W, A> {
         if let Some(end) = self.end {
             return Err(end.fault());
         }
-        match send(&mut self.writer, self.text.as_slice()) {
-            Ok(()) => {
-                self.text.clear();
-                Ok(())
-            }
-            Err(end) => {
-                self.end = Some(end);
-                Err(end.fault())
-            }
+        if let Err(end) = send(&mut self.writer, self.text.as_slice()) {
+            self.end = Some(end);
+            return Err(end.fault());
         }
+        if let Err(end) = flush(&mut self.writer, self.flush.is_due(self.ready)) {
+            self.end = Some(end);
+            return Err(end.fault());
+        }
+        self.text.clear();
+        self.ready = 0;
+        Ok(())
     }
 }
