@@ -37,7 +37,9 @@ class Broken(Exception):
 
 class Call:
     """A call of a thread: by whom, when it was called and had returned, the front before and after, what was asked for, the
-    stamp of its ticket, if it has one, and what was answered."""
+    stamp of its ticket, if it has one, and what was answered. And in which process, where one goes on from another."""
+
+    process = 0
 
     def __init__(self, line):
         head, what, stamp, answer = line.split(" | ")
@@ -76,6 +78,14 @@ class Call:
         return replies, None if end == "done" else end
 
 
+def template_of(first):
+    """The template of a record's first line, and the most entries of its history."""
+    words = first.split(" ")
+    if (words[0], words[-2]) != ("sup", "entries"):
+        raise ValueError(first)
+    return recount.Template([it.encode() for it in words[1:-2]]), int(words[-1])
+
+
 class Record:
     """A round: its template, the most entries of its history, its calls in the order of the lines, the history's length once the
     threads had ended, and the text of the desk's journal."""
@@ -84,16 +94,19 @@ class Record:
         try:
             text, _, self.journal = text.partition("journal\n")
             first, *lines, last = text.splitlines()
-            words = first.split(" ")
             end, length = last.split(" ")
-            if (words[0], words[-2], end) != ("sup", "entries", "end"):
-                raise ValueError(first)
-            self.template = recount.Template([it.encode() for it in words[1:-2]])
-            self.entries, self.calls, self.end, self.head = int(words[-1]), [Call(it) for it in lines], int(length), first
+            if end != "end":
+                raise ValueError(last)
+            self.take_head(first)
+            self.calls, self.end = [Call(it) for it in lines], int(length)
             if {it.thread for it in self.calls} != {1, 2, 3, 4}:
                 raise ValueError("the calls of four threads are not there")
         except (ValueError, IndexError, recount.Bad, recount.Fault) as why:
             raise Broken(f"this is no record: {why}") from None
+
+    def take_head(self, first):
+        self.head = first
+        self.template, self.entries = template_of(first)
 
     def text(self):
         return "\n".join([self.head, *(it.line() for it in self.calls), f"end {self.end}", "journal", self.journal])
@@ -233,7 +246,7 @@ def fronts_go_on(record):
     that or at a longer one. So what it has entered it sees from then on."""
     last = {}
     for call in record.calls:
-        before = last.get((call.thread, call.asker))
+        before = last.get((call.process, call.thread, call.asker))
         if before and call.called < before.returned:
             raise Violation("clock", "a thread makes two calls at once", before, call)
         if before and call.before < before.after:
@@ -243,7 +256,7 @@ def fronts_go_on(record):
                             before, call)
         if call.after < call.before:
             raise Violation("front that goes back", f"{call.who()} had seen {call.before} entries, and then {call.after}", call)
-        last[call.thread, call.asker] = call
+        last[call.process, call.thread, call.asker] = call
 
 
 def nothing_is_seen_early(record, updates):
