@@ -45,6 +45,15 @@ def texts(program, seed):
         return Texts(first, text_of(journal), second, text_of(later))
 
 
+def texts_of_wrong(crate, mutant, seeds):
+    """The same over a desk into which a mutant of a crate was put, by the seeds; None where a process does not end as it should."""
+    with desk_runs.wrong_desk(crate, mutant) as room:
+        first = desk_runs.tried(room, mutant, {it: [it, f"{room}/{it}", bytes_of(it)] for it in seeds})
+        later = desk_runs.tried(room, mutant, {it: [it, f"{room}/{it}.later", 1 << 40, f"{room}/{it}"] for it in seeds})
+        return {it: Texts(first[it][0], text_of(f"{room}/{it}"), later[it][0], text_of(f"{room}/{it}.later"))
+                if first[it][1] in (0, ENDED_ITSELF) and later[it][1] == 0 else None for it in seeds}
+
+
 def run(program, *words):
     try:
         ran = subprocess.run([program, *map(str, words)], stdin=subprocess.DEVNULL, capture_output=True, timeout=desk_runs.SECONDS,

@@ -1,5 +1,6 @@
 """How a round over one desk is run: by the program of desk/, which is kept under other endings, since what it writes differs
 from run to run, so that it is no crate of the gate. It is proved and built on a copy of the crates that it needs."""
+import contextlib
 import os
 import re
 import shutil
@@ -89,24 +90,38 @@ def copy_program(room, crates, sources, line, *left_out):
 
 def records_of_wrong(crate, mutant, seeds):
     """What rounds with these seeds record over a desk into which a mutant of a crate was put, by their seeds; None for one that
-    does not end as it should. The prover refuses such a desk, so it is built without a proof, with the checks of `rt try`."""
+    does not end as it should."""
+    with wrong_desk(crate, mutant) as room:
+        ran = tried(room, mutant, {seed: [seed] for seed in seeds})
+        return {seed: out if status == 0 else None for seed, (out, status) in ran.items()}
+
+
+@contextlib.contextmanager
+def wrong_desk(crate, mutant):
+    """A folder with the program and the crates that it needs, into one of which a mutant was put."""
     with tempfile.TemporaryDirectory(prefix="partners-") as room:
         copy_crates(room, "out", "mutants")
         put_in(f"{room}/crates/{crate}", f"{runs.TOP}/crates/{crate}/mutants/{mutant}.edit")
-        os.mkdir(f"{room}/seeds")
-        for seed in seeds:
-            open(f"{room}/seeds/{seed}", "w", encoding="utf-8").close()
-            with open(f"{room}/seeds/{seed}.args", "w", encoding="utf-8") as it:
-                it.write(f"{seed}\n")
-        ran = subprocess.run(["rt", "try", "--cases", f"{room}/seeds"], cwd=f"{room}/crates/desk_stress", stdin=subprocess.DEVNULL,
+        yield room
+
+
+def tried(room, mutant, words_of):
+    """Runs the program in a folder with these words for each seed: what it writes, and its status or None, by the seeds. The prover
+    refuses such a desk, so it is built without a proof, with the checks of `rt try`."""
+    with tempfile.TemporaryDirectory(prefix="partners-") as cases:
+        for seed, words in words_of.items():
+            open(f"{cases}/{seed}", "w", encoding="utf-8").close()
+            with open(f"{cases}/{seed}.args", "w", encoding="utf-8") as it:
+                it.writelines(f"{word}\n" for word in words)
+        ran = subprocess.run(["rt", "try", "--cases", cases], cwd=f"{room}/crates/desk_stress", stdin=subprocess.DEVNULL,
                              capture_output=True, check=False)
-        out, said = (it.decode(errors="replace") for it in (ran.stdout, ran.stderr))
-        if not re.search("^cases=", said, re.M):
-            raise runs.Missing(f"{mutant}: the program could not be built: {said[-1000:]}")
-        ended = set(re.findall("^case=([0-9]+) run=ended status=0", said, re.M))
-        parts = re.split("^== ([0-9]+)\n", out, flags=re.M)[1:]
-        told = dict(zip(parts[::2], parts[1::2]))
-        return {seed: told.get(str(seed)) if str(seed) in ended else None for seed in seeds}
+    out, said = (it.decode(errors="replace") for it in (ran.stdout, ran.stderr))
+    if not re.search("^cases=", said, re.M):
+        raise runs.Missing(f"{mutant}: the program could not be built: {said[-1000:]}")
+    ended = dict(re.findall("^case=([0-9]+) run=ended status=([0-9]+)", said, re.M))
+    parts = re.split("^== ([0-9]+)\n", out, flags=re.M)[1:]
+    told = dict(zip(parts[::2], parts[1::2]))
+    return {seed: (told.get(str(seed), ""), int(ended[str(seed)]) if str(seed) in ended else None) for seed in words_of}
 
 
 def put_in(folder, edit):
