@@ -1,7 +1,7 @@
 //! The same work on an `RwLock` round a supervisor in plain Rust, which writes a line for each entry before the lock is let go.
 use std::fmt::Write as _;
 use std::fs::File;
-use std::io::{self, Write};
+use std::io::{self, BufWriter, Write};
 use std::sync::RwLock;
 use std::time::Instant;
 
@@ -15,15 +15,15 @@ const OPERATIONS: u64 = 64 * BATCHES;
 const ARG: &str = "connection-4711";
 
 /// A supervisor with the text that is to be written, and where to, if anywhere.
-struct Kept {
+struct Kept<W: Write> {
     supervisor: Supervisor,
-    file: Option<File>,
+    file: Option<W>,
     text: String,
     serial: u64,
 }
 
-impl Kept {
-    fn new(file: Option<File>) -> Self {
+impl<W: Write> Kept<W> {
+    fn new(file: Option<W>) -> Self {
         let mut kept = Kept { supervisor: made(), file, text: String::new(), serial: 0 };
         kept.text.push_str("history 2 temporary worker 1 5 65536 plain never\n");
         kept.write();
@@ -58,7 +58,7 @@ fn made() -> Supervisor {
     Supervisor::new(template(Restart::Temporary, 1, 65_536))
 }
 
-fn time_updates(says: &str, file: Option<File>) {
+fn time_updates<W: Write>(says: &str, file: Option<W>) {
     let shared = RwLock::new(Kept::new(file));
     let start = Instant::now();
     for _ in 0..PAIRS {
@@ -73,10 +73,10 @@ fn time_updates(says: &str, file: Option<File>) {
         kept.terminate(number);
         kept.write();
     }
-    println!("update {says} a journal: {} ns, {UPDATES} times, answer -", start.elapsed().as_nanos());
+    println!("update {says}: {} ns, {UPDATES} times, answer -", start.elapsed().as_nanos());
 }
 
-fn time_batches(says: &str, file: Option<File>) {
+fn time_batches<W: Write>(says: &str, file: Option<W>) {
     let shared = RwLock::new(Kept::new(file));
     let start = Instant::now();
     for _ in 0..BATCHES {
@@ -91,7 +91,7 @@ fn time_batches(says: &str, file: Option<File>) {
         kept.write();
     }
     let taken = start.elapsed().as_nanos();
-    println!("operation in a batch of 64 {says} a journal: {taken} ns, {OPERATIONS} times, answer -");
+    println!("operation in a batch of 64 {says}: {taken} ns, {OPERATIONS} times, answer -");
 }
 
 /// Steps a supervisor by a line, of which the operations are those of this program.
@@ -120,10 +120,11 @@ fn time_recovery(text: &str) {
 
 fn main() -> io::Result<()> {
     let path = std::env::args().nth(1).expect("a path");
-    time_updates("without", None);
-    time_batches("without", None);
-    time_batches("with", Some(File::create(&path)?));
-    time_updates("with", Some(File::create(&path)?));
+    time_updates("without a journal", None::<File>);
+    time_batches("without a journal", None::<File>);
+    time_batches("with a journal", Some(File::create(&path)?));
+    time_updates("with a journal through a buffer", Some(BufWriter::new(File::create(&path)?)));
+    time_updates("with a journal", Some(File::create(&path)?));
     time_recovery(&std::fs::read_to_string(&path)?);
     Ok(())
 }

@@ -1,5 +1,5 @@
 -- What the text of a journal is read as.
-use Rattle.std.proofs.Common.{◌≡◌, ℕ, ◌-◌, ◌<◌, ◌==◌, true, false, List, [], ◌∷◌, ◌++◌, length, get_or, take, Option, refl, sym, ap, subst, ◌∙◌, append_assoc, arith}
+use Rattle.std.proofs.Common.{◌≡◌, ℕ, ◌-◌, ◌<◌, ◌==◌, true, false, List, [], ◌∷◌, ◌++◌, length, get_or, take, Option, Some, refl, sym, ap, subst, ◌∙◌, append_assoc, append-nil, arith}
 use Rattle.std.proofs.lemmas.List.{length-append, get_or_append_left}
 use Rattle.sup_types.specs.declared.template.Template.{Template}
 use Rattle.sup_types.specs.declared.history.Entry.{Entry}
@@ -9,6 +9,9 @@ use Rattle.sup_format.specs.Reading.Texts.{IsFull, IsEndedPart}
 use Rattle.sup_format.specs.Reading.Words.{Lacks}
 use Rattle.sup_format.specs.LineLaws.{full-right}
 use Rattle.sup_format.specs.Writing.HistoryTexts.{SpellsFirstsOf}
+use Rattle.sup_journal.specs.declared.fault.End.{End}
+use Rattle.sup_journal.specs.declared.fault.End.TheVariants as end
+use Rattle.sup_journal.specs.Ends.{IsStopped}
 use Rattle.sup_journal.specs.Records.{IsRecorded, IsCut}
 
 -- ---- one reading
@@ -51,7 +54,7 @@ not_lacked xs ys ws n inside is same lacks =
     absurd cc
 
 -- a text that ends with a line feed is within the ended part of each that begins with it
-within : (xs ys zs ws : List ℕ) → xs ++ ys ≡ zs ++ ws → IsFull xs → Lacks 10 ws → (front : List ℕ) × (zs ≡ xs ++ front) × (ys ≡ front ++ ws)
+pub within : (xs ys zs ws : List ℕ) → xs ++ ys ≡ zs ++ ws → IsFull xs → Lacks 10 ws → (front : List ℕ) × (zs ≡ xs ++ front) × (ys ≡ front ++ ws)
 within [] ys zs ws same full lacks = (zs, refl, same)
 within (x ∷ xs) ys [] ws same full lacks = absurd (not_lacked (x ∷ xs) ys ws (length (x ∷ xs) - 1) (omega arith) (full (omega arith)) same lacks)
 within (x ∷ xs) ys (z ∷ zs) ws same full lacks =
@@ -66,9 +69,9 @@ abbrev pub SpellFirsts : Type 0
 SpellFirsts = (text front rest : List ℕ) (template : Template) (entries more : List Entry) → SpellsAs text template entries
     → SpellsAs (text ++ (front ++ rest)) template (entries ++ more) → IsFull front → SpellsFirstsOf (text ++ front) rest template entries more
 
-pub whole_of_cut : SpellFirsts → (held contents : Option (List ℕ)) (template : Template) (recorded ready : List Entry) (lines : List ℕ) → (r : IsCut held contents template recorded ready) → IsEndedPart (r.text ++ r.part) lines
+pub whole_of_cut : SpellFirsts → (held contents : Option (List ℕ)) (ended : Option End) (template : Template) (recorded ready : List Entry) (lines : List ℕ) → (r : IsCut held contents ended template recorded ready) → IsEndedPart (r.text ++ r.part) lines
     → SpellsFirstsOf lines r.left template recorded ready
-whole_of_cut law held contents template recorded ready lines r p =
+whole_of_cut law held contents ended template recorded ready lines r p =
     let w = within r.text r.part lines p.rest p.parts r.spelled.spelled.ended p.unended in
     let front = w.0 in
     let full : IsFull front = full-right r.text front (subst IsFull w.1 p.ended) in
@@ -81,3 +84,15 @@ whole_of_cut law held contents template recorded ready lines r p =
       some_left = λ some. firsts.some_left (omega (arith, len, some));
       spelled = subst (λ (l : List ℕ). SpellsAs l template (recorded ++ take firsts.count ready)) (sym w.1) firsts.spelled;
     }
+
+pub stopped_short : (held contents : Option (List ℕ)) (ended : End) (template : Template) (recorded ready : List Entry) → (r : IsCut held contents (Some ended) template recorded ready) → IsStopped ended → 0 < length r.left
+stopped_short held contents (end.Error kind) template recorded ready r stopped = r.is_left
+stopped_short held contents end.TookNothing template recorded ready r stopped = r.is_left
+stopped_short held contents (end.NotFlushed kind) template recorded ready r stopped = absurd stopped
+
+pub all_of_flush : (held contents : Option (List ℕ)) (ended : End) (template : Template) (recorded ready : List Entry) → (r : IsCut held contents (Some ended) template recorded ready) → ¬ IsStopped ended
+    → SpellsAs (r.text ++ r.part) template (recorded ++ ready)
+all_of_flush held contents (end.Error kind) template recorded ready r unstopped = absurd (unstopped tt)
+all_of_flush held contents end.TookNothing template recorded ready r unstopped = absurd (unstopped tt)
+all_of_flush held contents (end.NotFlushed kind) template recorded ready r unstopped =
+    subst (λ (l : List ℕ). SpellsAs (r.text ++ l) template (recorded ++ ready)) (ap (λ (l : List ℕ). r.part ++ l) r.is_left ∙ append-nil r.part) r.whole

@@ -12,6 +12,7 @@ begin_fault_number (begin.Refused fault) = 13
 
 abbrev pub open_fault_number : OpenFault → ℕ
 open_fault_number opening.OutOfMemory = 1
-open_fault_number (opening.File kind) = 10
-open_fault_number (opening.Text fault) = fault_number fault.fault
-open_fault_number opening.OtherForm = 9
+open_fault_number (opening.File kind) = 14
+open_fault_number (opening.WrongLine fault) = fault_number fault.fault
+open_fault_number opening.OtherTemplate = 7
+open_fault_number (opening.Refused fault) = 13

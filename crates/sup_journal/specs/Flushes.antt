@@ -1,10 +1,10 @@
--- When a flush is due.
-use Rattle.std.specs.Prelude.{ℕ, ◌<◌, ⊤}
-use Rattle.sup_journal.specs.declared.flush.Flush.{Flush}
-use Rattle.sup_journal.specs.declared.flush.Flush.TheVariants as flush
+-- When a record is flushed.
+use Rattle.std.specs.Prelude.{ℕ, ◌<◌}
+use Rattle.sup_journal.specs.declared.flushing.Flush.{Flush}
+use Rattle.sup_journal.specs.declared.flushing.Flush.TheVariants as flush
 
--- after a record of so many entries
+-- a record of so many entries is flushed
 abbrev pub IsDue : Flush → ℕ → Type 0
 IsDue flush.Never entries = ⊥
 IsDue flush.EachBatch entries = 1 < entries
-IsDue flush.EachUpdate entries = ⊤
+IsDue flush.EachUpdate entries = Unit {0}

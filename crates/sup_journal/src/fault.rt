@@ -1,5 +1,7 @@
 //! Why a journal was not begun, and why one ended.
 
+use std::fmt;
+use std::fmt::{Debug, Display, Formatter};
 use std::io::ErrorKind;
 use sup_desk::JournalFault;
 use thiserror::Error;
@@ -30,23 +32,29 @@ impl BeginFault {
     }
 }
 
-/// A journal that was not begun, and its writer.
-#[derive(Debug, Drop, Error)]
-#[error("{}", .fault)]
+/// A journal that was not begun, and its writer. As an error it is told by its fault.
+#[derive(Debug, Drop)]
 pub struct NotBegun<W> {
     pub fault: BeginFault,
     pub writer: W,
 }
 
+impl<W> Display for NotBegun<W> {
+    fn fmt<V: fmt::Write>(&self, f: &mut Formatter<V>) -> fmt::Result {
+        Display::fmt(&self.fault, f)
+    }
+}
+
+impl<W: Debug + Drop> std::error::Error for NotBegun<W> {}
+
 /// What ended a journal.
 #[derive(Clone, Copy, Debug, PartialEq, Eq)]
 pub enum End {
-    /// A write answered an error of this kind.
+    /// A write answered an error.
     Error(ErrorKind),
-    /// A write took nothing of bytes that were not empty.
     TookNothing,
-    /// All was written, and a flush answered an error of this kind.
-    Flush(ErrorKind),
+    /// All was written, and the flush answered an error.
+    NotFlushed(ErrorKind),
 }
 
 impl End {
@@ -60,7 +68,7 @@ impl End {
         match self {
             End::Error(_) => JournalFault::Failed,
             End::TookNothing => JournalFault::TookNothing,
-            End::Flush(_) => JournalFault::NotFlushed,
+            End::NotFlushed(_) => JournalFault::NotFlushed,
         }
     }
 }

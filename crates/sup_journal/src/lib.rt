@@ -8,13 +8,11 @@
 //!
 //! A writer may refuse in the midst of a batch. It then holds the text of the entries before the batch and a first part of
 //! the text of the batch. The whole lines of that, which `sup_format::ended_part` gives, are read as the entries before and
-//! the first few of the batch, but not all of them (`laws::whole_lines`). The journal records nothing more.
+//! the first few of the batch, but not all of them (`laws::whole_lines`). It may also take the whole batch and then fail to
+//! flush: its text is then that of all of them (`laws::flush_failed`). The journal records nothing more.
 //!
-//! [`Flush`] says when the journal flushes its writer, and [`Synced`] makes a file's flush wait for the disk. A flush that fails
-//! ends the journal as a write does; the writer then took all lines of the refused batch.
-//!
-//! After a crash [`open_journal`] goes on in the file, without a torn last line; or `read_journal` reads what there is, and
-//! [`TextJournal::resume`] goes on behind it, in a writer of its own. `sup_desk::on_journaled_desk` makes a desk of it.
+//! After a crash `read_journal` reads what there is, and [`TextJournal::resume`] goes on behind it, in a writer of its own: so a
+//! torn last line is gone. `sup_desk::on_journaled_desk` makes a desk of both.
 //!
 //! What the writer held at first is said by the type: an [`Origin`]. `Brand` stands for an empty writer, and `Unknown` for
 //! one like a file, of which no clause says what it holds.
@@ -30,7 +28,7 @@
 #![tactic(auto)]
 
 mod fault;
-mod flush;
+mod flushing;
 pub mod laws;
 mod opening;
 mod origin;
@@ -40,7 +38,7 @@ mod synced;
 mod text_journal;
 
 pub use fault::{BeginFault, NotBegun};
-pub use flush::Flush;
+pub use flushing::Flush;
 pub use opening::{OpenFault, Opened, open_journal};
 pub use origin::{Origin, Unknown};
 pub use reading::read_journal;

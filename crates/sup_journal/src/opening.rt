@@ -1,106 +1,188 @@
-//! Going on in the file of a journal.
+//! A journal in a file that may hold a history already.
 
-ghost use Rattle.std.specs.Prelude.{◌≡◌, [], IfOk};
+ghost use Rattle.std.specs.Prelude.{◌≡◌, ℕ, List, [], IfOk};
+ghost use Rattle.std.specs.Io.{StartsWith};
+ghost use Rattle.sup_format.specs.Reading.History.{SpellsAs};
+ghost use Rattle.sup_format.specs.Reading.Texts.{IsEndedPart};
 ghost use Rattle.sup_journal.specs.Faults.{open_fault_number};
-ghost use Rattle.sup_journal.specs.declared.opening.OpenFault.TheVariants as opening;
 
+use crate::fault::BeginFault;
 use crate::origin::Unknown;
+use crate::reading::read_journal;
+use crate::synced::Synced;
 use crate::text_journal::TextJournal;
 use std::alloc::Allocator;
 use std::fs::{Files, OpenFile, OpenOptions};
-use std::io;
-use std::io::{ErrorKind, Read, Seek, SeekFrom};
-use sup_desk::Journal;
-use sup_format::{History, HistoryFault, ended_part, read_history, write_history};
-use sup_types::OutOfMemory;
+use std::io::{Error as IoError, ErrorKind, Read, Write};
+use sup_desk::{Journal, JournalFault};
+use sup_format::{Fault, HistoryFault, append_header, ended_part};
+use sup_types::{Entry, Template};
 use thiserror::Error;
 
-/// Why a journal was not opened. Its file has all of its whole lines.
+/// Why no journal was opened. The whole lines of the file stay as they were.
 #[derive(Clone, Copy, Debug, PartialEq, Eq, Error)]
 pub enum OpenFault {
-    /// There was no memory for the text.
     #[error("out of memory")]
     OutOfMemory,
-    /// The file could not be opened, read or cut.
-    #[error("the journal's file could not be opened, read or cut")]
+    /// The file was not opened, read or cut.
+    #[error("the journal's file answered an error")]
     File(ErrorKind),
-    /// A whole line is not that of a history.
-    #[error("the journal's text is wrong: {0}")]
-    Text(HistoryFault),
-    /// The text is that of a history, and not as a journal writes it: of version 1, say.
-    #[error("the history is not written as a journal writes it")]
-    OtherForm,
+    /// A whole line of the file is wrong.
+    #[error("a line of the journal's file is wrong")]
+    WrongLine(HistoryFault),
+    /// The file's first line is not the one that is written for this template: it is for another, or no journal wrote it.
+    #[error("the journal's file has another first line than this template")]
+    OtherTemplate,
+    /// The file refused the first line of a new journal.
+    #[error("the journal's file refused its first line")]
+    Refused(JournalFault),
 }
 
 impl OpenFault {
-    /// The number of the fault: 1, 10, that of the text's fault, or 9.
+    /// The number of the fault: 1, 14, that of the line's fault, 7 or 13, in the order of the variants.
     pub fn number(self) -> u8
         ensures { result ≡ open_fault_number self }
     {
         match self {
             OpenFault::OutOfMemory => 1,
-            OpenFault::File(_) => 10,
-            OpenFault::Text(fault) => fault.number(),
-            OpenFault::OtherForm => 9,
+            OpenFault::File(_) => 14,
+            OpenFault::WrongLine(fault) => fault.number(),
+            OpenFault::OtherTemplate => 7,
+            OpenFault::Refused(fault) => fault.number(),
         }
     }
 }
 
-impl From<io::Error> for OpenFault {
-    fn from(error: io::Error) -> OpenFault {
-        OpenFault::File(error.kind())
-    }
-}
-
-impl From<HistoryFault> for OpenFault {
-    ghost from_gives = { λ met fault. fault ≡ opening.Text met };
-
-    fn from(met: HistoryFault) -> OpenFault {
-        OpenFault::Text(met)
-    }
-}
-
-impl From<OutOfMemory> for OpenFault {
-    ghost from_gives = { λ _ fault. fault ≡ opening.OutOfMemory };
-
-    fn from(_met: OutOfMemory) -> OpenFault {
-        OpenFault::OutOfMemory
-    }
-}
-
-/// A journal that goes on in its file, and the history that it has recorded.
+/// A journal in a file, and the entries that it has recorded.
 #[derive(Drop)]
 pub struct Opened<F, A: Allocator> {
-    pub journal: TextJournal<Unknown, F, A>,
-    pub history: History<A>,
+    pub journal: TextJournal<Unknown, Synced<F>, A>,
+    pub entries: Vec<Entry, A>,
 }
 
-/// Opens the file of a journal, to go on in it after a crash, say. A torn last line is cut off the file. The history is what
-/// `sup_desk::Desk::recover` goes on from; its template has the most entries that there may be. It never flushes, unless
-/// `with_flush` says so.
-///
-/// After a fault the file has all of its whole lines: File, where it could not be opened, read or cut; Text, where a whole line is
-/// not that of a history, as in a file of which only a part of the first line was written; OtherForm, where it is a history that
-/// no journal wrote.
+/// Opens the file at a path, or makes it, and goes on at its end, with the history that its whole lines spell. A torn last line
+/// is cut off the file. An empty file, and one with only a part of this template's first line, begins anew.
 pub fn open_journal<R: Files, A: Allocator + Copy>(
     files: &R,
     alloc: A,
     path: &str,
+    template: &Template,
 ) -> Result<Opened<R::File, A>, OpenFault>
-    ensures { IfOk result (λ o. ⟦<TextJournal<Unknown, R::File, A> as Journal>⟧.has o.journal o.history.template o.history.entries.items []) }
+    ensures { IfOk result (λ opened. ⟦<TextJournal<Unknown, Synced<R::File>, A> as Journal>⟧.has opened.journal template.now opened.entries.items []) }
 {
-    let mut file = OpenOptions::new().read(true).write(true).open(files, path)?;
+    // In append mode each write goes to the end, wherever the reading stopped.
+    let opened = OpenOptions::new()
+        .read(true)
+        .append(true)
+        .create(true)
+        .open(files, path);
+    let mut file = opened.map_err(|error| fault_of_file(&error))?;
     let mut text = Vec::new(alloc);
-    file.read_to_end(&mut text)?;
-    let lines = ended_part(text.as_slice());
-    let history = read_history(alloc, lines)?;
-    let written = write_history(alloc, &history.template, history.entries.as_slice())?;
-    if written.as_slice() != lines {
-        return Err(OpenFault::OtherForm);
+    if let Err(error) = file.read_to_end(&mut text) {
+        return Err(fault_of_file(&error));
     }
-    let end = lines.len() as u64;
-    file.set_len(end)?;
-    file.seek(SeekFrom::Start(end))?;
-    let journal = TextJournal::reopen(alloc, file);
-    Ok(Opened { journal, history })
+    open_text(alloc, file, text.as_slice(), template)
+}
+
+/// The fault of an error that a file answered.
+fn fault_of_file(error: &IoError) -> OpenFault {
+    match error.kind() {
+        ErrorKind::OutOfMemory => OpenFault::OutOfMemory,
+        kind => OpenFault::File(kind),
+    }
+}
+
+/// Goes on in a file of this text, or begins it anew.
+fn open_text<F: Write + OpenFile + Drop, A: Allocator + Copy>(
+    alloc: A,
+    file: F,
+    text: &[u8],
+    template: &Template,
+) -> Result<Opened<F, A>, OpenFault>
+    ensures { IfOk result (λ opened. ⟦<TextJournal<Unknown, Synced<F>, A> as Journal>⟧.has opened.journal template.now opened.entries.items []) }
+{
+    let mut first = Vec::new(alloc);
+    if append_header(template, &mut first).is_err() {
+        return Err(OpenFault::OutOfMemory);
+    }
+    if text.starts_with(first.as_slice()) {
+        return go_on(alloc, file, text, first.as_slice(), template);
+    }
+    if !first.as_slice().starts_with(text) {
+        return Err(OpenFault::OtherTemplate);
+    }
+    begin(alloc, file, template)
+}
+
+/// Begins the file anew.
+fn begin<F: Write + OpenFile + Drop, A: Allocator + Copy>(
+    alloc: A,
+    file: F,
+    template: &Template,
+) -> Result<Opened<F, A>, OpenFault>
+    ensures { IfOk result (λ opened. ⟦<TextJournal<Unknown, Synced<F>, A> as Journal>⟧.has opened.journal template.now opened.entries.items []) }
+{
+    cut(&file, 0)?;
+    match TextJournal::new(alloc, Synced::new(file), template) {
+        Ok(journal) => {
+            let entries = Vec::new(alloc);
+            Ok(Opened { journal, entries })
+        }
+        Err(refused) => Err(match refused.fault {
+            BeginFault::OutOfMemory => OpenFault::OutOfMemory,
+            BeginFault::Refused(fault) => OpenFault::Refused(fault),
+        }),
+    }
+}
+
+/// Cuts the file to this length.
+fn cut<F: OpenFile>(file: &F, length: u64) -> Result<(), OpenFault> {
+    match file.set_len(length) {
+        Ok(()) => Ok(()),
+        Err(error) => Err(fault_of_file(&error)),
+    }
+}
+
+/// Goes on at the end of the whole lines.
+fn go_on<F: Write + OpenFile + Drop, A: Allocator + Copy>(
+    alloc: A,
+    file: F,
+    text: &[u8],
+    first: &[u8],
+    template: &Template,
+) -> Result<Opened<F, A>, OpenFault>
+    requires first { SpellsAs first.now template.now [] }
+    requires begins { StartsWith text.now first.now }
+    ensures { IfOk result (λ opened. ⟦<TextJournal<Unknown, Synced<F>, A> as Journal>⟧.has opened.journal template.now opened.entries.items []) }
+{
+    let entries = entries_of(alloc, text, first, template)?;
+    let whole = ended_part(text).len();
+    if whole < text.len() {
+        cut(&file, whole as u64)?;
+    }
+    let journal = TextJournal::reopen(alloc, Synced::new(file), template, entries.as_slice());
+    Ok(Opened { journal, entries })
+}
+
+/// The entries that the whole lines spell, of a text that begins with this template's first line.
+fn entries_of<A: Allocator + Copy>(
+    alloc: A,
+    text: &[u8],
+    first: &[u8],
+    template: &Template,
+) -> Result<Vec<Entry, A>, OpenFault>
+    requires first { SpellsAs first.now template.now [] }
+    requires begins { StartsWith text.now first.now }
+    ensures { IfOk result (λ entries. (whole : List ℕ) × IsEndedPart text.now whole × SpellsAs whole template.now entries.items) }
+{
+    match read_journal(alloc, text) {
+        Ok(history) => Ok(history.entries),
+        Err(
+            HistoryFault {
+                fault: Fault::OutOfMemory,
+                line: _,
+            },
+        ) => Err(OpenFault::OutOfMemory),
+        Err(wrong) => Err(OpenFault::WrongLine(wrong)),
+    }
 }

@@ -1,37 +1,31 @@
-//! Files whose flush waits for the disk.
-
-ghost use Rattle.std.specs.Prelude.{◌≡◌};
+//! A writer whose flush stores what a file has.
 
 use std::fs::OpenFile;
 use std::io;
 use std::io::Write;
 
-/// A file whose flush syncs its data: what was written before it outlasts a loss of power, as far as the system and the disk keep
-/// that promise.
-#[derive(Drop)]
+/// A writer over a file, whose flush waits until the bytes of the file are stored (`sync_data`). A journal with
+/// `Flush::EachUpdate` in it has each update stored before anyone sees it.
+///
+/// The name of a new file stands in its folder, which no flush stores: that is the maker's to do.
+#[derive(Debug, Drop)]
 pub struct Synced<F> {
-    file: F,
+    pub file: F,
 }
 
 impl<F> Synced<F> {
-    /// A writer to this file.
+    ghost use Rattle.std.specs.Prelude.{◌≡◌};
+
+    /// A writer over this file.
     pub fn new(file: F) -> Synced<F>
         ensures { result.file ≡ file }
     {
         Synced { file }
     }
-
-    /// The file.
-    pub fn into_inner(self) -> F
-        ensures { result ≡ self.file }
-    {
-        let Synced { file } = self;
-        file
-    }
 }
 
 impl<F: Write + OpenFile> Write for Synced<F> {
-    ghost contents = { λ s. F.contents s.file };
+    ghost contents = { λ synced. F.Write.contents synced.file };
 
     fn write(&mut self, bytes: &[u8]) -> io::Result<usize> {
         self.file.write(bytes)

@@ -1,18 +1,17 @@
 //! A journal that writes the text of a history.
 
-ghost use Rattle.std.specs.Prelude.{◌≡◌, ℕ, List, [], None, IfOk, IfErr};
-ghost use Rattle.std.specs.Io.KnownBytes.{Appends, Keeps};
-ghost use Rattle.sup_types.specs.declared.template.Template.{Template as ATemplate};
-ghost use Rattle.sup_types.specs.declared.history.Entry.{Entry as AnEntry};
-ghost use Rattle.sup_format.specs.Reading.History.{SpellsAs};
-ghost use Rattle.sup_desk.specs.Journals.{HoldsAsBefore};
+ghost use Rattle.std.specs.Prelude.{◌≡◌, List, [], None, IfOk, IfErr};
+ghost use Rattle.std.specs.Io.KnownBytes.{Keeps};
 ghost use Rattle.sup_journal.specs.Begun.{Leaves, LeavesText};
 ghost use Rattle.sup_journal.specs.Ends.{error_of};
+ghost use Rattle.sup_journal.specs.Records.{HasText};
+ghost use Rattle.sup_types.specs.declared.template.Template.{Template};
+ghost use Rattle.sup_types.specs.declared.history.Entry.{Entry};
 
 use crate::fault::{BeginFault, End, NotBegun};
-use crate::flush::Flush;
+use crate::flushing::Flush;
 use crate::origin::Origin;
-use crate::send::{flush, send};
+use crate::send::{put, send};
 use std::alloc::Allocator;
 use std::io::{ErrorKind, Write};
 use std::marker::PhantomData;
@@ -22,7 +21,7 @@ use sup_types::{Entry, OutOfMemory, Template};
 
 /// A journal that writes the text of a history, in version 2, to this writer: behind what it held, which the origin says.
 ///
-/// It writes each batch as it is recorded, and flushes its writer as [`Flush`] says: never, if nothing else is said. The first
+/// It writes each batch as it is recorded. It never flushes its writer unless [`TextJournal::with_flush`] says when. The first
 /// error ends it.
 #[derive(Drop)]
 pub struct TextJournal<O, W, A: Allocator> {
@@ -101,11 +100,17 @@ impl<O: Origin, W: Write, A: Allocator> TextJournal<O, W, A> {
         })
     }
 
-    /// A journal that goes on at the end of a writer that holds the text of a history already: behind what the origin says, the
-    /// writer holds such a text. Nothing is written, and no memory is taken.
-    pub fn reopen(alloc: A, writer: W) -> TextJournal<O, W, A>
-        ensures { (text : List ℕ) (template : ATemplate) (entries : List AnEntry) → SpellsAs text template entries → Appends O.held (W.contents writer) text
-            → ⟦<TextJournal<O, W, A> as Journal>⟧.has result template entries [] }
+    /// A journal that goes on in the same writer: it holds the text of the history of before, and takes what is written at its
+    /// end. Nothing is written, and no memory is taken.
+    pub fn reopen(
+        alloc: A,
+        writer: W,
+        _template: &Template,
+        _entries: &[Entry],
+    ) -> TextJournal<O, W, A>
+        requires { HasText O.held (W.contents writer) _template.now _entries.now }
+        ensures has { ⟦<TextJournal<O, W, A> as Journal>⟧.has result _template.now _entries.now [] }
+        ensures writer { result.writer ≡ writer }
     {
         TextJournal {
             writer,
@@ -117,27 +122,17 @@ impl<O: Origin, W: Write, A: Allocator> TextJournal<O, W, A> {
         }
     }
 
-    /// The same journal, which flushes its writer as this says.
+    /// The same journal, which flushes its writer after these records from now on. A new one never does.
     pub fn with_flush(self, flush: Flush) -> TextJournal<O, W, A>
-        ensures has { HoldsAsBefore (⟦<TextJournal<O, W, A> as Journal>⟧.has) self result }
-        ensures flush { result.flush ≡ flush }
+        ensures has { (template : Template) (recorded ready : List Entry) → ⟦<TextJournal<O, W, A> as Journal>⟧.has self template recorded ready
+            → ⟦<TextJournal<O, W, A> as Journal>⟧.has result template recorded ready }
+        ensures torn { (template : Template) (recorded ready : List Entry) → ⟦<TextJournal<O, W, A> as Journal>⟧.is_torn self template recorded ready
+            → ⟦<TextJournal<O, W, A> as Journal>⟧.is_torn result template recorded ready }
+        ensures flush { result ≡ record self { flush = flush } }
     {
-        let TextJournal {
-            writer,
-            text,
-            ready,
-            flush: _,
-            end,
-            origin,
-        } = self;
-        TextJournal {
-            writer,
-            text,
-            ready,
-            flush,
-            end,
-            origin,
-        }
+        let mut journal = self;
+        journal.flush = flush;
+        journal
     }
 
     /// The kind of the error that ended it, if an error did.
@@ -145,7 +140,7 @@ impl<O: Origin, W: Write, A: Allocator> TextJournal<O, W, A> {
         ensures { result ≡ error_of self.now.end }
     {
         match self.end {
-            Some(End::Error(kind) | End::Flush(kind)) => Some(kind),
+            Some(End::Error(kind) | End::NotFlushed(kind)) => Some(kind),
             Some(End::TookNothing) | None => None,
         }
     }
@@ -168,13 +163,13 @@ impl<O: Origin, W: Write, A: Allocator> TextJournal<O, W, A> {
 
 impl<O: Origin, W: Write, A: Allocator> Journal for TextJournal<O, W, A> {
     ghost use Rattle.std.specs.Prelude.{◌≡◌, None, IsSome};
-    ghost use Rattle.sup_journal.specs.Records.{IsRecorded, IsBroken};
+    ghost use Rattle.sup_journal.specs.Records.{IsRecorded, IsCut};
 
     ghost has = { λ journal template recorded ready. (journal.end ≡ None)
         × IsRecorded O.held (W.contents journal.writer) journal.text.items template recorded ready };
 
     ghost is_torn = { λ journal template recorded ready. IsSome journal.end
-        × IsBroken journal.end O.held (W.contents journal.writer) template recorded ready };
+        × IsCut O.held (W.contents journal.writer) journal.end template recorded ready };
 
     ghost may_fail = { λ _. Unit {0} };
 
@@ -195,16 +190,17 @@ impl<O: Origin, W: Write, A: Allocator> Journal for TextJournal<O, W, A> {
         if let Some(end) = self.end {
             return Err(end.fault());
         }
-        if let Err(end) = send(&mut self.writer, self.text.as_slice()) {
-            self.end = Some(end);
-            return Err(end.fault());
+        let flushes = self.flush.is_due(self.ready);
+        match put(&mut self.writer, self.text.as_slice(), flushes) {
+            Ok(()) => {
+                self.text.clear();
+                self.ready = 0;
+                Ok(())
+            }
+            Err(end) => {
+                self.end = Some(end);
+                Err(end.fault())
+            }
         }
-        if let Err(end) = flush(&mut self.writer, self.flush.is_due(self.ready)) {
-            self.end = Some(end);
-            return Err(end.fault());
-        }
-        self.text.clear();
-        self.ready = 0;
-        Ok(())
     }
 }

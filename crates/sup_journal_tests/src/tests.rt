@@ -3,19 +3,17 @@ ghost use Rattle.std.specs.Prelude.{[], ◌∷◌, IfSome};
 ghost use Rattle.sup_format.specs.Reading.History.{SpellsAs};
 
 mod desks;
+mod files;
 
 use std::alloc::Global;
-use std::fs::File;
+use std::io;
 use std::io::{ErrorKind, Write};
 use std::marker::Brand;
 use std::process::Abort;
 use std::test::Fail;
-use std::{env, fs, io, process};
 use sup_desk::{Journal, JournalFault};
 use sup_format::{ended_part, read_history, write_history};
-use sup_journal::{
-    BeginFault, Flush, OpenFault, Synced, TextJournal, Unknown, open_journal, read_journal,
-};
+use sup_journal::{BeginFault, TextJournal, Unknown};
 use sup_types::{Answer, Entry, Kind, Operation, Reason, Restart, Template, Text};
 
 /// The history of the tests, as text.
@@ -60,8 +58,6 @@ struct Narrow {
     room: usize,
     fails: bool,
     calls: usize,
-    flush_fails: bool,
-    flushes: usize,
 }
 
 impl Write for Narrow {
@@ -77,23 +73,7 @@ impl Write for Narrow {
     }
 
     fn flush(&mut self) -> io::Result<()> {
-        self.flushes = self.flushes.saturating_add(1);
-        if self.flush_fails {
-            return Err(io::Error::from(ErrorKind::StorageFull));
-        }
         Ok(())
-    }
-}
-
-/// A writer with this room, and perhaps one that can't flush.
-fn narrow_writer(alloc: Global, room: usize, fails: bool, flush_fails: bool) -> Narrow {
-    Narrow {
-        held: Vec::new(alloc),
-        room,
-        fails,
-        calls: 0,
-        flush_fails,
-        flushes: 0,
     }
 }
 
@@ -123,31 +103,6 @@ fn records_what_is_written_of_a_history(rt: HostRuntime) -> Result<(), Fail> {
     };
     assert!(rt; text.starts_with(first.as_slice()) && first.len() == 68);
     Ok(())
-}
-
-#[test]
-fn goes_on_behind_a_torn_journal(rt: HostRuntime) -> Result<(), Fail> {
-    let entries = entries(&rt);
-    let torn = &HISTORY.as_bytes()[..HISTORY.len() - 3];
-    let Ok(history) = read_journal(rt.alloc(), torn) else {
-        return Err(Fail::new("its whole lines are read"));
-    };
-    assert!(rt; history.entries.as_slice() == &entries[..2]);
-    let before = history.entries.as_slice();
-    let text = go_on(rt.alloc(), &history.template, before, &entries[2]);
-    assert!(rt; text.is_some_and(|it| it.as_slice() == HISTORY.as_bytes()));
-    Ok(())
-}
-
-/// Goes on behind these entries with one more.
-fn go_on(alloc: Global, template: &Template, before: &[Entry], entry: &Entry) -> Option<Vec<u8>> {
-    let resumed = TextJournal::<Brand, _, _>::resume(alloc, Vec::new(alloc), template, before);
-    let Ok(mut journal) = resumed else {
-        return None;
-    };
-    journal.prepare(entry).ok()?;
-    journal.record().ok()?;
-    Some(journal.into_writer())
 }
 
 /// How many entries the text is read as, if it is read and they are the first of these.
@@ -189,7 +144,12 @@ fn a_refused_record_leaves_a_first_part(rt: HostRuntime) -> Result<(), Fail> {
 /// Records the entries in one batch to a writer that takes so many bytes, and looks at what it holds.
 fn record_narrowly(rt: &impl Abort, alloc: Global, room: usize, fails: bool) -> Result<(), Fail> {
     let (template, entries) = (template(rt), entries(rt));
-    let writer = narrow_writer(alloc, room, fails, false);
+    let writer = Narrow {
+        held: Vec::new(alloc),
+        room,
+        fails,
+        calls: 0,
+    };
     let fault = if fails {
         JournalFault::Failed
     } else {
@@ -225,99 +185,4 @@ fn record_narrowly(rt: &impl Abort, alloc: Global, room: usize, fails: bool) -> 
         }
     }
     Ok(())
-}
-
-/// Records one entry, and then a batch of two: how often that flushed the writer, how many bytes it holds, and how the batch
-/// ended.
-fn flushed(
-    rt: &impl Abort,
-    alloc: Global,
-    flush: Flush,
-    flush_fails: bool,
-) -> Option<(usize, usize, Result<(), JournalFault>)> {
-    let (template, entries) = (template(rt), entries(rt));
-    let writer = narrow_writer(alloc, HISTORY.len(), false, flush_fails);
-    let Ok(journal) = TextJournal::<Unknown, _, _>::new(alloc, writer, &template) else {
-        return None;
-    };
-    let mut journal = journal.with_flush(flush);
-    journal.prepare(&entries[0]).ok()?;
-    journal.record().ok()?;
-    journal.prepare(&entries[1]).ok()?;
-    journal.prepare(&entries[2]).ok()?;
-    let ended = journal.record();
-    let failed = ended.is_err();
-    if journal.error().is_some() != failed || journal.record().is_err() != failed {
-        return None;
-    }
-    let writer = journal.into_writer();
-    Some((writer.flushes, writer.held.len(), ended))
-}
-
-#[test]
-fn flushes_as_it_is_told(rt: HostRuntime) -> Result<(), Fail> {
-    let all = HISTORY.len();
-    let alloc = rt.alloc();
-    assert!(rt; flushed(&rt, alloc, Flush::Never, true) == Some((0, all, Ok(()))));
-    assert!(rt; flushed(&rt, alloc, Flush::EachBatch, false) == Some((1, all, Ok(()))));
-    // (a record of nothing is flushed, too: `flushed` asks for one more)
-    assert!(rt; flushed(&rt, alloc, Flush::EachUpdate, false) == Some((3, all, Ok(()))));
-    // The writer took all, and could not flush it.
-    let failed = Err(JournalFault::NotFlushed);
-    assert!(rt; flushed(&rt, alloc, Flush::EachBatch, true) == Some((1, all, failed)));
-    Ok(())
-}
-
-/// Goes on in the file at this path with one entry more, each record synced. How many entries were there.
-fn go_on_in_file(rt: &impl fs::Files, alloc: Global, path: &str, entry: &Entry) -> Option<usize> {
-    let opened = open_journal(rt, alloc, path).ok()?;
-    let mut journal = opened.journal;
-    journal.prepare(entry).ok()?;
-    journal.record().ok()?;
-    Some(opened.history.entries.len())
-}
-
-#[test]
-fn goes_on_in_its_file(rt: HostRuntime) -> Result<(), Fail> {
-    let entries = entries(&rt);
-    let folder = env::temp_dir(&rt)?;
-    let id = process::id(rt.process());
-    let path = format!(in rt.alloc(); "{}/sup_journal-{id}", folder.as_str())?;
-    let path = path.as_str();
-    // The last line is torn.
-    fs::write(&rt, path, &HISTORY.as_bytes()[..HISTORY.len() - 3])?;
-    assert!(rt; go_on_in_file(&rt, rt.alloc(), path, &entries[2]) == Some(2));
-    let text = fs::read(&rt, path)?;
-    assert!(rt; text.as_slice() == HISTORY.as_bytes());
-    // What no journal wrote is left as it is.
-    let older = b"history 1 permanent worker 1 5 10\n";
-    fs::write(&rt, path, older.as_slice())?;
-    let refused = open_journal(&rt, rt.alloc(), path);
-    assert!(rt; refused.is_err_and(|fault| fault == OpenFault::OtherForm));
-    let text = fs::read(&rt, path)?;
-    assert!(rt; text.as_slice() == older.as_slice());
-    fs::remove_file(&rt, path)?;
-    let gone = open_journal(&rt, rt.alloc(), path);
-    assert!(rt; gone.is_err_and(|fault| fault == OpenFault::File(ErrorKind::NotFound)));
-    Ok(())
-}
-
-#[test]
-fn a_synced_file_takes_what_is_written(rt: HostRuntime) -> Result<(), Fail> {
-    let folder = env::temp_dir(&rt)?;
-    let id = process::id(rt.process());
-    let path = format!(in rt.alloc(); "{}/sup_journal-synced-{id}", folder.as_str())?;
-    let file = Synced::new(File::create(&rt, path.as_str())?);
-    let (template, entries) = (template(&rt), entries(&rt));
-    let Ok(journal) = TextJournal::<Unknown, _, _>::new(rt.alloc(), file, &template) else {
-        return Err(Fail::new("the file refused"));
-    };
-    let mut journal = journal.with_flush(Flush::EachUpdate);
-    for entry in &entries {
-        journal.prepare(entry)?;
-    }
-    assert!(rt; journal.record() == Ok(()));
-    let text = fs::read(&rt, path.as_str())?;
-    assert!(rt; text.as_slice() == HISTORY.as_bytes());
-    Ok(fs::remove_file(&rt, path.as_str())?)
 }

@@ -6,6 +6,7 @@ use std::marker::Brand;
 use std::process::Abort;
 use std::sync::Wait;
 use sup_desk::{Desk, JournaledProgram, Name, on_journaled_desk};
+use sup_format::Fault;
 use sup_journal::{TextJournal, read_journal};
 use sup_types::{AlwaysRunning, Entry, Reason, Template, Text, Word};
 
@@ -81,4 +82,24 @@ fn goes_on<R: Wait + Abort>(rt: &R, alloc: Global, text: &[u8]) {
     let text = opened(rt, alloc, &before.template, entries, 4).expect(rt, "a desk");
     assert!(rt; text.starts_with(FIRST.as_bytes()) && text.ends_with(SECOND.as_bytes()));
     assert!(rt; text.len() == FIRST.len().saturating_add(SECOND.len()));
+}
+
+/// Goes on from a text in another writer. What the journal has then, or nothing where memory was refused.
+fn recovered<R: Wait + Abort>(rt: &R, alloc: Global) -> Option<Vec<u8>> {
+    match read_journal(alloc, FIRST.as_bytes()) {
+        Ok(before) => opened(rt, alloc, &before.template, before.entries.as_slice(), 4),
+        Err(refused) => {
+            assert!(rt; refused.fault == Fault::OutOfMemory);
+            None
+        }
+    }
+}
+
+/// Whichever growth is refused, the recovery is refused, or the journal has all.
+#[test]
+fn a_recovery_bears_a_refusal(rt: HostRuntime) {
+    let Some(text) = recovered(&rt, rt.alloc()) else {
+        return;
+    };
+    assert!(rt; text.starts_with(FIRST.as_bytes()) && text.ends_with(SECOND.as_bytes()));
 }

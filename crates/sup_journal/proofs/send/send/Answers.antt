@@ -16,4 +16,4 @@ loop-taken-preserved g c =
     }
 
 pub returns-in-Err : goal.returns-in-Err
-returns-in-Err g c = took_part _ _ _ c.args.bytes.now c.loop-taken.taken c.loop-taken-test.true c.loop-taken.invariant.wrote c.in-Err.ensures
+returns-in-Err g c = (c.in-Err.ensures.0, took_part _ _ _ c.args.bytes.now c.loop-taken.taken c.loop-taken-test.true c.loop-taken.invariant.wrote c.in-Err.ensures.1)
