@@ -211,8 +211,7 @@ load_of kinds command rows w n r t none is are bare within (Ok (order.Serve d)) 
 load_of kinds command rows w n r t none is are bare within (Ok (order.Load load path)) leads =
     let same : leads.1.0 ≡ rows = ap rows_in (sym leads.1.1 ∙ is) in
     let those = subst (λ (R : List Row). AreNumbers R load.workers load.children load.readers load.turns) same leads.1.2 in
-    let path_is : option_map (λ s. s.now) path ≡ None = leads.1.3 ∙ (ap (first_of (codes "journal")) same ∙ bare) in
-    (
+    let path_is : option_map (λ s. s.now) path ≡ None = leads.1.3 ∙ (ap (first_of (codes "journal")) same ∙ bare) in (
       same_number those.workers are.workers,
       same_number those.children are.children,
       same_number those.readers are.readers,

@@ -202,12 +202,7 @@ fn measure_bare<R: Threads + Wait + Sync>(
 }
 
 /// Runs the load with a journal on a new file at this path.
-fn measure_recorded<R>(
-    rt: &R,
-    alloc: Global,
-    load: Load,
-    path: &str,
-) -> Result<Sums, StopFault>
+fn measure_recorded<R>(rt: &R, alloc: Global, load: Load, path: &str) -> Result<Sums, StopFault>
 where
     R: Threads + Wait + Files + Sync,
     R::File: Send,
@@ -295,12 +290,7 @@ fn plan(alloc: Global, load: Load) -> Result<Plan, AllocError>
 }
 
 /// Runs the crew while each of these handles asks in a thread of its own.
-fn beside_readers<
-    'd,
-    N: Name + Send + Sync,
-    R: Threads + Wait + Sync,
-    J: Journal + Drop + Send,
->(
+fn beside_readers<'d, N: Name + Send + Sync, R: Threads + Wait + Sync, J: Journal + Drop + Send>(
     rt: &R,
     alloc: Global,
     desk: &'d Desk<N, ScriptStarter, &R, J>,

@@ -14,7 +14,7 @@ returns g c = record {
       (λ (n : ℕ). IfErr c.run_recorded.result (λ f. IsCauseOf f c.args.template n c.args.entries.now))
       c.in_ok-ground.ensures.ok.1
       (subst
-        (λ (t : Template). IfErr c.run_recorded.result (λ f. IsCauseOf f t c.in_ok-ground.ground.handles c.args.entries.now))
-        c.in_ok-ground.ensures.ok.0
-        c.run_recorded.ensures.err);
+      (λ (t : Template). IfErr c.run_recorded.result (λ f. IsCauseOf f t c.in_ok-ground.ground.handles c.args.entries.now))
+      c.in_ok-ground.ensures.ok.0
+      c.run_recorded.ensures.err);
 }
