@@ -1,7 +1,12 @@
 -- A text that begins with the first line of a template.
-use Rattle.std.proofs.Common.{◌≡◌, ℕ, List, [], ◌∷◌, ◌++◌, length, drop, sym, ap, subst, ◌∙◌}
+use Rattle.std.proofs.Common.{◌≡◌, ℕ, Bool, true, false, nat_eq, List, [], ◌∷◌, ◌++◌, length, drop, sym, ap, subst, ◌∙◌}
 use Rattle.std.specs.Io.{StartsWith}
+use Rattle.std.specs.List.{starts_with}
 use Rattle.std.proofs.KnownBytes.{starts_with_rest}
+use Rattle.std.proofs.Transfers.{starts_with_of_append}
+use Rattle.std.proofs.lemmas.Bool.{false≢true}
+use Rattle.std.proofs.lemmas.Bool.Decides.{Decides-eqb}
+use Rattle.std.proofs.lemmas.Slice.Eq.{starts_is}
 use Rattle.sup_types.specs.declared.template.Template.{Template}
 use Rattle.sup_types.specs.declared.history.Entry.{Entry}
 use Rattle.sup_format.specs.Reading.Headers.{IsFirst}
@@ -34,3 +39,12 @@ goes_on text first whole template read entries starts s ended spelled =
       };
       version_2 = ap words_of firsts ∙ s.version_2;
     }
+
+-- `starts_with` of bytes says whether one begins with the other
+pub begins_with : (text first : List ℕ) (r : Bool) → r ≡ starts_with nat_eq text first → r ≡ true → StartsWith text first
+begins_with text first r is begins = starts_with_of_append text first _ ((starts_is Decides-eqb text first r is).0 begins)
+
+pub begins_otherwise : (text first : List ℕ) (r : Bool) → r ≡ starts_with nat_eq text first → r ≡ false → ¬ StartsWith text first
+begins_otherwise text first r is lacks starts =
+    let begins = (starts_is Decides-eqb text first r is).1 _ (starts_with_rest text first starts) in
+    false≢true (sym lacks ∙ begins)

@@ -3,3 +3,4 @@ pub mod Begun
 pub mod Ends
 pub mod Faults
 pub mod Flushes
+pub mod Openings

@@ -11,8 +11,14 @@
 //! the first few of the batch, but not all of them (`laws::whole_lines`). It may also take the whole batch and then fail to
 //! flush: its text is then that of all of them (`laws::flush_failed`). The journal records nothing more.
 //!
-//! After a crash `read_journal` reads what there is, and [`TextJournal::resume`] goes on behind it, in a writer of its own: so a
-//! torn last line is gone. `sup_desk::on_journaled_desk` makes a desk of both.
+//! After a crash [`open_journal`] goes on in the same file: it reads the whole lines, cuts a torn last line off, and answers the
+//! journal with its entries, of which `sup_desk::on_journaled_desk` makes a desk. Where there is no file yet, it makes it.
+//! [`continue_journal`] does so with a file that was read already. `read_journal` reads any text, and [`TextJournal::resume`]
+//! goes on behind its history in another writer.
+//!
+//! A journal flushes its writer after the records that a [`Flush`] names: none at first ([`TextJournal::with_flush`]). Over
+//! [`Synced`], as in a journal that was opened in its file, a flush waits until the file's bytes are stored. That a record
+//! flushes is promised by no contract: tests show it.
 //!
 //! What the writer held at first is said by the type: an [`Origin`]. `Brand` stands for an empty writer, and `Unknown` for
 //! one like a file, of which no clause says what it holds.
@@ -39,7 +45,7 @@ mod text_journal;
 
 pub use fault::{BeginFault, NotBegun};
 pub use flushing::Flush;
-pub use opening::{OpenFault, Opened, open_journal};
+pub use opening::{OpenFault, Opened, continue_journal, open_journal};
 pub use origin::{Origin, Unknown};
 pub use reading::read_journal;
 pub use synced::Synced;

@@ -1,10 +1,11 @@
 //! A journal in a file that may hold a history already.
 
-ghost use Rattle.std.specs.Prelude.{◌≡◌, ℕ, List, [], IfOk};
+ghost use Rattle.std.specs.Prelude.{◌≡◌, ℕ, List, [], IfOk, IfErr, MatchResult};
 ghost use Rattle.std.specs.Io.{StartsWith};
 ghost use Rattle.sup_format.specs.Reading.History.{SpellsAs};
 ghost use Rattle.sup_format.specs.Reading.Texts.{IsEndedPart};
 ghost use Rattle.sup_journal.specs.Faults.{open_fault_number};
+ghost use Rattle.sup_journal.specs.Openings.{GoesOnWith, HasFirstLine, IsUnbegun, IsWhyNot};
 
 use crate::fault::BeginFault;
 use crate::origin::Unknown;
@@ -19,7 +20,7 @@ use sup_format::{Fault, HistoryFault, append_header, ended_part};
 use sup_types::{Entry, Template};
 use thiserror::Error;
 
-/// Why no journal was opened. The whole lines of the file stay as they were.
+/// Why no journal was opened. The whole lines of the file stay as they were; [`continue_journal`] says what else does.
 #[derive(Clone, Copy, Debug, PartialEq, Eq, Error)]
 pub enum OpenFault {
     #[error("out of memory")]
@@ -60,8 +61,11 @@ pub struct Opened<F, A: Allocator> {
     pub entries: Vec<Entry, A>,
 }
 
-/// Opens the file at a path, or makes it, and goes on at its end, with the history that its whole lines spell. A torn last line
-/// is cut off the file. An empty file, and one with only a part of this template's first line, begins anew.
+/// Opens the file at a path, or makes it, and goes on at its end, with the history that its whole lines spell: as
+/// [`continue_journal`] does with what the file has. No contract says what that is: the system answers it.
+///
+/// # Errors
+/// Those of [`continue_journal`], and `File` also where the file was not opened or not read: then it is as it was.
 pub fn open_journal<R: Files, A: Allocator + Copy>(
     files: &R,
     alloc: A,
@@ -81,25 +85,38 @@ pub fn open_journal<R: Files, A: Allocator + Copy>(
     if let Err(error) = file.read_to_end(&mut text) {
         return Err(fault_of_file(&error));
     }
-    open_text(alloc, file, text.as_slice(), template)
+    continue_journal(alloc, file, text.as_slice(), template)
 }
 
 /// The fault of an error that a file answered.
-fn fault_of_file(error: &IoError) -> OpenFault {
+fn fault_of_file(error: &IoError) -> OpenFault
+    ensures { (text : List ℕ) (template : Template) → IsWhyNot result text template }
+{
     match error.kind() {
         ErrorKind::OutOfMemory => OpenFault::OutOfMemory,
         kind => OpenFault::File(kind),
     }
 }
 
-/// Goes on in a file of this text, or begins it anew.
-fn open_text<F: Write + OpenFile + Drop, A: Allocator + Copy>(
+/// Goes on at the end of a file that has this text, with the history that the text's whole lines spell. The file must have
+/// been opened to append. A torn last line is cut off the file. An empty file, and one with only a part of this template's
+/// first line, begins anew: it is cut to nothing and takes that line.
+///
+/// # Errors
+/// Whichever comes, the whole lines of the file stay as they were.
+/// - `OtherTemplate`: the text begins otherwise than with this template's first line. The file is as it was.
+/// - `WrongLine`: a whole line is wrong; its number and its fault. The file is as it was.
+/// - `OutOfMemory`: at any time. A file that begins anew may be cut to nothing by then.
+/// - `File`: the file was not cut.
+/// - `Refused`: the first line of a file that begins anew was refused. The file has a part of it, or nothing.
+pub fn continue_journal<F: Write + OpenFile + Drop, A: Allocator + Copy>(
     alloc: A,
     file: F,
     text: &[u8],
     template: &Template,
 ) -> Result<Opened<F, A>, OpenFault>
-    ensures { IfOk result (λ opened. ⟦<TextJournal<Unknown, Synced<F>, A> as Journal>⟧.has opened.journal template.now opened.entries.items []) }
+    ensures has { IfOk result (λ opened. ⟦<TextJournal<Unknown, Synced<F>, A> as Journal>⟧.has opened.journal template.now opened.entries.items []) }
+    ensures entries { MatchResult result (λ opened. GoesOnWith text.now template.now opened.entries.items) (λ fault. IsWhyNot fault text.now template.now) }
 {
     let mut first = Vec::new(alloc);
     if append_header(template, &mut first).is_err() {
@@ -120,7 +137,9 @@ fn begin<F: Write + OpenFile + Drop, A: Allocator + Copy>(
     file: F,
     template: &Template,
 ) -> Result<Opened<F, A>, OpenFault>
-    ensures { IfOk result (λ opened. ⟦<TextJournal<Unknown, Synced<F>, A> as Journal>⟧.has opened.journal template.now opened.entries.items []) }
+    ensures has { IfOk result (λ opened. ⟦<TextJournal<Unknown, Synced<F>, A> as Journal>⟧.has opened.journal template.now opened.entries.items []) }
+    ensures entries { (text : List ℕ) → IsUnbegun text template.now
+        → MatchResult result (λ opened. GoesOnWith text template.now opened.entries.items) (λ fault. IsWhyNot fault text template.now) }
 {
     cut(&file, 0)?;
     match TextJournal::new(alloc, Synced::new(file), template) {
@@ -136,7 +155,9 @@ fn begin<F: Write + OpenFile + Drop, A: Allocator + Copy>(
 }
 
 /// Cuts the file to this length.
-fn cut<F: OpenFile>(file: &F, length: u64) -> Result<(), OpenFault> {
+fn cut<F: OpenFile>(file: &F, length: u64) -> Result<(), OpenFault>
+    ensures { (text : List ℕ) (template : Template) → IfErr result (λ fault. IsWhyNot fault text template) }
+{
     match file.set_len(length) {
         Ok(()) => Ok(()),
         Err(error) => Err(fault_of_file(&error)),
@@ -153,14 +174,16 @@ fn go_on<F: Write + OpenFile + Drop, A: Allocator + Copy>(
 ) -> Result<Opened<F, A>, OpenFault>
     requires first { SpellsAs first.now template.now [] }
     requires begins { StartsWith text.now first.now }
-    ensures { IfOk result (λ opened. ⟦<TextJournal<Unknown, Synced<F>, A> as Journal>⟧.has opened.journal template.now opened.entries.items []) }
+    requires has { HasFirstLine text.now template.now }
+    ensures has { IfOk result (λ opened. ⟦<TextJournal<Unknown, Synced<F>, A> as Journal>⟧.has opened.journal template.now opened.entries.items []) }
+    ensures entries { MatchResult result (λ opened. GoesOnWith text.now template.now opened.entries.items) (λ fault. IsWhyNot fault text.now template.now) }
 {
     let entries = entries_of(alloc, text, first, template)?;
     let whole = ended_part(text).len();
     if whole < text.len() {
         cut(&file, whole as u64)?;
     }
-    let journal = TextJournal::reopen(alloc, Synced::new(file), template, entries.as_slice());
+    let journal = TextJournal::reopen(alloc, Synced::new(file));
     Ok(Opened { journal, entries })
 }
 
@@ -173,7 +196,8 @@ fn entries_of<A: Allocator + Copy>(
 ) -> Result<Vec<Entry, A>, OpenFault>
     requires first { SpellsAs first.now template.now [] }
     requires begins { StartsWith text.now first.now }
-    ensures { IfOk result (λ entries. (whole : List ℕ) × IsEndedPart text.now whole × SpellsAs whole template.now entries.items) }
+    requires has { HasFirstLine text.now template.now }
+    ensures { MatchResult result (λ entries. (whole : List ℕ) × IsEndedPart text.now whole × SpellsAs whole template.now entries.items) (λ fault. IsWhyNot fault text.now template.now) }
 {
     match read_journal(alloc, text) {
         Ok(history) => Ok(history.entries),

@@ -100,16 +100,11 @@ impl<O: Origin, W: Write, A: Allocator> TextJournal<O, W, A> {
         })
     }
 
-    /// A journal that goes on in the same writer: it holds the text of the history of before, and takes what is written at its
-    /// end. Nothing is written, and no memory is taken.
-    pub fn reopen(
-        alloc: A,
-        writer: W,
-        _template: &Template,
-        _entries: &[Entry],
-    ) -> TextJournal<O, W, A>
-        requires { HasText O.held (W.contents writer) _template.now _entries.now }
-        ensures has { ⟦<TextJournal<O, W, A> as Journal>⟧.has result _template.now _entries.now [] }
+    /// A journal that goes on in a writer which holds the text of a history: that is what it has recorded. The writer must take
+    /// what is written at its end. Nothing is written, and no memory is taken.
+    pub fn reopen(alloc: A, writer: W) -> TextJournal<O, W, A>
+        ensures has { (template : Template) (entries : List Entry) → HasText O.held (W.contents writer) template entries
+            → ⟦<TextJournal<O, W, A> as Journal>⟧.has result template entries [] }
         ensures writer { result.writer ≡ writer }
     {
         TextJournal {

@@ -4,6 +4,7 @@ ghost use Rattle.sup_format.specs.Reading.History.{SpellsAs};
 
 mod desks;
 mod files;
+mod refused;
 
 use std::alloc::Global;
 use std::io;
