@@ -95,7 +95,8 @@ Each further line is an entry: HANDLE SERIAL MOMENT OPERATION ANSWER. The operat
 
 One space stands between two words of a line, and none at its beginning or end. A text has 1 to 40 visible
 characters of ASCII, so it has no space. A number has digits alone, no sign and no leading zero, and is at most
-18446744073709551615; a code is at most 4294967295. Every line ends with a line feed, the last one too.
+18446744073709551615; a code is at most 4294967295. Every line ends with a line feed, the last one too: where a
+journal broke off in a line, cut that line off, and the rest is replayed.
 
 Example:
   supload replay <<END
