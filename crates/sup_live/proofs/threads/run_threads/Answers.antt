@@ -3,10 +3,4 @@ use denote.Param.Send.{sendable}
 use Rattle.sup_live.proofs.threads.run_threads.Goals as goal
 
 pub scoped-requires : goal.scoped-requires
-scoped-requires g c = record {
-  at = λ _. record {
-    threads = (search sendable, search sendable, search sendable, search sendable, search sendable, search sendable);
-    children = (search sendable, search sendable);
-    patrons = (search sendable, search sendable);
-  };
-}
+scoped-requires g c = record { at = λ _. (search sendable, search sendable) }
