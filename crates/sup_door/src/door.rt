@@ -6,6 +6,7 @@ ghost use Rattle.sup_core.specs.Queries.{which, count, child};
 ghost use Rattle.sup_log.specs.Tokens.{sight, history_of};
 ghost use Rattle.sup_desk.specs.Asking.{IsAnswered};
 ghost use Rattle.sup_desk.specs.Knowledge.{IsUpdated, entries_of};
+ghost use Rattle.sup_desk.specs.declared.journal.JournalFault.{JournalFault};
 ghost use Rattle.sup_desk.specs.Results.{IsUpdateResult};
 
 use crate::alive::Alive;
@@ -16,12 +17,15 @@ use futures::Future;
 use std::marker::Model;
 use std::sync::Wait;
 use std::time::Clock;
-use sup_desk::{Caller, Desk, Done, Handle, HandleFault, Name, QueryFault, UpdateFault};
+use sup_desk::{
+    Caller, Desk, Done, Handle, HandleFault, Journal, Name, NoJournal, QueryFault, UpdateFault,
+};
 use sup_log::{Gone, Ticket, View};
 use sup_types::{Counts, Operation, Reply, Row, Seen, Starter, Text};
 
-/// A handle of the desk, with the right to run children. It may be moved to one thread. It does not give its handle out: an
-/// exit that was entered past the crew would be a second one.
+/// A handle of the desk, with the right to run children. The desk has the journal `J`, which is none if it is left out. The
+/// door may be moved to one thread. It does not give its handle out: an exit that was entered past the crew would be a second
+/// one.
 #[derive(Drop)]
 pub struct Door<
     't,
@@ -34,9 +38,10 @@ pub struct Door<
     B: Behaviour,
     P: Wait + Drop,
     F: Future,
+    J: Journal + Drop = NoJournal,
 > {
-    desk: &'d Desk<N, S, Q>,
-    handle: Handle<'d, N, S, Q>,
+    desk: &'d Desk<N, S, Q, J>,
+    handle: Handle<'d, N, S, Q, J>,
     yard: &'t Yard<'h, I, B, P, F>,
 }
 
@@ -51,7 +56,8 @@ impl<
     B: Behaviour,
     P: Wait + Drop,
     F: Future,
-> Model for Door<'t, 'h, 'd, N, S, Q, I, B, P, F> {
+    J: Journal + Drop,
+> Model for Door<'t, 'h, 'd, N, S, Q, I, B, P, F, J> {
     ghost use Rattle.sup_desk.specs.Knowledge.{Knowledge};
 
     ghost Value = { Knowledge };
@@ -60,7 +66,7 @@ impl<
 }
 
 /// Updates, at the moment of the crew's clock. Each waits for the desk's lock, as a handle's does. After a refusal the
-/// history and every published answer are as before.
+/// history and every published answer are as before. A journal that breaks off refuses the update and all later ones.
 impl<
     't,
     'h,
@@ -71,13 +77,14 @@ impl<
     I: Office,
     B: Behaviour,
     P: Wait + Drop,
-> Door<'t, 'h, 'd, N, S, Q, I, B, P, Alive<'h, I, B, P>> {
+    J: Journal + Drop,
+> Door<'t, 'h, 'd, N, S, Q, I, B, P, Alive<'h, I, B, P>, J> {
     /// A door by this handle of the desk, to the children of the yard. The handle is one that no door has.
     pub fn new(
-        desk: &'d Desk<N, S, Q>,
-        handle: Handle<'d, N, S, Q>,
+        desk: &'d Desk<N, S, Q, J>,
+        handle: Handle<'d, N, S, Q, J>,
         yard: &'t Yard<'h, I, B, P, Alive<'h, I, B, P>>,
-    ) -> Door<'t, 'h, 'd, N, S, Q, I, B, P, Alive<'h, I, B, P>>
+    ) -> Door<'t, 'h, 'd, N, S, Q, I, B, P, Alive<'h, I, B, P>, J>
         ensures { result ≡ handle.entry }
     {
         Door { desk, handle, yard }
@@ -92,6 +99,7 @@ impl<
         ensures calls { OnErr result ((self.new.calls ≡ self.old.calls) × (self.new.number ≡ self.old.number)) }
         ensures gone { IfErr result (λ e. e ≡ UpdateFault.Gone → ⊥) }
         ensures full { IfErr result (λ e. e ≡ UpdateFault.HistoryFull → (length self.new.front ≡ N.template.entries) × (entries_of self.new.front self.new.number ≡ self.new.calls)) }
+        ensures journal { IfErr result (λ e. (f : JournalFault) → e ≡ UpdateFault.Journal f → J.may_fail f) }
     {
         let Ok(place) = self.yard.hub.make_room() else {
             return Err(UpdateFault::OutOfMemory);
@@ -130,7 +138,8 @@ impl<
         rt: &R,
         number: u64,
     ) -> Result<Done, UpdateFault>
-        ensures { (moment : ℕ) × IsUpdateResult S.may_answer N.template N.press self.old (Operation.Terminate number) moment self.new result }
+        ensures result { (moment : ℕ) × IsUpdateResult S.may_answer N.template N.press self.old (Operation.Terminate number) moment self.new result }
+        ensures journal { IfErr result (λ e. (f : JournalFault) → e ≡ UpdateFault.Journal f → J.may_fail f) }
     {
         let moment = self.yard.now(rt);
         let done = self.handle.terminate_child(rt, moment, number)?;
@@ -149,7 +158,8 @@ impl<
         rt: &R,
         number: u64,
     ) -> Result<Done, UpdateFault>
-        ensures { (moment : ℕ) × IsUpdateResult S.may_answer N.template N.press self.old (Operation.Terminate number) moment self.new result }
+        ensures result { (moment : ℕ) × IsUpdateResult S.may_answer N.template N.press self.old (Operation.Terminate number) moment self.new result }
+        ensures journal { IfErr result (λ e. (f : JournalFault) → e ≡ UpdateFault.Journal f → J.may_fail f) }
     {
         let ended = self.terminate_child(rt, number);
         if let Ok(done) = &ended
@@ -162,7 +172,8 @@ impl<
 
     /// Ends all children, and the supervisor. They are told to end.
     pub fn stop<R: Wait + Clock>(&mut self, rt: &R) -> Result<Done, UpdateFault>
-        ensures { (moment : ℕ) × IsUpdateResult S.may_answer N.template N.press self.old Operation.Stop moment self.new result }
+        ensures result { (moment : ℕ) × IsUpdateResult S.may_answer N.template N.press self.old Operation.Stop moment self.new result }
+        ensures journal { IfErr result (λ e. (f : JournalFault) → e ≡ UpdateFault.Journal f → J.may_fail f) }
     {
         let moment = self.yard.now(rt);
         let done = self.handle.stop(rt, moment)?;
@@ -181,7 +192,7 @@ impl<
     pub fn another<R: Wait>(
         &self,
         rt: &R,
-    ) -> Result<Door<'t, 'h, 'd, N, S, Q, I, B, P, Alive<'h, I, B, P>>, HandleFault> {
+    ) -> Result<Door<'t, 'h, 'd, N, S, Q, I, B, P, Alive<'h, I, B, P>, J>, HandleFault> {
         Ok(Door {
             desk: self.desk,
             handle: self.desk.handle(rt)?,
@@ -219,7 +230,8 @@ impl<
     I: Office,
     B: Behaviour,
     P: Wait + Drop,
-> Door<'t, 'h, 'd, N, S, Q, I, B, P, Alive<'h, I, B, P>> {
+    J: Journal + Drop,
+> Door<'t, 'h, 'd, N, S, Q, I, B, P, Alive<'h, I, B, P>, J> {
     /// The number of its handle: 1, 2, 3, .. in the order of making.
     pub fn number(&self) -> u64
         ensures { result ≡ self.now.number }

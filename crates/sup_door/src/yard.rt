@@ -17,7 +17,7 @@ use std::alloc::{AllocError, AllocGlobal, Global};
 use std::random::RandomSource;
 use std::sync::Wait;
 use std::time::Clock;
-use sup_desk::{Handle, Name};
+use sup_desk::{Handle, Journal, Name};
 use sup_types::{OutOfMemory, Seen, Starter, Text};
 
 /// The tasks of a crew, with what they share.
@@ -151,9 +151,9 @@ impl<'h, I: Office, B: Behaviour, P: Wait + Drop> Yard<'h, I, B, P, Alive<'h, I,
 
     /// Runs a child that was made, whose exit has room in the outbox of this place. One that is listed no more is told to
     /// end: who ends a child enters that first, and then looks for its room.
-    pub fn begin<N: Name, S: Starter + Drop, Q: Wait + Drop>(
+    pub fn begin<N: Name, S: Starter + Drop, Q: Wait + Drop, J: Journal + Drop>(
         &self,
-        handle: &mut Handle<'_, N, S, Q>,
+        handle: &mut Handle<'_, N, S, Q, J>,
         moment: u64,
         number: u64,
         arg: Text,

@@ -9,7 +9,7 @@ use std::marker::PhantomData;
 use std::sync::Wait;
 use std::time::{Clock, Duration};
 use sup_crew::{Drain, DrainFault, HELD};
-use sup_desk::{Caller, Handle, Name, UpdateFault};
+use sup_desk::{Caller, Handle, Journal, Name, NoJournal, UpdateFault};
 use sup_door::{Alive, Behaviour, Office, Yard};
 use sup_inbox::{Note, Taker};
 use sup_types::{Reply, Starter, Text};
@@ -26,10 +26,17 @@ pub struct Retry {
     at: u64,
 }
 
-/// A driver in the middle of a run.
+/// A driver in the middle of a run. The desk has the journal `J`, which is none if it is left out.
 #[derive(Drop)]
-pub struct Driver<'d, N: Name, S: Starter + Drop, Q: Wait + Drop, I: Office> {
-    lead: Lead<'d, N, S, Q, I>,
+pub struct Driver<
+    'd,
+    N: Name,
+    S: Starter + Drop,
+    Q: Wait + Drop,
+    I: Office,
+    J: Journal + Drop = NoJournal,
+> {
+    lead: Lead<'d, N, S, Q, I, J>,
     retries: Vec<Retry>,
     retry_after: u64,
     tally: Tally,
@@ -101,15 +108,22 @@ fn first_due(retries: &[Retry], moment: u64) -> Option<usize>
     None
 }
 
-impl<'d, N: Name, S: Starter + Drop, Q: Wait + Drop, I: Office> Driver<'d, N, S, Q, I> {
+impl<'d, N: Name, S: Starter + Drop, Q: Wait + Drop, I: Office, J: Journal + Drop> Driver<
+    'd,
+    N,
+    S,
+    Q,
+    I,
+    J,
+> {
     /// A driver that begins, with room for the first retries. A restart that failed is tried again after `retry_after` seconds.
     /// The handle has made no call yet.
     pub fn new(
         alloc: Global,
-        handle: Handle<'d, N, S, Q>,
+        handle: Handle<'d, N, S, Q, J>,
         taker: Taker,
         retry_after: u64,
-    ) -> Result<Driver<'d, N, S, Q, I>, AllocError>
+    ) -> Result<Driver<'d, N, S, Q, I, J>, AllocError>
         requires handle { handle.calls ≡ [] }
         requires taker { taker ≡ record { inbox = I.inbox; posters = I.posters; taken = [] } }
     {

@@ -7,7 +7,7 @@ use std::alloc::Global;
 use std::marker::PhantomData;
 use std::sync::Wait;
 use sup_crew::{Drain, DrainFault, Drained};
-use sup_desk::{Caller, Handle, Name, UpdateFault};
+use sup_desk::{Caller, Handle, Journal, Name, UpdateFault};
 use sup_door::{Alive, Behaviour, Office, Yard};
 use sup_inbox::{Inbox, Taker};
 use sup_types::{Reply, Starter, Text};
@@ -15,8 +15,8 @@ use sup_types::{Reply, Starter, Text};
 /// The handle of a driver, and its drain. By its type, the handle's calls are exits, later tries and the stop, and its exits
 /// are those of the notes that the drain entered, in order and each once.
 #[derive(Drop)]
-pub struct Lead<'d, N: Name, S: Starter + Drop, Q: Wait + Drop, I: Office> {
-    handle: Handle<'d, N, S, Q>,
+pub struct Lead<'d, N: Name, S: Starter + Drop, Q: Wait + Drop, I: Office, J: Journal + Drop> {
+    handle: Handle<'d, N, S, Q, J>,
     drain: Drain,
     count: u64,
     of: PhantomData<I>,
@@ -48,9 +48,16 @@ fn entered_by(drained: &Result<Drained, DrainFault>) -> usize
     }
 }
 
-impl<'d, N: Name, S: Starter + Drop, Q: Wait + Drop, I: Office> Lead<'d, N, S, Q, I> {
+impl<'d, N: Name, S: Starter + Drop, Q: Wait + Drop, I: Office, J: Journal + Drop> Lead<
+    'd,
+    N,
+    S,
+    Q,
+    I,
+    J,
+> {
     /// A lead that entered nothing.
-    pub(crate) fn new(handle: Handle<'d, N, S, Q>, taker: Taker) -> Lead<'d, N, S, Q, I>
+    pub(crate) fn new(handle: Handle<'d, N, S, Q, J>, taker: Taker) -> Lead<'d, N, S, Q, I, J>
         requires handle { handle.calls ≡ [] }
         requires taker { taker ≡ record { inbox = I.inbox; posters = I.posters; taken = [] } }
     {

@@ -15,6 +15,9 @@
 //! }
 //! ```
 //!
+//! The desk may have a journal, which a program names: [`Program::Journal`]. [`run_live`] says what becomes of a crew whose journal
+//! breaks off.
+//!
 //! What the layer above may rely on: an update by a door has the contract of a handle's, and a query that of an asker's. The
 //! driver entered exits, later tries and the stop, and nothing else, and the report's count is that of its exits. The report
 //! says of each patron what became of it. The exit of a child is a value that can be neither copied nor let go, so a child
@@ -30,6 +33,7 @@ mod plan;
 mod program;
 mod report;
 mod run;
+mod threads;
 
 pub use patrons::Patron;
 pub use plan::{LiveFault, Plan};

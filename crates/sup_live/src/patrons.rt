@@ -2,10 +2,11 @@
 ghost use Rattle.std.specs.Prelude.{◌≡◌, ◌≤◌, [], vec_len, vec_capacity};
 
 use crate::program::Program;
+use std::marker::PhantomData;
 use std::sync::Wait;
 use std::thread::{JoinHandle, Scope, Threads};
 use std::time::Clock;
-use sup_desk::{Caller, Desk, HandleFault, Name};
+use sup_desk::{Caller, Desk, HandleFault, Journal, Name};
 use sup_door::{Alive, Behaviour, Door, Office, Yard};
 use sup_types::Starter;
 
@@ -32,17 +33,21 @@ pub(crate) struct Programs<T: Drop, U: Drop> {
     pub(crate) patrons: Vec<U>,
 }
 
-/// The patrons of a crew that has none.
+/// The patrons of a crew that has none, over a desk with the journal `J`.
 #[derive(Drop)]
-pub(crate) struct Nobody;
+pub(crate) struct Nobody<J> {
+    of: PhantomData<J>,
+}
 
-impl<N: Name, B: Behaviour> Program<N, B> for Nobody {
+impl<N: Name, B: Behaviour, J: Journal + Drop> Program<N, B> for Nobody<J> {
+    type Journal = J;
+
     type Outcome = ();
 
     fn run<'h, S, Q, I, P, R>(
         self,
         _rt: &R,
-        _door: &mut Door<'_, 'h, '_, N, S, Q, I, B, P, Alive<'h, I, B, P>>,
+        _door: &mut Door<'_, 'h, '_, N, S, Q, I, B, P, Alive<'h, I, B, P>, J>,
     )
     where
         N: Send + Sync,
@@ -58,9 +63,9 @@ impl<N: Name, B: Behaviour> Program<N, B> for Nobody {
 }
 
 /// Runs a patron by a door of its own.
-fn attend<'t, 'h, 'd, N, S, Q, I, B, P, U, R>(
+fn attend<'t, 'h, 'd, N, S, Q, J, I, B, P, U, R>(
     rt: &R,
-    desk: &'d Desk<N, S, Q>,
+    desk: &'d Desk<N, S, Q, J>,
     yard: &'t Yard<'h, I, B, P, Alive<'h, I, B, P>>,
     patron: U,
 ) -> Patron<N, U::Outcome>
@@ -68,12 +73,13 @@ where
     N: Name + Send + Sync,
     S: Starter + Drop + Send + Sync,
     Q: Wait + Drop + Send + Sync,
+    J: Journal + Drop + Send,
     I: Office + Send + Sync,
     B: Behaviour + Sync,
     B::Message: Send,
     B::Child: Send,
     P: Wait + Drop + Send + Sync,
-    U: Program<N, B> + Drop,
+    U: Program<N, B, Journal = J> + Drop,
     R: Threads + Wait + Clock + Sync,
 {
     match desk.handle(rt) {
@@ -93,10 +99,10 @@ where
 pub(crate) type Attending<T> = Vec<Option<JoinHandle<T>>>;
 
 /// Starts a thread for each patron, and lists them where there is room for them.
-pub(crate) fn start_patrons<'s, 'h: 's, 'd: 's, E, N, S, Q, I, B, P, U, R>(
+pub(crate) fn start_patrons<'s, 'h: 's, 'd: 's, E, N, S, Q, J, I, B, P, U, R>(
     scope: &Scope<'s, E>,
     rt: &'s R,
-    desk: &'d Desk<N, S, Q>,
+    desk: &'d Desk<N, S, Q, J>,
     yard: &'s Yard<'h, I, B, P, Alive<'h, I, B, P>>,
     patrons: Vec<U>,
     room: Attending<Patron<N, U::Outcome>>,
@@ -105,12 +111,13 @@ where
     N: Name + Send + Sync + 's,
     S: Starter + Drop + Send + Sync + 's,
     Q: Wait + Drop + Send + Sync + 's,
+    J: Journal + Drop + Send + 's,
     I: Office + Send + Sync + 's,
     B: Behaviour + Sync + 's,
     B::Message: Send + 's,
     B::Child: Send + 's,
     P: Wait + Drop + Send + Sync + 's,
-    U: Program<N, B> + Drop + Send + 's,
+    U: Program<N, B, Journal = J> + Drop + Send + 's,
     U::Outcome: Send + 's,
     R: Threads + Wait + Clock + Sync,
     requires { (room.items ≡ []) × (vec_len patrons ≤ vec_capacity room) }

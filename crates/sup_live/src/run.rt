@@ -2,226 +2,27 @@
 ghost use Rattle.std.specs.Prelude.{◌≡◌, ◌<◌, ◌≤◌, [], true, length, IfOk, vec_len, vec_capacity};
 ghost use Rattle.sup_driver.specs.Leads.{exits_among, are_driven};
 ghost use Rattle.sup_inbox.specs.Ends.{AreOf};
-ghost use denote.Param.Send.{IsSend};
 
-use crate::patrons::{Attending, Nobody, Patron, Programs, join_patrons, start_patrons};
+use crate::patrons::{Nobody, Programs};
 use crate::plan::{LiveFault, Plan};
 use crate::program::Program;
 use crate::report::Report;
+use crate::threads::{Joined, run_threads};
 use arrayvec::ArrayVec;
 use futures::Future;
-use futures::task::Hold;
 use std::alloc::{AllocGlobal, Global};
 use std::collections::VecDeque;
 use std::marker::Brand;
 use std::random::RandomSource;
 use std::sync::Wait;
-use std::thread;
-use std::thread::{JoinHandle, Scope, Threads};
+use std::thread::Threads;
 use std::time::Clock;
 use sup_crew::HELD;
-use sup_desk::{Caller, Desk, Handle, Name};
-use sup_door::{Alive, Behaviour, Door, Hub, Moments, Office, Yard};
-use sup_driver::{Driven, Driver};
+use sup_desk::{Desk, Handle, Journal, Name};
+use sup_door::{Behaviour, Hub, Moments, Office, Yard};
+use sup_driver::Driver;
 use sup_inbox::{Inbox, InboxFull, Note, Poster, Taker, settle};
 use sup_types::{OutOfMemory, Starter};
-
-/// What is left once all threads were joined.
-#[derive(Drop)]
-struct Joined<N: Name, I: Office, T: Drop, U: Drop> {
-    driven: Driven<N, I>,
-    door: Caller<N>,
-    outcome: T,
-    patrons: Vec<Patron<N, U>>,
-}
-
-/// Starts the workers. Those that could not be started have gone.
-fn start_workers<'s, 'h: 's, E, I, B, P, R>(
-    scope: &Scope<'s, E>,
-    rt: &'s R,
-    yard: &'s Yard<'h, I, B, P, Alive<'h, I, B, P>>,
-    workers: usize,
-)
-where
-    I: Office + Send + Sync + 's,
-    B: Behaviour + Sync + 's,
-    B::Message: Send + 's,
-    B::Child: Send + 's,
-    P: Wait + Drop + Send + Sync + 's,
-    R: Threads + Wait + Clock + Sync,
-{
-    for worker in 0..workers {
-        if scope.spawn(move || yard.work(rt, worker)).is_err() {
-            yard.hub().counts().worker_went();
-        }
-    }
-}
-
-/// A run whose workers were started: room for its patrons and for their threads, and what keeps the yard open.
-#[derive(Drop)]
-struct Staffed<'s, T: Drop> {
-    threads: Attending<T>,
-    room: Vec<T>,
-    holds: Vec<Hold<'s>>,
-}
-
-/// Makes room for so many patrons, and starts the workers.
-fn staff<'s, 'h: 's, E, I, B, P, T, R>(
-    scope: &Scope<'s, E>,
-    rt: &'s R,
-    yard: &'s Yard<'h, I, B, P, Alive<'h, I, B, P>>,
-    workers: usize,
-    patrons: usize,
-) -> Result<Staffed<'s, T>, LiveFault>
-where
-    I: Office + Send + Sync + 's,
-    B: Behaviour + Sync + 's,
-    B::Message: Send + 's,
-    B::Child: Send + 's,
-    P: Wait + Drop + Send + Sync + 's,
-    T: Drop,
-    R: Threads + Wait + Clock + Sync,
-    ensures empty { IfOk result (λ b. (b.threads.items ≡ []) × (b.room.items ≡ [])) }
-    ensures room { IfOk result (λ b. (patrons ≤ vec_capacity b.threads) × (patrons ≤ vec_capacity b.room)) }
-{
-    let Ok(threads) = Vec::with_capacity(yard.alloc(), patrons) else {
-        return Err(LiveFault::OutOfMemory);
-    };
-    let Ok(room) = Vec::with_capacity(yard.alloc(), patrons) else {
-        return Err(LiveFault::OutOfMemory);
-    };
-    let Ok(holds) = yard.hold() else {
-        return Err(LiveFault::OutOfMemory);
-    };
-    start_workers(scope, rt, yard, workers);
-    if yard.hub().counts().have_all_gone() {
-        return Err(LiveFault::NoThread);
-    }
-    Ok(Staffed {
-        threads,
-        room,
-        holds,
-    })
-}
-
-/// Starts the driver, or shuts the yard down.
-fn start_driver<'s, 'h: 's, 'd: 's, E, N, S, Q, I, B, P, R>(
-    scope: &Scope<'s, E>,
-    rt: &'s R,
-    yard: &'s Yard<'h, I, B, P, Alive<'h, I, B, P>>,
-    driver: Driver<'d, N, S, Q, I>,
-) -> Result<JoinHandle<Driven<N, I>>, LiveFault>
-where
-    N: Name + Send + Sync + 's,
-    S: Starter + Drop + Send + Sync + 's,
-    Q: Wait + Drop + Send + Sync + 's,
-    I: Office + Send + Sync + 's,
-    B: Behaviour + Sync + 's,
-    B::Message: Send + 's,
-    B::Child: Send + 's,
-    P: Wait + Drop + Send + Sync + 's,
-    R: Threads + Wait + Clock + Sync,
-{
-    match scope.spawn(move || driver.drive(rt, yard)) {
-        Ok(driving) => Ok(driving),
-        Err(_) => {
-            yard.shut_down();
-            Err(LiveFault::NoThread)
-        }
-    }
-}
-
-/// Starts the threads, runs the program, and joins the patrons and the driver.
-fn run_program<'s, 'h: 's, 'd: 's, E, N, S, Q, I, B, P, T, U, R>(
-    scope: &Scope<'s, E>,
-    rt: &'s R,
-    desk: &'d Desk<N, S, Q>,
-    yard: &'s Yard<'h, I, B, P, Alive<'h, I, B, P>>,
-    driver: Driver<'d, N, S, Q, I>,
-    handle: Handle<'d, N, S, Q>,
-    programs: Programs<T, U>,
-    workers: usize,
-) -> Result<Joined<N, I, T::Outcome, U::Outcome>, LiveFault>
-where
-    N: Name + Send + Sync + 's,
-    S: Starter + Drop + Send + Sync + 's,
-    Q: Wait + Drop + Send + Sync + 's,
-    I: Office + Send + Sync + 's,
-    B: Behaviour + Sync + 's,
-    B::Message: Send + 's,
-    B::Child: Send + 's,
-    P: Wait + Drop + Send + Sync + 's,
-    T: Program<N, B> + Drop,
-    U: Program<N, B> + Drop + Send + 's,
-    U::Outcome: Send + 's,
-    R: Threads + Wait + Clock + Sync,
-    ensures { IfOk result (λ j. vec_len j.patrons ≡ vec_len programs.patrons) }
-{
-    let staffed = match staff(scope, rt, yard, workers, programs.patrons.len()) {
-        Ok(staffed) => staffed,
-        Err(fault) => return Err(fault),
-    };
-    let driving = match start_driver(scope, rt, yard, driver) {
-        Ok(driving) => driving,
-        Err(fault) => return Err(fault),
-    };
-    let Staffed {
-        threads,
-        room,
-        holds,
-    } = staffed;
-    let Programs { program, patrons } = programs;
-    let threads = start_patrons(scope, rt, desk, yard, patrons, threads);
-    let mut door = Door::new(desk, handle, yard);
-    let outcome = program.run(rt, &mut door);
-    let patrons = join_patrons(rt, threads, room);
-    door.close();
-    let driven = driving.join(rt);
-    drop(holds);
-    Ok(Joined {
-        driven,
-        door: door.end(),
-        outcome,
-        patrons,
-    })
-}
-
-/// Opens the scope of the threads.
-fn run_threads<'h, 'd, N, S, Q, I, B, P, T, U, R>(
-    rt: &R,
-    desk: &'d Desk<N, S, Q>,
-    yard: &Yard<'h, I, B, P, Alive<'h, I, B, P>>,
-    driver: Driver<'d, N, S, Q, I>,
-    handle: Handle<'d, N, S, Q>,
-    programs: Programs<T, U>,
-    workers: usize,
-) -> Result<Joined<N, I, T::Outcome, U::Outcome>, LiveFault>
-where
-    N: Name + Send + Sync,
-    S: Starter + Drop + Send + Sync,
-    Q: Wait + Drop + Send + Sync,
-    I: Office + Send + Sync,
-    B: Behaviour + Sync,
-    B::Message: Send,
-    B::Child: Send,
-    P: Wait + Drop + Send + Sync,
-    T: Program<N, B> + Drop,
-    U: Program<N, B> + Drop + Send,
-    U::Outcome: Send,
-    R: Threads + Wait + Clock + Sync,
-    ensures { IfOk result (λ j. vec_len j.patrons ≡ vec_len programs.patrons) }
-{
-    thread::scope(
-        thread::scope_env(),
-        rt,
-        move |scope| -> Result<Joined<N, I, T::Outcome, U::Outcome>, LiveFault>
-            requires threads { IsSend N.row × IsSend S.row × IsSend Q.row × IsSend I.row × IsSend P.row }
-            requires children { IsSend B.Message.row × IsSend B.Child.row }
-            requires patrons { IsSend U.row × IsSend U.Outcome.row }
-            ensures { IfOk result (λ j. vec_len j.patrons ≡ vec_len programs.patrons) }
-        { run_program(scope, rt, desk, yard, driver, handle, programs, workers) },
-    )
-}
 
 /// Ends a yard. It stands apart, over any future, since the borrow checker of this kit sees no lifetime of a yard's children
 /// outlive the function that made it.
@@ -231,23 +32,24 @@ fn end_yard<'h, I: Office, B: Behaviour, P: Wait + Drop, F: Future>(yard: Yard<'
 
 /// The two ends by which a run uses its desk: the driver, and the handle of the program's first door.
 #[derive(Drop)]
-struct Ends<'d, N: Name, S: Starter + Drop, Q: Wait + Drop, I: Office> {
-    driver: Driver<'d, N, S, Q, I>,
-    door: Handle<'d, N, S, Q>,
+struct Ends<'d, N: Name, S: Starter + Drop, Q: Wait + Drop, I: Office, J: Journal + Drop> {
+    driver: Driver<'d, N, S, Q, I, J>,
+    door: Handle<'d, N, S, Q, J>,
 }
 
 /// Makes the two ends.
-fn ends_of<'d, N, S, Q, I, R>(
+fn ends_of<'d, N, S, Q, J, I, R>(
     rt: &R,
     alloc: Global,
-    desk: &'d Desk<N, S, Q>,
+    desk: &'d Desk<N, S, Q, J>,
     taker: Taker,
     retry_after: u64,
-) -> Result<Ends<'d, N, S, Q, I>, LiveFault>
+) -> Result<Ends<'d, N, S, Q, I, J>, LiveFault>
 where
     N: Name,
     S: Starter + Drop,
     Q: Wait + Drop,
+    J: Journal + Drop,
     I: Office,
     R: Wait,
     requires taker { taker ≡ record { inbox = I.inbox; posters = I.posters; taken = [] } }
@@ -259,10 +61,10 @@ where
 }
 
 /// Makes the yard and the handles, and runs the threads.
-fn run_in_yard<'h, 'd, N, S, Q, I, B, P, T, U, R>(
+fn run_in_yard<'h, 'd, N, S, Q, J, I, B, P, T, U, R>(
     rt: &R,
     alloc: Global,
-    desk: &'d Desk<N, S, Q>,
+    desk: &'d Desk<N, S, Q, J>,
     behaviour: &'h B,
     moments: Moments<'h>,
     plan: Plan,
@@ -274,19 +76,20 @@ where
     N: Name + Send + Sync,
     S: Starter + Drop + Send + Sync,
     Q: Wait + Drop + Send + Sync,
+    J: Journal + Drop + Send,
     I: Office + Send + Sync,
     B: Behaviour + Sync,
     B::Message: Send,
     B::Child: Send,
     P: Wait + Drop + Send + Sync,
-    T: Program<N, B> + Drop,
-    U: Program<N, B> + Drop + Send,
+    T: Program<N, B, Journal = J> + Drop,
+    U: Program<N, B, Journal = J> + Drop + Send,
     U::Outcome: Send,
     R: Threads + Wait + Clock + RandomSource + AllocGlobal + Sync,
     requires taker { taker ≡ record { inbox = I.inbox; posters = I.posters; taken = [] } }
     ensures { IfOk result (λ j. vec_len j.patrons ≡ vec_len programs.patrons) }
 {
-    let ends: Ends<'d, N, S, Q, I> = match ends_of(rt, alloc, desk, taker, plan.retry_after) {
+    let ends: Ends<'d, N, S, Q, I, J> = match ends_of(rt, alloc, desk, taker, plan.retry_after) {
         Ok(ends) => ends,
         Err(fault) => return Err(fault),
     };
@@ -354,10 +157,10 @@ impl Parts {
 }
 
 /// Runs the crew of an office.
-fn run_office<N, S, Q, I, B, T, U, R>(
+fn run_office<N, S, Q, J, I, B, T, U, R>(
     rt: &R,
     alloc: Global,
-    desk: &Desk<N, S, Q>,
+    desk: &Desk<N, S, Q, J>,
     behaviour: &B,
     moments: Moments<'_>,
     plan: Plan,
@@ -368,12 +171,13 @@ where
     N: Name + Send + Sync,
     S: Starter + Drop + Send + Sync,
     Q: Wait + Drop + Send + Sync,
+    J: Journal + Drop + Send,
     I: Office + Send + Sync,
     B: Behaviour + Sync,
     B::Message: Send,
     B::Child: Send,
-    T: Program<N, B> + Drop,
-    U: Program<N, B> + Drop + Send,
+    T: Program<N, B, Journal = J> + Drop,
+    U: Program<N, B, Journal = J> + Drop + Send,
     U::Outcome: Send,
     R: Threads + Wait + Clock + RandomSource + AllocGlobal + Sync,
     requires inbox { (parts.inbox.id ≡ I.inbox) × (parts.inbox.capacity ≡ I.capacity) }
@@ -471,12 +275,16 @@ fn report<N: Name, I: Office, M: Drop, P: Wait + Drop, T: Drop, U: Drop, R: Wait
 /// that crashed as the template says, tries failed restarts again, and ends those that were ended. Then the crew closes: it
 /// stops the supervisor, and every child is told to end and is let go at the latest when the plan's grace is over.
 ///
+/// The desk may have a journal. One that breaks off refuses the updates of all doors, and queries go on. Where an update of the
+/// driver's is refused, for any cause but memory, the driver enters nothing more: every child is told to end and is let go as at a
+/// close, the report has the fault and the exits that were not entered, and the program goes on until it returns.
+///
 /// Two handles of the desk are used: the driver's, and that of the program's first door. Both come back, for an audit. After a
 /// fault nothing was entered, and the program was not run.
-pub fn run_live<N, S, Q, B, T, R>(
+pub fn run_live<N, S, Q, J, B, T, R>(
     rt: &R,
     alloc: Global,
-    desk: &Desk<N, S, Q>,
+    desk: &Desk<N, S, Q, J>,
     behaviour: &B,
     moments: Moments<'_>,
     plan: Plan,
@@ -486,10 +294,11 @@ where
     N: Name + Send + Sync,
     S: Starter + Drop + Send + Sync,
     Q: Wait + Drop + Send + Sync,
+    J: Journal + Drop + Send,
     B: Behaviour + Sync,
     B::Message: Send,
     B::Child: Send,
-    T: Program<N, B> + Drop,
+    T: Program<N, B, Journal = J> + Drop,
     R: Threads + Wait + Clock + RandomSource + AllocGlobal + Sync,
     requires workers { (1 ≤ plan.workers) × (plan.workers ≤ 64) }
     requires inbox { (1 ≤ plan.inbox) × (plan.inbox ≤ 65536) }
@@ -497,7 +306,7 @@ where
     ensures counted { IfOk result (λ r. r.exits ≡ length (exits_among r.driver.calls)) }
     ensures patrons { IfOk result (λ r. r.patrons.items ≡ []) }
 {
-    let nobody: Vec<Nobody> = Vec::new(alloc);
+    let nobody: Vec<Nobody<J>> = Vec::new(alloc);
     run_live_with_patrons(rt, alloc, desk, behaviour, moments, plan, program, nobody)
 }
 
@@ -508,10 +317,10 @@ where
 ///
 /// Each patron that runs takes a handle of the desk more, once its thread has begun. So their handles' numbers, from 3 on, are
 /// in the order in which the threads began.
-pub fn run_live_with_patrons<N, S, Q, B, T, U, R>(
+pub fn run_live_with_patrons<N, S, Q, J, B, T, U, R>(
     rt: &R,
     alloc: Global,
-    desk: &Desk<N, S, Q>,
+    desk: &Desk<N, S, Q, J>,
     behaviour: &B,
     moments: Moments<'_>,
     plan: Plan,
@@ -522,11 +331,12 @@ where
     N: Name + Send + Sync,
     S: Starter + Drop + Send + Sync,
     Q: Wait + Drop + Send + Sync,
+    J: Journal + Drop + Send,
     B: Behaviour + Sync,
     B::Message: Send,
     B::Child: Send,
-    T: Program<N, B> + Drop,
-    U: Program<N, B> + Drop + Send,
+    T: Program<N, B, Journal = J> + Drop,
+    U: Program<N, B, Journal = J> + Drop + Send,
     U::Outcome: Send,
     R: Threads + Wait + Clock + RandomSource + AllocGlobal + Sync,
     requires workers { (1 ≤ plan.workers) × (plan.workers ≤ 64) }
@@ -540,7 +350,7 @@ where
         Err(fault) => return Err(fault),
     };
     let programs = Programs { program, patrons };
-    run_office::<N, S, Q, Brand, B, T, U, R>(
+    run_office::<N, S, Q, J, Brand, B, T, U, R>(
         rt, alloc, desk, behaviour, moments, plan, programs, parts,
     )
 }

@@ -2,10 +2,12 @@
 ghost use Rattle.std.specs.Prelude.{◌≡◌};
 
 mod children;
+mod journal;
 mod runs;
 
 use children::{Board, Counting};
-use runs::{Crashes, GivesUp, Retries, Serves, Terminates, Watches};
+use journal::{BROKEN, Keeps, Kinds};
+use runs::{Breaks, Crashes, GivesUp, Retries, Serves, Terminates, Watches};
 use std::alloc::AllocGlobal;
 use std::marker::Brand;
 use std::process::Abort;
@@ -14,7 +16,7 @@ use std::sync::Wait;
 use std::test::*;
 use std::thread::Threads;
 use std::time::Clock;
-use sup_desk::{Desk, Ground, Handle, Name};
+use sup_desk::{Closed, Desk, Ground, Handle, Journal, JournalFault, Name, NoJournal, UpdateFault};
 use sup_live::{Moments, Patron, Plan, Program, Report, Tally, run_live, run_live_with_patrons};
 use sup_types::{Answer, Kind, Restart, Starter, Template, Text};
 
@@ -57,9 +59,9 @@ struct Told {
 }
 
 /// What the report says, and whether the history is the calls of its handles and nothing else.
-fn tell<N: Name, U: Drop, R: Wait + AllocGlobal>(
+fn tell<N: Name, J: Journal + Drop, U: Drop, R: Wait + AllocGlobal>(
     rt: &R,
-    desk: &Desk<N, NotAtFive, &R>,
+    desk: &Desk<N, NotAtFive, &R, J>,
     report: Report<N, u64, U>,
 ) -> Told {
     let adds_up = report.adds_up();
@@ -89,7 +91,7 @@ fn tell<N: Name, U: Drop, R: Wait + AllocGlobal>(
 fn run<'a, N, T, R>(rt: &R, ground: Ground<&R>, board: &'a Board, program: T) -> Option<Told>
 where
     N: Name + Send + Sync,
-    T: Program<N, Counting<'a>, Outcome = u64> + Drop,
+    T: Program<N, Counting<'a>, Journal = NoJournal, Outcome = u64> + Drop,
     R: Threads + Wait + Clock + RandomSource + AllocGlobal + Sync,
     requires { (ground.press ≡ N.press) × (ground.template ≡ N.template) }
 {
@@ -100,6 +102,58 @@ where
         Ok(report) => Some(tell(rt, &desk, report)),
         Err(_) => None,
     }
+}
+
+/// What a crew did over a desk with a journal.
+#[derive(Clone, Copy)]
+struct Recorded {
+    told: Told,
+    exits: u64,
+    fault: Option<UpdateFault>,
+    /// What the journal has recorded.
+    kinds: Kinds,
+    /// The length of the history.
+    entries: u64,
+    /// Why the journal broke off.
+    broke: Option<JournalFault>,
+}
+
+/// Runs the program over a desk on this ground, with a journal that takes so many records.
+fn record<'a, N, T, R>(
+    rt: &R,
+    ground: Ground<&R>,
+    board: &'a Board,
+    records: u64,
+    program: T,
+) -> Option<Recorded>
+where
+    N: Name + Send + Sync,
+    T: Program<N, Counting<'a>, Journal = Keeps, Outcome = u64> + Drop,
+    R: Threads + Wait + Clock + RandomSource + AllocGlobal + Sync,
+    requires { (ground.press ≡ N.press) × (ground.template ≡ N.template) }
+{
+    let journal = Keeps::new(rt.alloc(), records);
+    let desk: Desk<N, NotAtFive, &R, Keeps> = Desk::with_journal(ground, NotAtFive, journal);
+    let behaviour = Counting { board };
+    let moments = Moments::Kept(&board.time);
+    let Ok(report) = run_live(rt, rt.alloc(), &desk, &behaviour, moments, PLAN, program) else {
+        return None;
+    };
+    let (exits, fault) = (report.exits, report.fault);
+    let told = tell(rt, &desk, report);
+    let Closed {
+        ticket,
+        journal,
+        fault: broke,
+    } = desk.close();
+    Some(Recorded {
+        told,
+        exits,
+        fault,
+        kinds: journal.kinds(),
+        entries: ticket.stamp(),
+        broke,
+    })
 }
 
 /// The sum of what came of the patrons.
@@ -152,10 +206,20 @@ fn crash<N: Name + Send + Sync, R: Threads + Wait + Clock + RandomSource + Alloc
     rt: &R,
     ground: Ground<&R>,
     board: &Board,
-) -> Option<Told>
+) -> Option<Recorded>
     requires { (ground.press ≡ N.press) × (ground.template ≡ N.template) }
 {
-    run::<N, Crashes, R>(rt, ground, board, Crashes { board })
+    record::<N, Crashes, R>(rt, ground, board, 100, Crashes { board })
+}
+
+fn break_off<N: Name + Send + Sync, R: Threads + Wait + Clock + RandomSource + AllocGlobal + Sync>(
+    rt: &R,
+    ground: Ground<&R>,
+    board: &Board,
+) -> Option<Recorded>
+    requires { (ground.press ≡ N.press) × (ground.template ≡ N.template) }
+{
+    record::<N, Breaks, R>(rt, ground, board, 2, Breaks { board })
 }
 
 fn terminate<N: Name + Send + Sync, R: Threads + Wait + Clock + RandomSource + AllocGlobal + Sync>(
@@ -188,8 +252,8 @@ fn give_up<N: Name + Send + Sync, R: Threads + Wait + Clock + RandomSource + All
     run::<N, GivesUp, R>(rt, ground, board, GivesUp { board })
 }
 
-/// The report's numbers, where there is a report.
-fn there(rt: &impl Abort, told: Option<Told>) -> Told {
+/// What a crew did, where there is a report.
+fn there<T: Drop>(rt: &impl Abort, told: Option<T>) -> T {
     match told {
         Some(told) => told,
         None => panic!(rt; "a report"),
@@ -216,16 +280,53 @@ fn patrons_start_send_and_end_at_once(rt: HostRuntime) -> Result<(), Fail> {
     Ok(())
 }
 
-/// A crashed child runs at once under its new number.
+/// A crashed child runs at once under its new number, and a journal has each entry of the history.
 #[test]
 fn a_crashed_child_runs_under_a_new_number(rt: HostRuntime) -> Result<(), Fail> {
     let board = Board::new();
     let ground = Ground::new(rt.alloc(), &rt, template(&rt), 2)?;
-    let told = crash::<Brand, HostRuntime>(&rt, ground, &board);
-    let told = there(&rt, told);
-    assert!(rt; told.outcome == 1 && told.made == 2);
+    let recorded = crash::<Brand, HostRuntime>(&rt, ground, &board);
+    let Recorded {
+        told,
+        exits,
+        fault,
+        kinds,
+        entries,
+        broke,
+    } = there(&rt, recorded);
+    assert!(rt; told.outcome == 1 && told.made == 3);
     assert!(rt; told.tally.restarts == 1);
     assert!(rt; told.adds_up && told.is_audited);
+    let wanted = Kinds {
+        starts: 2,
+        ends: 1,
+        exits: 3,
+        stops: 1,
+        others: 0,
+    };
+    assert!(rt; kinds == wanted && exits == 3 && entries == 7);
+    assert!(rt; fault == None && broke == None);
+    Ok(())
+}
+
+/// A journal that breaks off refuses the door's updates and the driver's. The crew ends with a report.
+#[test]
+fn a_journal_that_breaks_off_ends_the_crew(rt: HostRuntime) -> Result<(), Fail> {
+    let board = Board::new();
+    let ground = Ground::new(rt.alloc(), &rt, template(&rt), 2)?;
+    let recorded = break_off::<Brand, HostRuntime>(&rt, ground, &board);
+    let Recorded {
+        told,
+        exits,
+        fault,
+        kinds,
+        entries,
+        broke,
+    } = there(&rt, recorded);
+    assert!(rt; told.outcome == 1 && told.made == 2);
+    assert!(rt; told.adds_up && told.is_audited);
+    assert!(rt; kinds.starts == 2 && exits == 0 && entries == 2);
+    assert!(rt; fault == Some(BROKEN) && broke == Some(JournalFault::Failed));
     Ok(())
 }
 

@@ -12,7 +12,7 @@ use std::random::RandomSource;
 use std::sync::Wait;
 use std::thread::Threads;
 use std::time::Clock;
-use sup_desk::Name;
+use sup_desk::{Name, NoJournal};
 use sup_live::{Alive, Door, Office, Program};
 use sup_script::{WatchedReader, WatchedWriter};
 use sup_types::{Seen, Starter, Text};
@@ -44,6 +44,8 @@ where
     I: Read,
     W: Write,
 {
+    type Journal = NoJournal;
+
     type Outcome = Result<(), ServeFault>;
 
     fn run<'h, S, Q, O, P, R>(

@@ -1,23 +1,25 @@
 //! Runs of crews.
 use super::children::{Board, Counting, Letter, await_word, read};
+use super::journal::{BROKEN, Keeps};
 use std::sync::Wait;
 use std::sync::atomic::Ordering;
 use std::thread;
 use std::thread::Threads;
 use std::time::{Clock, Duration};
-use sup_desk::Name;
+use sup_desk::{Done, Journal, Name, NoJournal, UpdateFault};
 use sup_live::{Alive, Door, Office, Program};
 use sup_types::{Reply, Seen, Starter, Text};
 
 /// Starts a child. Its number, or 0 where none was started.
-fn start<'h, 'a, N, S, Q, I, P, R>(
+fn start<'h, 'a, N, S, Q, J, I, P, R>(
     rt: &R,
-    door: &mut Door<'_, 'h, '_, N, S, Q, I, Counting<'a>, P, Alive<'h, I, Counting<'a>, P>>,
+    door: &mut Door<'_, 'h, '_, N, S, Q, I, Counting<'a>, P, Alive<'h, I, Counting<'a>, P>, J>,
 ) -> u64
 where
     N: Name,
     S: Starter + Drop,
     Q: Wait + Drop,
+    J: Journal + Drop,
     I: Office,
     P: Wait + Drop,
     R: Wait + Clock,
@@ -35,9 +37,9 @@ where
 }
 
 /// Sends once the child is there, for at most half a minute.
-fn send_soon<'h, 'a, N, S, Q, I, P, R>(
+fn send_soon<'h, 'a, N, S, Q, J, I, P, R>(
     rt: &R,
-    door: &Door<'_, 'h, '_, N, S, Q, I, Counting<'a>, P, Alive<'h, I, Counting<'a>, P>>,
+    door: &Door<'_, 'h, '_, N, S, Q, I, Counting<'a>, P, Alive<'h, I, Counting<'a>, P>, J>,
     number: u64,
     letter: Letter,
 )
@@ -45,6 +47,7 @@ where
     N: Name,
     S: Starter + Drop,
     Q: Wait + Drop,
+    J: Journal + Drop,
     I: Office,
     P: Wait + Drop,
     R: Wait + Clock,
@@ -57,6 +60,34 @@ where
     }
 }
 
+/// Whether the update was refused since the journal broke off.
+fn is_broken(done: Result<Done, UpdateFault>) -> bool {
+    match done {
+        Ok(_) => false,
+        Err(fault) => fault == BROKEN,
+    }
+}
+
+/// Whether the journal refuses a start and a termination.
+fn is_refused<'h, 'a, N, S, Q, J, I, P, R>(
+    rt: &R,
+    door: &mut Door<'_, 'h, '_, N, S, Q, I, Counting<'a>, P, Alive<'h, I, Counting<'a>, P>, J>,
+) -> bool
+where
+    N: Name,
+    S: Starter + Drop,
+    Q: Wait + Drop,
+    J: Journal + Drop,
+    I: Office,
+    P: Wait + Drop,
+    R: Wait + Clock,
+{
+    let Some(arg) = Text::new(b"child") else {
+        return false;
+    };
+    is_broken(door.start_child(rt, arg)) && is_broken(door.terminate_child(rt, 1))
+}
+
 /// Waits until three children were told to end, after they heard two letters each. How many were told.
 #[derive(Drop)]
 pub struct Watches<'a> {
@@ -64,6 +95,8 @@ pub struct Watches<'a> {
 }
 
 impl<'a, N: Name> Program<N, Counting<'a>> for Watches<'a> {
+    type Journal = NoJournal;
+
     type Outcome = u64;
 
     fn run<'h, S, Q, I, P, R>(
@@ -94,6 +127,8 @@ pub struct Serves<'a> {
 }
 
 impl<'a, N: Name> Program<N, Counting<'a>> for Serves<'a> {
+    type Journal = NoJournal;
+
     type Outcome = u64;
 
     fn run<'h, S, Q, I, P, R>(
@@ -121,19 +156,34 @@ impl<'a, N: Name> Program<N, Counting<'a>> for Serves<'a> {
     }
 }
 
-/// Crashes a child, and sends to it under its old number and under its new one. 1 where only the new one is heard.
+/// Terminates a child, and waits for its end. Then it crashes another, and sends to it under its old number and under its new one.
+/// 1 where only the new one is heard.
 #[derive(Drop)]
 pub struct Crashes<'a> {
     pub board: &'a Board,
 }
 
 impl<'a, N: Name> Program<N, Counting<'a>> for Crashes<'a> {
+    type Journal = Keeps;
+
     type Outcome = u64;
 
     fn run<'h, S, Q, I, P, R>(
         self,
         rt: &R,
-        door: &mut Door<'_, 'h, '_, N, S, Q, I, Counting<'a>, P, Alive<'h, I, Counting<'a>, P>>,
+        door: &mut Door<
+            '_,
+            'h,
+            '_,
+            N,
+            S,
+            Q,
+            I,
+            Counting<'a>,
+            P,
+            Alive<'h, I, Counting<'a>, P>,
+            Keeps,
+        >,
     ) -> u64
     where
         N: Send + Sync,
@@ -144,13 +194,69 @@ impl<'a, N: Name> Program<N, Counting<'a>> for Crashes<'a> {
         R: Threads + Wait + Clock + Sync,
     {
         let board = self.board;
+        let ended = start(rt, door);
         let old = start(rt, door);
+        let _ = door.terminate_child_and_wait(rt, ended);
         let _ = door.send(old, Letter::Crash);
-        await_word(rt, &board.began, 2);
+        await_word(rt, &board.began, 3);
         let is_gone = door.send(old, Letter::Count).is_err();
         send_soon(rt, door, old.wrapping_add(1), Letter::Count);
         await_word(rt, &board.counted, 1);
         if is_gone { read(&board.counted) } else { 0 }
+    }
+}
+
+/// Starts two children, for which the journal has room, and a third, for which it has none. Then it crashes the first, whose exit
+/// is refused, too. 1 where nothing has changed, and the second was told to end.
+#[derive(Drop)]
+pub struct Breaks<'a> {
+    pub board: &'a Board,
+}
+
+impl<'a, N: Name> Program<N, Counting<'a>> for Breaks<'a> {
+    type Journal = Keeps;
+
+    type Outcome = u64;
+
+    fn run<'h, S, Q, I, P, R>(
+        self,
+        rt: &R,
+        door: &mut Door<
+            '_,
+            'h,
+            '_,
+            N,
+            S,
+            Q,
+            I,
+            Counting<'a>,
+            P,
+            Alive<'h, I, Counting<'a>, P>,
+            Keeps,
+        >,
+    ) -> u64
+    where
+        N: Send + Sync,
+        S: Starter + Drop + Send + Sync,
+        Q: Wait + Drop + Send + Sync,
+        I: Office + Send + Sync,
+        P: Wait + Drop + Send + Sync,
+        R: Threads + Wait + Clock + Sync,
+    {
+        let board = self.board;
+        let first = start(rt, door);
+        let _second = start(rt, door);
+        let before = door.count_children().ok();
+        if !is_refused(rt, door) {
+            return 0;
+        }
+        let _ = door.send(first, Letter::Crash);
+        await_word(rt, &board.told, 1);
+        if before == door.count_children().ok() && is_refused(rt, door) {
+            read(&board.told)
+        } else {
+            0
+        }
     }
 }
 
@@ -162,6 +268,8 @@ pub struct Terminates<'a> {
 }
 
 impl<'a, N: Name> Program<N, Counting<'a>> for Terminates<'a> {
+    type Journal = NoJournal;
+
     type Outcome = u64;
 
     fn run<'h, S, Q, I, P, R>(
@@ -197,6 +305,8 @@ pub struct Retries<'a> {
 }
 
 impl<'a, N: Name> Program<N, Counting<'a>> for Retries<'a> {
+    type Journal = NoJournal;
+
     type Outcome = u64;
 
     fn run<'h, S, Q, I, P, R>(
@@ -231,6 +341,8 @@ pub struct GivesUp<'a> {
 }
 
 impl<'a, N: Name> Program<N, Counting<'a>> for GivesUp<'a> {
+    type Journal = NoJournal;
+
     type Outcome = u64;
 
     fn run<'h, S, Q, I, P, R>(

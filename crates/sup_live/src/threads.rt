@@ -1,0 +1,216 @@
+//! The threads of a run.
+ghost use Rattle.std.specs.Prelude.{◌≡◌, ◌≤◌, [], IfOk, vec_len, vec_capacity};
+ghost use denote.Param.Send.{IsSend};
+
+use crate::patrons::{Attending, Patron, Programs, join_patrons, start_patrons};
+use crate::plan::LiveFault;
+use crate::program::Program;
+use futures::task::Hold;
+use std::sync::Wait;
+use std::thread;
+use std::thread::{JoinHandle, Scope, Threads};
+use std::time::Clock;
+use sup_desk::{Caller, Desk, Handle, Journal, Name};
+use sup_door::{Alive, Behaviour, Door, Office, Yard};
+use sup_driver::{Driven, Driver};
+use sup_types::Starter;
+
+/// What is left once all threads were joined.
+#[derive(Drop)]
+pub(crate) struct Joined<N: Name, I: Office, T: Drop, U: Drop> {
+    pub(crate) driven: Driven<N, I>,
+    pub(crate) door: Caller<N>,
+    pub(crate) outcome: T,
+    pub(crate) patrons: Vec<Patron<N, U>>,
+}
+
+/// Starts the workers. Those that could not be started have gone.
+fn start_workers<'s, 'h: 's, E, I, B, P, R>(
+    scope: &Scope<'s, E>,
+    rt: &'s R,
+    yard: &'s Yard<'h, I, B, P, Alive<'h, I, B, P>>,
+    workers: usize,
+)
+where
+    I: Office + Send + Sync + 's,
+    B: Behaviour + Sync + 's,
+    B::Message: Send + 's,
+    B::Child: Send + 's,
+    P: Wait + Drop + Send + Sync + 's,
+    R: Threads + Wait + Clock + Sync,
+{
+    for worker in 0..workers {
+        if scope.spawn(move || yard.work(rt, worker)).is_err() {
+            yard.hub().counts().worker_went();
+        }
+    }
+}
+
+/// A run whose workers were started: room for its patrons and for their threads, and what keeps the yard open.
+#[derive(Drop)]
+struct Staffed<'s, T: Drop> {
+    threads: Attending<T>,
+    room: Vec<T>,
+    holds: Vec<Hold<'s>>,
+}
+
+/// Makes room for so many patrons, and starts the workers.
+fn staff<'s, 'h: 's, E, I, B, P, T, R>(
+    scope: &Scope<'s, E>,
+    rt: &'s R,
+    yard: &'s Yard<'h, I, B, P, Alive<'h, I, B, P>>,
+    workers: usize,
+    patrons: usize,
+) -> Result<Staffed<'s, T>, LiveFault>
+where
+    I: Office + Send + Sync + 's,
+    B: Behaviour + Sync + 's,
+    B::Message: Send + 's,
+    B::Child: Send + 's,
+    P: Wait + Drop + Send + Sync + 's,
+    T: Drop,
+    R: Threads + Wait + Clock + Sync,
+    ensures empty { IfOk result (λ b. (b.threads.items ≡ []) × (b.room.items ≡ [])) }
+    ensures room { IfOk result (λ b. (patrons ≤ vec_capacity b.threads) × (patrons ≤ vec_capacity b.room)) }
+{
+    let Ok(threads) = Vec::with_capacity(yard.alloc(), patrons) else {
+        return Err(LiveFault::OutOfMemory);
+    };
+    let Ok(room) = Vec::with_capacity(yard.alloc(), patrons) else {
+        return Err(LiveFault::OutOfMemory);
+    };
+    let Ok(holds) = yard.hold() else {
+        return Err(LiveFault::OutOfMemory);
+    };
+    start_workers(scope, rt, yard, workers);
+    if yard.hub().counts().have_all_gone() {
+        return Err(LiveFault::NoThread);
+    }
+    Ok(Staffed {
+        threads,
+        room,
+        holds,
+    })
+}
+
+/// Starts the driver, or shuts the yard down.
+fn start_driver<'s, 'h: 's, 'd: 's, E, N, S, Q, J, I, B, P, R>(
+    scope: &Scope<'s, E>,
+    rt: &'s R,
+    yard: &'s Yard<'h, I, B, P, Alive<'h, I, B, P>>,
+    driver: Driver<'d, N, S, Q, I, J>,
+) -> Result<JoinHandle<Driven<N, I>>, LiveFault>
+where
+    N: Name + Send + Sync + 's,
+    S: Starter + Drop + Send + Sync + 's,
+    Q: Wait + Drop + Send + Sync + 's,
+    J: Journal + Drop + Send + 's,
+    I: Office + Send + Sync + 's,
+    B: Behaviour + Sync + 's,
+    B::Message: Send + 's,
+    B::Child: Send + 's,
+    P: Wait + Drop + Send + Sync + 's,
+    R: Threads + Wait + Clock + Sync,
+{
+    match scope.spawn(move || driver.drive(rt, yard)) {
+        Ok(driving) => Ok(driving),
+        Err(_) => {
+            yard.shut_down();
+            Err(LiveFault::NoThread)
+        }
+    }
+}
+
+/// Starts the threads, runs the program, and joins the patrons and the driver.
+fn run_program<'s, 'h: 's, 'd: 's, E, N, S, Q, J, I, B, P, T, U, R>(
+    scope: &Scope<'s, E>,
+    rt: &'s R,
+    desk: &'d Desk<N, S, Q, J>,
+    yard: &'s Yard<'h, I, B, P, Alive<'h, I, B, P>>,
+    driver: Driver<'d, N, S, Q, I, J>,
+    handle: Handle<'d, N, S, Q, J>,
+    programs: Programs<T, U>,
+    workers: usize,
+) -> Result<Joined<N, I, T::Outcome, U::Outcome>, LiveFault>
+where
+    N: Name + Send + Sync + 's,
+    S: Starter + Drop + Send + Sync + 's,
+    Q: Wait + Drop + Send + Sync + 's,
+    J: Journal + Drop + Send + 's,
+    I: Office + Send + Sync + 's,
+    B: Behaviour + Sync + 's,
+    B::Message: Send + 's,
+    B::Child: Send + 's,
+    P: Wait + Drop + Send + Sync + 's,
+    T: Program<N, B, Journal = J> + Drop,
+    U: Program<N, B, Journal = J> + Drop + Send + 's,
+    U::Outcome: Send + 's,
+    R: Threads + Wait + Clock + Sync,
+    ensures { IfOk result (λ j. vec_len j.patrons ≡ vec_len programs.patrons) }
+{
+    let staffed = match staff(scope, rt, yard, workers, programs.patrons.len()) {
+        Ok(staffed) => staffed,
+        Err(fault) => return Err(fault),
+    };
+    let driving = match start_driver(scope, rt, yard, driver) {
+        Ok(driving) => driving,
+        Err(fault) => return Err(fault),
+    };
+    let Staffed {
+        threads,
+        room,
+        holds,
+    } = staffed;
+    let Programs { program, patrons } = programs;
+    let threads = start_patrons(scope, rt, desk, yard, patrons, threads);
+    let mut door = Door::new(desk, handle, yard);
+    let outcome = program.run(rt, &mut door);
+    let patrons = join_patrons(rt, threads, room);
+    door.close();
+    let driven = driving.join(rt);
+    drop(holds);
+    Ok(Joined {
+        driven,
+        door: door.end(),
+        outcome,
+        patrons,
+    })
+}
+
+/// Opens the scope of the threads.
+pub(crate) fn run_threads<'h, 'd, N, S, Q, J, I, B, P, T, U, R>(
+    rt: &R,
+    desk: &'d Desk<N, S, Q, J>,
+    yard: &Yard<'h, I, B, P, Alive<'h, I, B, P>>,
+    driver: Driver<'d, N, S, Q, I, J>,
+    handle: Handle<'d, N, S, Q, J>,
+    programs: Programs<T, U>,
+    workers: usize,
+) -> Result<Joined<N, I, T::Outcome, U::Outcome>, LiveFault>
+where
+    N: Name + Send + Sync,
+    S: Starter + Drop + Send + Sync,
+    Q: Wait + Drop + Send + Sync,
+    J: Journal + Drop + Send,
+    I: Office + Send + Sync,
+    B: Behaviour + Sync,
+    B::Message: Send,
+    B::Child: Send,
+    P: Wait + Drop + Send + Sync,
+    T: Program<N, B, Journal = J> + Drop,
+    U: Program<N, B, Journal = J> + Drop + Send,
+    U::Outcome: Send,
+    R: Threads + Wait + Clock + Sync,
+    ensures { IfOk result (λ j. vec_len j.patrons ≡ vec_len programs.patrons) }
+{
+    thread::scope(
+        thread::scope_env(),
+        rt,
+        move |scope| -> Result<Joined<N, I, T::Outcome, U::Outcome>, LiveFault>
+            requires threads { IsSend N.row × IsSend S.row × IsSend Q.row × IsSend J.row × IsSend I.row × IsSend P.row }
+            requires children { IsSend B.Message.row × IsSend B.Child.row }
+            requires patrons { IsSend U.row × IsSend U.Outcome.row }
+            ensures { IfOk result (λ j. vec_len j.patrons ≡ vec_len programs.patrons) }
+        { run_program(scope, rt, desk, yard, driver, handle, programs, workers) },
+    )
+}
