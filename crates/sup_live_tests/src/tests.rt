@@ -132,7 +132,7 @@ where
     R: Threads + Wait + Clock + RandomSource + AllocGlobal + Sync,
     requires { (ground.press ≡ N.press) × (ground.template ≡ N.template) }
 {
-    let journal = Keeps::new(rt.alloc(), records);
+    let journal = Keeps::new(records);
     let desk: Desk<N, NotAtFive, &R, Keeps> = Desk::with_journal(ground, NotAtFive, journal);
     let behaviour = Counting { board };
     let moments = Moments::Kept(&board.time);

@@ -1,14 +1,13 @@
 //! The journal of the tests.
-use std::alloc::Global;
 use sup_desk::{Journal, JournalFault, UpdateFault};
 use sup_types::{Entry, Operation, OutOfMemory};
 
-/// Takes so many records, and then breaks off. It keeps the entries.
+/// Takes so many records, and then breaks off. It counts the entries.
 #[derive(Drop)]
 pub struct Keeps {
     records: u64,
-    recorded: usize,
-    entries: Vec<Entry>,
+    ready: Kinds,
+    recorded: Kinds,
 }
 
 impl Journal for Keeps {
@@ -21,10 +20,8 @@ impl Journal for Keeps {
     ghost may_fail = { λ _. ⊤ };
 
     fn prepare(&mut self, entry: &Entry) -> Result<(), OutOfMemory> {
-        match self.entries.push(*entry) {
-            Ok(()) => Ok(()),
-            Err(_) => Err(OutOfMemory),
-        }
+        self.ready = self.ready.with(entry);
+        Ok(())
     }
 
     fn record(&mut self) -> Result<(), JournalFault> {
@@ -32,7 +29,7 @@ impl Journal for Keeps {
             return Err(JournalFault::Failed);
         }
         self.records = self.records.saturating_sub(1);
-        self.recorded = self.entries.len();
+        self.recorded = self.ready;
         Ok(())
     }
 }
@@ -55,7 +52,7 @@ impl Kinds {
     /// One entry more.
     fn with(self, entry: &Entry) -> Kinds {
         let mut kinds = self;
-        match (entry.handle, entry.operation) {
+        match (entry.handle, &entry.operation) {
             (1, Operation::Exit(_, _)) => kinds.exits = kinds.exits.wrapping_add(1),
             (1, Operation::Stop) => kinds.stops = kinds.stops.wrapping_add(1),
             (2, Operation::Start(_)) => kinds.starts = kinds.starts.wrapping_add(1),
@@ -68,22 +65,16 @@ impl Kinds {
 
 impl Keeps {
     /// A journal that takes so many records, and has none.
-    pub fn new(alloc: Global, records: u64) -> Keeps {
+    pub fn new(records: u64) -> Keeps {
         Keeps {
             records,
-            recorded: 0,
-            entries: Vec::new(alloc),
+            ready: Kinds::default(),
+            recorded: Kinds::default(),
         }
     }
 
     /// What it has recorded.
     pub fn kinds(&self) -> Kinds {
-        let mut kinds = Kinds::default();
-        for (place, entry) in self.entries.iter().enumerate() {
-            if place < self.recorded {
-                kinds = kinds.with(entry);
-            }
-        }
-        kinds
+        self.recorded
     }
 }
