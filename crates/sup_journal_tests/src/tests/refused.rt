@@ -18,6 +18,7 @@ enum Call {
     Cut,
     Write,
     Store,
+    Nothing,
 }
 
 /// Files that each have this text, and refuse this call.
@@ -179,4 +180,13 @@ fn a_refused_call_is_told(rt: HostRuntime) -> Result<(), Fail> {
         assert!(rt; opened(rt.alloc(), text, refused, &template, &entries[2]) == told);
     }
     Ok(())
+}
+
+/// Whichever growth is refused, the journal is not opened, or its entry is recorded.
+#[test]
+fn an_opening_bears_a_refusal(rt: HostRuntime) {
+    let (template, entries) = (template(&rt), entries(&rt));
+    let torn = &HISTORY.as_bytes()[..HISTORY.len() - 3];
+    let recorded = opened(rt.alloc(), torn, Call::Nothing, &template, &entries[2]);
+    assert!(rt; matches!(recorded, Ok(Ok(())) | Err(OpenFault::OutOfMemory)));
 }
