@@ -6,7 +6,7 @@ use Rattle.sup_types.specs.declared.history.Entry.{Entry}
 use Rattle.sup_format.specs.declared.fault.Fault.TheVariants as line_fault
 use Rattle.sup_format.specs.Reading.History.{SpellsAs}
 use Rattle.sup_format.specs.Reading.HistoryReading.{HistoryStops}
-use Rattle.sup_format.specs.Reading.Texts.{IsEndedPart}
+use Rattle.sup_format.specs.Reading.Texts.{IsEndedPart, IsFull}
 use Rattle.sup_format.specs.Writing.HistoryTexts.{header_line}
 use Rattle.sup_journal.specs.declared.opening.OpenFault.{OpenFault}
 use Rattle.sup_journal.specs.declared.opening.OpenFault.TheVariants as opening
@@ -24,11 +24,15 @@ abbrev pub GoesOnWith : List ℕ → Template → List Entry → Type 0
 GoesOnWith text template entries = (HasFirstLine text template × ((whole : List ℕ) × IsEndedPart text whole × SpellsAs whole template entries))
     ⊎ (IsUnbegun text template × (entries ≡ []))
 
--- why it does not go on
-abbrev pub IsWhyNot : OpenFault → List ℕ → Template → Type 0
-IsWhyNot opening.OutOfMemory text template = Unit {0}
-IsWhyNot (opening.File kind) text template = Unit {0}
-IsWhyNot (opening.WrongLine wrong) text template = HasFirstLine text template
+-- something of the file is cut off: it begins anew, or its last line has no end
+abbrev pub WantsCut : List ℕ → Template → Type 0
+WantsCut text template = IsUnbegun text template ⊎ ¬ IsFull text
+
+-- the fault has its cause in the text; memory may be wanting at any time
+abbrev pub IsCauseOf : OpenFault → List ℕ → Template → Type 0
+IsCauseOf opening.OutOfMemory text template = Unit {0}
+IsCauseOf (opening.File kind) text template = WantsCut text template
+IsCauseOf (opening.WrongLine wrong) text template = HasFirstLine text template
     × ¬ (wrong.fault ≡ line_fault.OutOfMemory) × ((whole : List ℕ) × IsEndedPart text whole × HistoryStops whole wrong.line wrong.fault)
-IsWhyNot opening.OtherTemplate text template = ¬ HasFirstLine text template × ¬ StartsWith (header_line template) text
-IsWhyNot (opening.Refused fault) text template = IsUnbegun text template
+IsCauseOf opening.OtherTemplate text template = ¬ HasFirstLine text template × ¬ StartsWith (header_line template) text
+IsCauseOf (opening.Refused fault) text template = IsUnbegun text template

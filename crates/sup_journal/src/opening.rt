@@ -5,7 +5,7 @@ ghost use Rattle.std.specs.Io.{StartsWith};
 ghost use Rattle.sup_format.specs.Reading.History.{SpellsAs};
 ghost use Rattle.sup_format.specs.Reading.Texts.{IsEndedPart};
 ghost use Rattle.sup_journal.specs.Faults.{open_fault_number};
-ghost use Rattle.sup_journal.specs.Openings.{GoesOnWith, HasFirstLine, IsUnbegun, IsWhyNot};
+ghost use Rattle.sup_journal.specs.Openings.{GoesOnWith, HasFirstLine, IsCauseOf, IsUnbegun, WantsCut};
 
 use crate::fault::BeginFault;
 use crate::origin::Unknown;
@@ -90,7 +90,7 @@ pub fn open_journal<R: Files, A: Allocator + Copy>(
 
 /// The fault of an error that a file answered.
 fn fault_of_file(error: &IoError) -> OpenFault
-    ensures { (text : List ℕ) (template : Template) → IsWhyNot result text template }
+    ensures { (text : List ℕ) (template : Template) → WantsCut text template → IsCauseOf result text template }
 {
     match error.kind() {
         ErrorKind::OutOfMemory => OpenFault::OutOfMemory,
@@ -107,7 +107,7 @@ fn fault_of_file(error: &IoError) -> OpenFault
 /// - `OtherTemplate`: the text begins otherwise than with this template's first line. The file is as it was.
 /// - `WrongLine`: a whole line is wrong; its number and its fault. The file is as it was.
 /// - `OutOfMemory`: at any time. A file that begins anew may be cut to nothing by then.
-/// - `File`: the file was not cut.
+/// - `File`: the file was not cut, where it begins anew or its last line is torn.
 /// - `Refused`: the first line of a file that begins anew was refused. The file has a part of it, or nothing.
 pub fn continue_journal<F: Write + OpenFile + Drop, A: Allocator + Copy>(
     alloc: A,
@@ -116,7 +116,7 @@ pub fn continue_journal<F: Write + OpenFile + Drop, A: Allocator + Copy>(
     template: &Template,
 ) -> Result<Opened<F, A>, OpenFault>
     ensures has { IfOk result (λ opened. ⟦<TextJournal<Unknown, Synced<F>, A> as Journal>⟧.has opened.journal template.now opened.entries.items []) }
-    ensures entries { MatchResult result (λ opened. GoesOnWith text.now template.now opened.entries.items) (λ fault. IsWhyNot fault text.now template.now) }
+    ensures entries { MatchResult result (λ opened. GoesOnWith text.now template.now opened.entries.items) (λ fault. IsCauseOf fault text.now template.now) }
 {
     let mut first = Vec::new(alloc);
     if append_header(template, &mut first).is_err() {
@@ -139,7 +139,7 @@ fn begin<F: Write + OpenFile + Drop, A: Allocator + Copy>(
 ) -> Result<Opened<F, A>, OpenFault>
     ensures has { IfOk result (λ opened. ⟦<TextJournal<Unknown, Synced<F>, A> as Journal>⟧.has opened.journal template.now opened.entries.items []) }
     ensures entries { (text : List ℕ) → IsUnbegun text template.now
-        → MatchResult result (λ opened. GoesOnWith text template.now opened.entries.items) (λ fault. IsWhyNot fault text template.now) }
+        → MatchResult result (λ opened. GoesOnWith text template.now opened.entries.items) (λ fault. IsCauseOf fault text template.now) }
 {
     cut(&file, 0)?;
     match TextJournal::new(alloc, Synced::new(file), template) {
@@ -156,7 +156,7 @@ fn begin<F: Write + OpenFile + Drop, A: Allocator + Copy>(
 
 /// Cuts the file to this length.
 fn cut<F: OpenFile>(file: &F, length: u64) -> Result<(), OpenFault>
-    ensures { (text : List ℕ) (template : Template) → IfErr result (λ fault. IsWhyNot fault text template) }
+    ensures { (text : List ℕ) (template : Template) → WantsCut text template → IfErr result (λ fault. IsCauseOf fault text template) }
 {
     match file.set_len(length) {
         Ok(()) => Ok(()),
@@ -176,7 +176,7 @@ fn go_on<F: Write + OpenFile + Drop, A: Allocator + Copy>(
     requires begins { StartsWith text.now first.now }
     requires has { HasFirstLine text.now template.now }
     ensures has { IfOk result (λ opened. ⟦<TextJournal<Unknown, Synced<F>, A> as Journal>⟧.has opened.journal template.now opened.entries.items []) }
-    ensures entries { MatchResult result (λ opened. GoesOnWith text.now template.now opened.entries.items) (λ fault. IsWhyNot fault text.now template.now) }
+    ensures entries { MatchResult result (λ opened. GoesOnWith text.now template.now opened.entries.items) (λ fault. IsCauseOf fault text.now template.now) }
 {
     let entries = entries_of(alloc, text, first, template)?;
     let whole = ended_part(text).len();
@@ -197,7 +197,7 @@ fn entries_of<A: Allocator + Copy>(
     requires first { SpellsAs first.now template.now [] }
     requires begins { StartsWith text.now first.now }
     requires has { HasFirstLine text.now template.now }
-    ensures { MatchResult result (λ entries. (whole : List ℕ) × IsEndedPart text.now whole × SpellsAs whole template.now entries.items) (λ fault. IsWhyNot fault text.now template.now) }
+    ensures { MatchResult result (λ entries. (whole : List ℕ) × IsEndedPart text.now whole × SpellsAs whole template.now entries.items) (λ fault. IsCauseOf fault text.now template.now) }
 {
     match read_journal(alloc, text) {
         Ok(history) => Ok(history.entries),
