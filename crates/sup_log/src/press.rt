@@ -1,5 +1,6 @@
 //! The press: it makes entries pending, and publishes them.
 ghost use Rattle.std.specs.Prelude.{◌≡◌, ◌<◌, ◌≤◌, ◌+◌, ◌^◌, List, [], ◌∷◌, ◌++◌, length, IfOk, MatchResult};
+ghost use mathlib.Core.List.{IsPrefix};
 ghost use Rattle.sup_types.specs.declared.history.Entry.{Entry};
 ghost use Rattle.sup_log.specs.Tokens.{in_one_step};
 
@@ -124,6 +125,18 @@ impl<R: Wait + Drop> Press<R> {
         ensures { result ≡ record { press = self.now.press; editions = self.now.editions; front = self.now.published } }
     {
         self.history.tell()
+    }
+
+    /// Shows that a ticket of this press tells no more than is published.
+    pub fn covers(&self, told: &Ticket)
+        requires { told.now.press ≡ self.now.press }
+        ensures { IsPrefix told.now.front self.now.published × IsPrefix told.now.editions self.now.editions }
+    {
+        if !told.begins(&self.history.tell()) {
+            // No ticket tells more, since the press alone adds to its history. The proof does not know that, so it waits here
+            // for what never comes.
+            for _ in self.rt.forever() {}
+        }
     }
 
     /// How many publications had something pending.
