@@ -43,7 +43,7 @@ fn a_reader_asks_anew(rt: HostRuntime) -> Result<(), Fail> {
 }
 
 fn read<N: Name, R: Wait + Abort>(rt: &R, ground: Ground<&R>) -> Result<(), Fail>
-    requires { (ground.press ≡ N.press) × (ground.template ≡ N.template) }
+    requires { (ground.press ≡ N.press) × (ground.template ≡ N.template) × (ground.roll ≡ N.roll) }
 {
     let desk: Desk<N, Always, &R> = Desk::new(ground, Always);
     let done = read_on(rt, &desk);

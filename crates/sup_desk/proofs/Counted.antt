@@ -1,13 +1,11 @@
 -- The counts of the handles' entries.
-use Rattle.std.proofs.Common.{◌≡◌, ◌≢◌, ℕ, zero, suc, Bool, true, false, cond, ◌==◌, ◌+◌, ◌<◌, List, [], ◌∷◌, ◌++◌, length, get_or, set, refl, ap, sym, ◌∙◌, subst, arith, length-append, append-nil, take, get_or-set_same, get_or-set_other}
+use Rattle.std.proofs.Common.{◌≡◌, ◌≢◌, ℕ, zero, suc, Bool, true, false, cond, ◌==◌, ◌+◌, ◌<◌, List, [], ◌∷◌, ◌++◌, length, get_or, set, refl, ap, sym, ◌∙◌, subst, arith, length-append, append-nil, get_or-set_same, get_or-set_other}
 use Rattle.std.proofs.Math.ListN.{get_or-append}
-use Rattle.std.proofs.Math.Seq.{get_or-append_seam, take-length}
-use mathlib.Core.List.{IsPrefix}
+use Rattle.std.proofs.Math.Seq.{get_or-append_seam}
 use Rattle.std.proofs.lemmas.Bool.Decides.{nat_tests}
 use Rattle.std.proofs.lemmas.List.Elements.{All-append}
 use Rattle.std.specs.List.{All}
 use Rattle.sup_types.specs.declared.history.Entry.{Entry}
-use Rattle.sup_log.specs.PrefixLaws.{prefix_whole}
 use Rattle.sup_desk.specs.Knowledge.{entries_of}
 use Rattle.sup_desk.specs.Books.{IsMade, IsCounted}
 use Rattle.sup_desk.specs.EntryLaws.{entries-append, entries_le}
@@ -67,7 +65,7 @@ not_own : (x : Entry) (xs : List Entry) (number : ℕ) (b : Bool) → b ≡ fals
 not_own x xs number true is all = absurd (cc is)
 not_own x xs number false is all = omega (arith, ap length all, entries_le number xs)
 
-own_all : (number : ℕ) (es : List Entry) → entries_of es number ≡ es → (k : ℕ) (d : Entry) → k < length es → (get_or es k d).handle ≡ number
+pub own_all : (number : ℕ) (es : List Entry) → entries_of es number ≡ es → (k : ℕ) (d : Entry) → k < length es → (get_or es k d).handle ≡ number
 own_all number [] own k d within = absurd (omega (arith, within))
 own_all number (x ∷ xs) own k d within =
     by_test (λ is j low. own_all number xs (rest_own x xs number (x.handle == number) is own) j d low) (x.handle == number) refl
@@ -82,7 +80,7 @@ own_all number (x ∷ xs) own k d within =
     by_test more true is = at more k within is
     by_test more false is = absurd (not_own x xs number (x.handle == number) is own)
 
-others_none : (number other : ℕ) (es : List Entry) → ((k : ℕ) (d : Entry) → k < length es → (get_or es k d).handle ≡ number) → ¬ (other ≡ number)
+pub others_none : (number other : ℕ) (es : List Entry) → ((k : ℕ) (d : Entry) → k < length es → (get_or es k d).handle ≡ number) → ¬ (other ≡ number)
     → entries_of es other ≡ []
 others_none number other [] own differ = refl
 others_none number other (x ∷ xs) own differ =
@@ -119,24 +117,3 @@ counted_all made counts history entries number place len counted mine here own =
         ∙ sym (ap length (entries-append (k + 1) history entries
         ∙ ap (λ l. entries_of history (k + 1) ++ l) (others_none number (k + 1) entries (own_all number entries own) other)
         ∙ append-nil (entries_of history (k + 1))))
-
--- a handle that has seen just what is published, and has made as many calls as it has entries
-pub tied_is : (published front calls : List Entry) (number made n k : ℕ) → IsPrefix published front → length front ≡ length published
-    → n ≡ number → k ≡ length calls → calls ≡ take (length calls) (entries_of front number)
-    → IsMade made n × (length (entries_of published n) ≡ k)
-    → (front ≡ published) × (entries_of published number ≡ calls) × IsMade made number
-tied_is published front calls number made n k learnt long num count first (mine, own) =
-    let whole : published ≡ front = prefix_whole published front learnt (omega (arith, long)) in
-    let len : length calls ≡ length (entries_of published number) =
-    sym count ∙ sym own ∙ ap (λ (i : ℕ). length (entries_of published i)) num in
-    let is : calls ≡ entries_of published number =
-    first ∙ ap (λ l. take (length calls) (entries_of l number)) (sym whole) ∙ ap (λ (i : ℕ). take i (entries_of published number)) len
-    ∙ take-length (entries_of published number) in
-    (sym whole, sym is, subst (IsMade made) num mine)
-
--- a handle whose calls are not as many as its entries
-pub split_is : (published calls : List Entry) (number made n k : ℕ) → n ≡ number → k ≡ length calls
-    → ¬ (IsMade made n × (length (entries_of published n) ≡ k))
-    → ¬ (IsMade made number × (length (entries_of published number) ≡ length calls))
-split_is published calls number made n k num count differ (mine, own) =
-    differ (subst (IsMade made) (sym num) mine, ap (λ (i : ℕ). length (entries_of published i)) num ∙ own ∙ sym count)

@@ -1,9 +1,5 @@
 -- What an update of a handle that has met the history says of the handle that asked for it.
-use Rattle.std.proofs.Common.{◌≡◌, ℕ, List, [], ◌∷◌, ◌++◌, length, refl, ap, sym, ◌∙◌, subst}
-use Rattle.std.proofs.Common.{true}
-use Rattle.std.specs.Option.{IfSome, is_some}
-use Rattle.std.specs.declared.option.Option.{Option}
-use Rattle.std.specs.declared.option.Option.TheVariants.{None, Some}
+use Rattle.std.proofs.Common.{◌≡◌, ℕ, List, [], ◌∷◌, ◌++◌, length, refl, ap, ap₂, sym, ◌∙◌, subst}
 use Rattle.std.specs.Result.{IfOk, IfErr, OnErr}
 use Rattle.std.specs.declared.result.Result.{Result}
 use Rattle.std.specs.declared.result.Result.TheVariants.{Ok, Err}
@@ -20,16 +16,12 @@ use Rattle.sup_log.specs.Tokens.{Publication, Told, history_of, in_one_step}
 use Rattle.sup_log.specs.PrefixLaws.{prefix_trans}
 use Rattle.sup_desk.specs.declared.laws.Done.{Done}
 use Rattle.sup_desk.specs.declared.faults.UpdateFault.{UpdateFault}
-use Rattle.sup_desk.specs.declared.faults.UpdateFault.TheVariants.{HistoryFull, Gone, Split}
+use Rattle.sup_desk.specs.declared.faults.UpdateFault.TheVariants.{HistoryFull, Gone}
 use Rattle.sup_desk.specs.Books.{Kept, grown_by}
 use Rattle.sup_desk.specs.Knowledge.{Knowledge, entries_of, with_entries, IsEntryOf, IsMet, IsUpdated}
 use Rattle.sup_desk.specs.Batches.{AreEntered, IsApplied}
+use Rattle.sup_desk.specs.EntryLaws.{entries-append, entries-own}
 use Rattle.sup_desk.specs.Results.{HasSeenMore, IsUpdateResult}
-
--- what holds where there is something
-pub some_by : {T P : Type 0} (r : Option T) → is_some r ≡ true → IfSome r (λ _. P) → P
-some_by None is p = absurd (cc is)
-some_by (Some x) is p = p
 
 -- a handle that has met the history of the book, in which its calls are all that stand under its number
 pub record HasMet (book : Kept) (before met : Knowledge) : Type 0 where
@@ -66,6 +58,12 @@ module _ (may : Text → ℕ → Answer → Type 0) (template : Template) (press
         (prefix_trans before.front book.history (book.history ++ entries) is_met.more_front (entries, refl));
   }
 
+  -- entries of this handle are its own calls, too
+  own_with : (entries : List Entry) → after ≡ with_entries met book.editions book.history entries → entries_of entries met.number ≡ entries → entries_of after.front after.number ≡ after.calls
+  own_with entries is mine =
+      subst (λ (k : Knowledge). entries_of k.front k.number ≡ k.calls) (sym is)
+      (entries-append met.number book.history entries ∙ ap₂ (λ (a b : List Entry). a ++ b) (ap (λ (l : List Entry). entries_of l met.number) (sym has.front) ∙ has.own) mine)
+
   updated : (operation : Operation) (done : Done) (entry : Entry) → IsEntryOf may template book.history met.number (length met.calls) operation moment entry
       → done.reply ≡ reply_after template book.history entry → after ≡ with_entries met book.editions book.history (entry ∷ [])
       → done.ticket ≡ record { press = press; editions = after.editions; front = after.front }
@@ -88,25 +86,25 @@ module _ (may : Text → ℕ → Answer → Type 0) (template : Template) (press
       → IfOk result (λ done. done.ticket ≡ record { press = press; editions = after.editions; front = after.front })
       → OnErr result (after ≡ met)
       → IfErr result (λ e. e ≡ HistoryFull → length book.history ≡ template.entries)
-      → IfErr result (λ e. (e ≡ Gone → ⊥) × (e ≡ Split → ⊥))
+      → IfErr result (λ e. e ≡ Gone → ⊥)
       → IsUpdateResult may template press before operation moment after result
-  update_result operation left (Ok done) (entry, entered, reply, book', is) told kept full faults = record {
+  update_result operation left (Ok done) (entry, entered, reply, book', is) told kept full gone = record {
     ok = updated operation done entry entered reply is told;
     seen = seen_with (entry ∷ []) is;
     calls = tt;
+    own = own_with (entry ∷ []) is (entries-own met.number entry entered.handle_is);
     gone = tt;
     full = tt;
-    memory = tt;
   }
-  update_result operation left (Err e) entered told kept full faults =
+  update_result operation left (Err e) entered told kept full gone =
       let own : entries_of after.front after.number ≡ after.calls = subst (λ (k : Knowledge). entries_of k.front k.number ≡ k.calls) (sym kept) has.own in
       record {
         ok = tt;
         seen = subst (λ (k : Knowledge). HasSeenMore before k) (sym kept) has.seen;
         calls = (ap (λ (k : Knowledge). k.calls) kept ∙ has.calls.0, ap (λ (k : Knowledge). k.number) kept ∙ has.calls.1);
-        gone = faults.0;
-        full = λ is. (ap (λ (k : Knowledge). length k.front) kept ∙ ap length has.front ∙ full is, own);
-        memory = λ is. own;
+        own = own;
+        gone = gone;
+        full = λ is. ap (λ (k : Knowledge). length k.front) kept ∙ ap length has.front ∙ full is;
       }
 
   -- the operations of a batch

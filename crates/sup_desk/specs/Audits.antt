@@ -3,7 +3,6 @@ use Rattle.std.specs.Prelude.{◌≡◌, ℕ, ◌+◌, ◌<◌, List, length, sl
 use mathlib.Core.List.{IsPrefix}
 use Rattle.sup_types.specs.declared.history.Entry.{Entry}
 use Rattle.sup_desk.specs.Knowledge.{Knowledge, entries_of}
-use Rattle.sup_desk.specs.Books.{Kept, IsSplit}
 
 -- handle 1, handle 2, .., in the order of making
 abbrev pub AreNumbered : List Knowledge → Type 0
@@ -29,9 +28,3 @@ pub record HasSeenAll (history : List Entry) (handle : Knowledge) : Type 0 where
 -- so have the first of these handles, as many as n
 abbrev pub HaveSeenAll : List Entry → List Knowledge → ℕ → Type 0
 HaveSeenAll history handles n = (k : ℕ) (d : Knowledge) → k < n → HasSeenAll history (slice_index_or handles k d)
-
--- one of these handles can't be tied to the book
-pub record IsAnySplit (book : Kept) (handles : List Knowledge) : Type 0 where
-  pub place : ℕ
-  pub within : place < length handles
-  pub split : (d : Knowledge) → IsSplit book (slice_index_or handles place d)

@@ -2,22 +2,28 @@
 use Rattle.std.specs.Prelude.{◌≡◌, ℕ, ◌+◌, List, [], ◌++◌, length, slice_index, ◌<◌, ◌≤◌, ◌⊎◌, Option, Some, None, ⊤}
 use Rattle.std.specs.List.{All}
 use Rattle.logbook.specs.Pages.{Book}
+use Rattle.atomic_table.specs.Seated.{TableId}
 use Rattle.sup_types.specs.declared.template.Template.{Template}
 use Rattle.sup_types.specs.declared.history.Entry.{Entry}
 use Rattle.sup_log.specs.Tokens.{Publication, in_one_step}
 use Rattle.sup_desk.specs.declared.journal.JournalFault.{JournalFault}
 use Rattle.sup_desk.specs.declared.faults.UpdateFault.{UpdateFault}
-use Rattle.sup_desk.specs.declared.faults.UpdateFault.TheVariants.{Gone, Split, Journal}
-use Rattle.sup_desk.specs.Knowledge.{Knowledge, entries_of}
+use Rattle.sup_desk.specs.declared.faults.UpdateFault.TheVariants.{Gone, Journal}
+use Rattle.sup_desk.specs.Knowledge.{entries_of}
 
 -- the name of no press
 abbrev pub no_press : Book
 no_press = record { number = 0; log_name = 0; cells_name = 0 }
 
--- the press of a ground, its template, and how many handles there may be
+-- the name of no roll
+abbrev pub no_roll : TableId
+no_roll = record { words = 0; slots = 0; views_name = 0; atom = 0; block = 0; offset = 0; slot_names = [] }
+
+-- the press of a ground, its template, its roll, and how many handles there may be
 pub record Plot : Type 0 where
   pub press : Book
   pub template : Template
+  pub roll : TableId
   pub handles : ℕ
 
 -- the publications, the history that they make, how many handles were made, how many there may be, and the fault of the journal,
@@ -48,7 +54,7 @@ broken_by book fault = record { editions = book.editions; history = book.history
 
 -- a fault that a step can meet: the history is full, or memory is refused
 abbrev pub IsOfStep : UpdateFault → Type 0
-IsOfStep fault = (fault ≡ Gone → ⊥) × (fault ≡ Split → ⊥) × ((f : JournalFault) → fault ≡ Journal f → ⊥)
+IsOfStep fault = (fault ≡ Gone → ⊥) × ((f : JournalFault) → fault ≡ Journal f → ⊥)
 
 -- what a refused update leaves of the book: it is as it was, and a fault of the journal is the one that it had; or the journal broke
 -- off by it, and the fault stays
@@ -71,12 +77,6 @@ abbrev pub IsCounted : ℕ → List ℕ → List Entry → Type 0
 IsCounted made counts history =
     ((k : ℕ) → k < made → slice_index counts k ≡ length (entries_of history (k + 1)))
     × All (λ entry. IsMade made entry.handle) history
-
--- the handle can't be tied to the book: it has seen more than is published, or its calls are not as many as its entries
-abbrev pub IsSplit : Kept → Knowledge → Type 0
-IsSplit book handle =
-    (length book.history < length handle.front)
-    ⊎ ¬ (IsMade book.made handle.number × (length (entries_of book.history handle.number) ≡ length handle.calls))
 
 -- what is written, with these entries too
 abbrev pub with_pending : Written → List Entry → Written

@@ -20,7 +20,6 @@ journal_fault_number = 13
 abbrev pub update_fault_number : UpdateFault → ℕ
 update_fault_number update.OutOfMemory = 1
 update_fault_number update.HistoryFull = 2
-update_fault_number update.Split = 3
 update_fault_number update.Gone = 4
 update_fault_number (update.Journal fault) = journal_fault_number
 

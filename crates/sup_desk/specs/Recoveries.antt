@@ -1,11 +1,17 @@
 -- Why a history of before can't be entered again.
-use Rattle.std.specs.Prelude.{◌≡◌, ℕ, ◌≤◌, ◌<◌, List, length, ⊤}
+use Rattle.std.specs.Prelude.{ℕ, ◌≤◌, ◌<◌, List, length, ⊤}
 use Rattle.std.specs.List.{All}
 use Rattle.sup_types.specs.declared.template.Template.{Template}
 use Rattle.sup_types.specs.declared.history.Entry.{Entry}
 use Rattle.sup_desk.specs.declared.recovery.RecoverFault.{RecoverFault}
 use Rattle.sup_desk.specs.declared.recovery.RecoverFault.TheVariants as recover
 use Rattle.sup_desk.specs.Books.{IsMade}
+
+-- what was entered of a history of before, how many handles it has, and how many there may be
+pub record Drafted : Type 0 where
+  pub history : List Entry
+  pub made : ℕ
+  pub handles : ℕ
 
 -- the fault has its cause: there are more entries than the template allows, an entry is of no handle that there may be, or there
 -- may not be so many handles

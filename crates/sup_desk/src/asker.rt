@@ -54,6 +54,13 @@ impl<N: Name> Asker<N> {
         self.lens.front().stamp()
     }
 
+    /// A ticket for its front.
+    pub(crate) fn told(&self) -> &Ticket
+        ensures { result.now ≡ record { press = N.press; editions = self.now.editions; front = self.now.front } }
+    {
+        self.lens.front()
+    }
+
     /// How many children there are at one front, which begins with all that it had seen or learnt.
     #[tactic(auto, using(crate::proofs::Answered::count_is))]
     pub fn count_children(&mut self) -> Result<Seen<Counts>, Gone>

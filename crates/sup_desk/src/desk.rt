@@ -13,10 +13,10 @@ use crate::faults::{HandleFault, TicketFault};
 use crate::ground::Ground;
 use crate::handle::HandleOf;
 use crate::journal::{Journal, NoJournal};
-use crate::laws::{add_asker, add_handle, audit, resume_handle};
+use crate::laws::{add_asker, add_handle, audit};
 use crate::leaf::Closed;
 use crate::name::Name;
-use crate::recovery::{RecoverFault, enter_again};
+use crate::recovery::{RecoverFault, recover_leaf};
 use std::sync::{Mutex, Wait};
 use sup_log::{NoPlace, Ticket};
 use sup_types::{Entry, Starter};
@@ -28,10 +28,19 @@ pub struct Desk<N: Name, S: Starter + Drop, R: Wait + Drop, J: Journal + Drop = 
     pub(crate) starter: S,
 }
 
+/// A desk that goes on from a history of before, a ticket for it, and the callers that its handles were, in the order of their
+/// numbers: 1, 2, 3, .. (see [`Desk::bind`]).
+#[derive(Drop)]
+pub struct Recovered<N: Name, S: Starter + Drop, R: Wait + Drop, J: Journal + Drop> {
+    pub desk: Desk<N, S, R, J>,
+    pub ticket: Ticket,
+    pub callers: Vec<Caller<N>>,
+}
+
 impl<N: Name, S: Starter + Drop, R: Wait + Drop> Desk<N, S, R> {
     /// A desk on this ground, which N names, without a journal. It takes no memory.
     pub fn new(ground: Ground<R>, starter: S) -> Desk<N, S, R>
-        requires { (ground.press ≡ N.press) × (ground.template ≡ N.template) }
+        requires { (ground.press ≡ N.press) × (ground.template ≡ N.template) × (ground.roll ≡ N.roll) }
     {
         Desk::with_journal(ground, starter, NoJournal)
     }
@@ -42,7 +51,7 @@ impl<N: Name, S: Starter + Drop, R: Wait + Drop, J: Journal + Drop> Desk<N, S, R
     /// then on the journal records each entry before it is published: whenever the lock is free, it has recorded just what is
     /// published. Once it breaks off, updates are refused, and queries go on. It takes no memory.
     pub fn with_journal(ground: Ground<R>, starter: S, journal: J) -> Desk<N, S, R, J>
-        requires name { (ground.press ≡ N.press) × (ground.template ≡ N.template) }
+        requires name { (ground.press ≡ N.press) × (ground.template ≡ N.template) × (ground.roll ≡ N.roll) }
         requires journal { J.has journal N.template [] [] }
     {
         Desk {
@@ -52,8 +61,8 @@ impl<N: Name, S: Starter + Drop, R: Wait + Drop, J: Journal + Drop> Desk<N, S, R
     }
 
     /// A desk on this ground, which N names, that goes on from a history of before: all of its entries are published, in order,
-    /// and the journal has recorded them. The ticket is for this history, so a handle that learns it has seen all of it. New
-    /// handles get numbers above those of the history; `resume` gives these. A fault where an entry can't be entered: HistoryFull
+    /// and the journal has recorded them. The ticket is for this history, so a handle that learns it has seen all of it. The
+    /// handles of before come back as callers, in the order of their numbers; new ones get the numbers after these. A fault where an entry can't be entered: HistoryFull
     /// for more entries than the template allows, NoHandle for one of a number that no handle of the ground can have, and
     /// OutOfMemory for want of memory. There is no desk then.
     pub fn recover(
@@ -61,19 +70,27 @@ impl<N: Name, S: Starter + Drop, R: Wait + Drop, J: Journal + Drop> Desk<N, S, R
         starter: S,
         journal: J,
         entries: &[Entry],
-    ) -> Result<(Desk<N, S, R, J>, Ticket), RecoverFault>
-        requires name { (ground.press ≡ N.press) × (ground.template ≡ N.template) }
+    ) -> Result<Recovered<N, S, R, J>, RecoverFault>
+        requires name { (ground.press ≡ N.press) × (ground.template ≡ N.template) × (ground.roll ≡ N.roll) }
         requires journal { J.has journal N.template entries.now [] }
-        ensures ok { IfOk result (λ p. (p.1.press ≡ N.press) × (p.1.front ≡ entries.now)) }
+        ensures ticket { IfOk result (λ r. (r.ticket.press ≡ N.press) × (r.ticket.front ≡ entries.now)) }
+        ensures callers { IfOk result (λ r. AreNumbered r.callers.items × HaveSeenAll entries.now r.callers.items (length r.callers.items)
+            × All (λ entry. IsMade (length r.callers.items) entry.handle) entries.now) }
         ensures err { IfErr result (λ f. IsCauseOf f N.template ground.handles entries.now) }
     {
-        let leaf = enter_again(ground.leaf(), entries)?;
+        let (leaf, callers) = recover_leaf(ground, entries)?;
         let ticket = leaf.tell();
+        // (each entry is of one of these)
+        let _ = leaf.made();
         let desk = Desk {
             book: Mutex::new(Book::of(leaf.with_journal(journal))),
             starter,
         };
-        Ok((desk, ticket))
+        Ok(Recovered {
+            desk,
+            ticket,
+            callers,
+        })
     }
 
     /// Ends the desk: a ticket for all of its history, and the journal. The journal has recorded just this history, unless it
@@ -97,19 +114,6 @@ impl<N: Name, S: Starter + Drop, R: Wait + Drop, J: Journal + Drop> Desk<N, S, R
         Ok(self.bind(add_handle(&mut *self.book.lock(rt))?))
     }
 
-    /// The handle with this number again: for one that was before a recovery, or that was dropped. It has seen all of the
-    /// history, and its calls are all that stand there under its number. It waits for the lock. NoHandle where none with this
-    /// number was made. Of two handles with one number, the one that makes no update while the other does is split from the desk.
-    pub fn resume<W: Wait>(
-        &self,
-        rt: &W,
-        number: u64,
-    ) -> Result<HandleOf<'_, N, Desk<N, S, R, J>>, HandleFault>
-        ensures { IfOk result (λ h. (h.number ≡ number) × (entries_of h.front number ≡ h.calls)) }
-    {
-        Ok(self.bind(resume_handle(&mut *self.book.lock(rt), number)?))
-    }
-
     /// The handle that the caller was.
     pub fn bind(&self, caller: Caller<N>) -> HandleOf<'_, N, Desk<N, S, R, J>>
         ensures { result ≡ caller }
@@ -125,7 +129,7 @@ impl<N: Name, S: Starter + Drop, R: Wait + Drop, J: Journal + Drop> Desk<N, S, R
 
     /// Shows that the history is the calls of these handles and nothing else: they are all that were made, in the order
     /// of making (see `Handle::are_in_order`), and have then seen all of it. A ticket for it. It waits for the lock.
-    /// Split where a handle is missing (see `laws::audit`). After a refusal the handles may have seen more.
+    /// Split where a handle is missing (see `laws::audit`). Then nothing has changed.
     pub fn audit<W: Wait>(
         &self,
         rt: &W,
@@ -137,6 +141,6 @@ impl<N: Name, S: Starter + Drop, R: Wait + Drop, J: Journal + Drop> Desk<N, S, R
         ensures grown { AreGrown handles.old handles.new }
         ensures gone { IfErr result (λ e. e ≡ TicketFault.Gone → ⊥) }
     {
-        audit(&*self.book.lock(rt), handles)
+        audit(&mut *self.book.lock(rt), handles)
     }
 }

@@ -17,9 +17,6 @@ pub enum UpdateFault {
     /// The history has as many entries as the template allows.
     #[error("the history is full")]
     HistoryFull,
-    /// What the handle has seen can't be tied to the book.
-    #[error("the handle is split from its desk")]
-    Split,
     /// The reader could not learn or enter. No update is answered so: each learns without entering.
     #[error("the press is gone")]
     Gone,
@@ -36,20 +33,19 @@ impl UpdateFault {
         match self {
             UpdateFault::OutOfMemory => 1,
             UpdateFault::HistoryFull => 2,
-            UpdateFault::Split => 3,
             UpdateFault::Gone => 4,
             UpdateFault::Journal(fault) => fault.number(),
         }
     }
 }
 
-/// Why no ticket was given.
+/// Why an audit gave no ticket.
 #[derive(Clone, Copy, Debug, PartialEq, Eq, Error)]
 pub enum TicketFault {
-    /// What the handle has seen can't be tied to the book, or an audit lacked a handle.
-    #[error("the handle is split from its desk")]
+    /// The audit lacked a handle.
+    #[error("the audit lacks a handle")]
     Split,
-    /// The reader could not learn or enter. No ticket is refused so: the handle learns without entering.
+    /// The reader could not learn or enter. No audit is refused so: each handle learns without entering.
     #[error("the press is gone")]
     Gone,
 }
@@ -108,8 +104,8 @@ impl From<OutOfMemory> for QueryFault {
 /// Why no handle was made.
 #[derive(Clone, Copy, Debug, PartialEq, Eq, Error)]
 pub enum HandleFault {
-    /// As many handles were made as the ground said, or none with the number that was asked for.
-    #[error("all handles were made, or none with this number")]
+    /// As many handles were made as the ground said.
+    #[error("all handles were made")]
     NoHandle,
     /// The press has no place for a lens, or no memory for one.
     #[error("no place for a lens is left")]

@@ -1,10 +1,12 @@
 //! Grounds: the parts of a book that has no name yet.
 ghost use Rattle.std.specs.Prelude.{◌≡◌, ◌≤◌, ◌↔◌, [], IfOk, None};
 
+use crate::draft::Draft;
 use crate::faults::DeskFault;
 use crate::journal::NoJournal;
 use crate::leaf::Leaf;
 use crate::name::Name;
+use crate::roll::Roll;
 use std::alloc::Global;
 use std::marker::Model;
 use std::sync::Wait;
@@ -12,11 +14,13 @@ use sup_core::Sup;
 use sup_log::Press;
 use sup_types::Template;
 
-/// The parts of a book that has no name yet: its supervisor, its press, and room for the counts of its handles.
+/// The parts of a book that has no name yet: its supervisor, its press, its roll, and room for the counts of the handles of a
+/// history of before.
 #[derive(Drop)]
 pub struct Ground<R: Wait + Drop> {
     sup: Sup,
     press: Press<R>,
+    roll: Roll,
     counts: Vec<u64>,
     handles: u64,
 }
@@ -28,10 +32,10 @@ impl<R: Wait + Drop> Model for Ground<R> {
 
     ghost Value = { Plot };
 
-    ghost view = { λ g. record { press = g.press.press; template = g.press.template; handles = g.handles } };
+    ghost view = { λ g. record { press = g.press.press; template = g.press.template; roll = g.roll.id; handles = g.handles } };
 
     ghost invariant = { λ g. (g.press.pending ≡ []) × (g.press.published ≡ []) × (g.press.editions ≡ [])
-        × (g.sup ≡ standing g.press.template []) × (vec_len g.counts ≡ 0) × (g.handles ≤ vec_capacity g.counts) × (g.handles ≤ 1024) };
+        × (g.sup ≡ standing g.press.template []) × (g.roll.history ≡ []) × (g.roll.made ≡ 0) × (vec_len g.counts ≡ 0) × (g.handles ≤ vec_capacity g.counts) × (g.handles ≤ 1024) };
 }
 
 impl<R: Wait + Drop> Ground<R> {
@@ -52,6 +56,9 @@ impl<R: Wait + Drop> Ground<R> {
         let Ok(counts) = Vec::with_capacity(alloc, handles as usize) else {
             return Err(DeskFault::OutOfMemory);
         };
+        let Ok(roll) = Roll::new(alloc) else {
+            return Err(DeskFault::OutOfMemory);
+        };
         let Ok(sup) = Sup::new(alloc, template) else {
             return Err(DeskFault::OutOfMemory);
         };
@@ -59,6 +66,7 @@ impl<R: Wait + Drop> Ground<R> {
             Ok(press) => Ok(Ground {
                 sup,
                 press,
+                roll,
                 counts,
                 handles,
             }),
@@ -68,15 +76,32 @@ impl<R: Wait + Drop> Ground<R> {
 
     /// The leaf of this ground, which N names: nothing is written, and no handle was made.
     pub(crate) fn leaf<N: Name>(self) -> Leaf<N, R, NoJournal>
-        requires { (self.press ≡ N.press) × (self.template ≡ N.template) }
+        requires { (self.press ≡ N.press) × (self.template ≡ N.template) × (self.roll ≡ N.roll) }
         ensures { result ≡ record { editions = []; published = []; pending = []; made = 0; handles = self.handles; fault = None } }
     {
         let Ground {
             sup,
             press,
+            roll,
+            handles,
+            counts: _,
+        } = self;
+        Leaf::begin(press, sup, NoJournal, roll, 0, handles)
+    }
+
+    /// The draft of this ground, which N names, and its roll: nothing is entered.
+    pub(crate) fn draft<N: Name>(self) -> (Draft<N, R>, Roll)
+        requires { (self.press ≡ N.press) × (self.template ≡ N.template) × (self.roll ≡ N.roll) }
+        ensures draft { result.0 ≡ record { history = []; made = 0; handles = self.handles } }
+        ensures roll { result.1 ≡ record { id = N.roll; history = []; made = 0 } }
+    {
+        let Ground {
+            sup,
+            press,
+            roll,
             counts,
             handles,
         } = self;
-        Leaf::begin(press, sup, NoJournal, counts, handles)
+        (Draft::begin(press, sup, counts, handles), roll)
     }
 }

@@ -1,25 +1,27 @@
 //! Handles: the callers of a desk.
-ghost use Rattle.std.specs.Prelude.{◌≡◌, ◌≤◌, ◌<◌, ◌++◌, [], length, take, drop, IfOk, IsOk, OnOk, OnErr, IfErr, IfSome, IfNone, IsTrue, ◌↔◌, ◌+◌, true, false};
+ghost use Rattle.std.specs.Prelude.{◌≡◌, ◌<◌, ◌++◌, [], length, take, drop, IfOk, IsOk, OnOk, OnErr, IfErr, IfSome, IfNone, IsTrue, ◌↔◌, Some, None};
 ghost use mathlib.Core.List.{IsPrefix};
 ghost use Rattle.sup_core.specs.State.{MatchSeen};
 ghost use Rattle.sup_core.specs.Queries.{which, count, child};
-ghost use Rattle.sup_log.specs.Tokens.{sight, history_of};
+ghost use Rattle.sup_log.specs.Tokens.{sight, history_of, in_one_step};
 ghost use Rattle.sup_desk.specs.Asking.{IsAnswered};
-ghost use Rattle.sup_desk.specs.Knowledge.{entries_of};
+ghost use Rattle.sup_desk.specs.Knowledge.{entries_of, with_entries};
 ghost use Rattle.sup_desk.specs.Batches.{IsApplied};
 ghost use Rattle.sup_desk.specs.declared.journal.JournalFault.{JournalFault};
-ghost use Rattle.sup_desk.specs.Books.{IsSplit};
-ghost use Rattle.sup_desk.specs.Results.{IsUpdateResult};
+ghost use Rattle.sup_desk.specs.Books.{IsMade};
+ghost use Rattle.sup_desk.specs.Results.{HasSeenMore, IsUpdateResult};
 ghost use Rattle.sup_desk.specs.Audits.{AreNumbered, IsGrown, HasSeenAll};
 
 use crate::asker::Asker;
 use crate::book::Book;
 use crate::caller::Caller;
 use crate::desk::Desk;
-use crate::faults::{QueryFault, TicketFault, UpdateFault};
-use crate::journal::{Journal, NoJournal};
+use crate::faults::{QueryFault, UpdateFault};
+use crate::journal::{Journal, JournalFault, NoJournal};
 use crate::laws::{Done, Rest, enter, enter_all, give_ticket};
+use crate::leaf::Leaf;
 use crate::name::Name;
+use crate::roll::Claim;
 use std::alloc::{Allocator, Global};
 use std::collections::VecDeque;
 use std::marker::Model;
@@ -48,9 +50,8 @@ pub struct Part<A: Allocator = Global> {
 /// thread. Its queries are its asker's: they take no lock, and each is proved to return.
 #[derive(Drop)]
 pub struct HandleOf<'d, N: Name, D> {
-    pub(crate) number: u64,
+    pub(crate) claim: Claim,
     pub(crate) asker: Asker<N>,
-    pub(crate) calls: u64,
     pub(crate) desk: &'d D,
 }
 
@@ -58,14 +59,14 @@ pub struct HandleOf<'d, N: Name, D> {
 pub type Handle<'d, N, S, R, J = NoJournal> = HandleOf<'d, N, Desk<N, S, R, J>>;
 
 impl<'d, N: Name, D> Model for HandleOf<'d, N, D> {
-    ghost use Rattle.std.specs.Prelude.{◌≡◌, ◌≤◌, length, take};
-    ghost use Rattle.sup_desk.specs.Knowledge.{Knowledge, entries_of};
+    ghost use Rattle.std.specs.Prelude.{◌≡◌};
+    ghost use Rattle.sup_desk.specs.Knowledge.{Knowledge};
 
     ghost Value = { Knowledge };
 
-    ghost view = { λ h. record { number = h.number; editions = h.asker.editions; front = h.asker.front; calls = take h.calls (entries_of h.asker.front h.number) } };
+    ghost view = { λ h. record { number = h.claim.number; editions = h.asker.editions; front = h.asker.front; calls = h.claim.calls } };
 
-    ghost invariant = { λ h. h.calls ≤ length (entries_of h.asker.front h.number) };
+    ghost invariant = { λ h. h.claim.roll ≡ N.roll };
 }
 
 /// Updates. Each waits for the lock, learns all that is published, and is entered in the history at once: its reply is
@@ -176,7 +177,6 @@ impl<'d, N: Name, S: Starter + Drop, R: Wait + Drop, J: Journal + Drop> HandleOf
 
         // When a fault comes.
         ensures gone { IfErr result (λ p. p.fault ≡ UpdateFault.Gone → ⊥) }
-        ensures split { IfErr result (λ p. p.fault ≡ UpdateFault.Split → p.replies.items ≡ []) }
         ensures full { IfErr result (λ p. p.fault ≡ UpdateFault.HistoryFull → length self.new.front ≡ N.template.entries) }
         ensures journal { IfErr result (λ p. (f : JournalFault) → p.fault ≡ UpdateFault.Journal f → (p.replies.items ≡ []) × J.may_fail f) }
     {
@@ -216,91 +216,101 @@ impl<'d, N: Name, S: Starter + Drop, R: Wait + Drop, J: Journal + Drop> HandleOf
 > {
     /// A ticket for all of the history, which the handle has then seen. Its calls are all that stand there under its
     /// number. It waits for the lock.
-    pub fn ticket<W: Wait>(&mut self, rt: &W) -> Result<Ticket, TicketFault>
-        ensures ok { IfOk result (λ t. (entries_of self.new.front self.new.number ≡ self.new.calls) × (t ≡ record { press = N.press; editions = self.new.editions; front = self.new.front })) }
+    pub fn ticket<W: Wait>(&mut self, rt: &W) -> Ticket
+        ensures ticket { result ≡ record { press = N.press; editions = self.new.editions; front = self.new.front } }
+        ensures own { entries_of self.new.front self.new.number ≡ self.new.calls }
         ensures front { IsPrefix self.old.front self.new.front }
         ensures editions { IsPrefix self.old.editions self.new.editions }
         ensures calls { (self.new.calls ≡ self.old.calls) × (self.new.number ≡ self.old.number) }
-        ensures gone { IfErr result (λ e. e ≡ TicketFault.Gone → ⊥) }
     {
         let desk = self.desk;
-        give_ticket(&*desk.book.lock(rt), self)
+        give_ticket(&mut *desk.book.lock(rt), self)
     }
 
-    /// A ticket for all of the history of this book, which the handle has then seen.
-    pub(crate) fn see_all(&mut self, book: &Book<N, R, J>) -> Result<Ticket, TicketFault>
-        ensures seen { OnOk result (HasSeenAll book.now.history self.new) }
-        ensures split { OnErr result (IsSplit book.now self.new) }
+    /// Lets the handle see all of the history of this book.
+    pub(crate) fn see_all(&mut self, book: &mut Book<N, R, J>)
+        ensures seen { HasSeenAll book.old.history self.new }
         ensures grown { IsGrown self.old self.new }
+        ensures same { book.new ≡ book.old }
     {
-        give_ticket(book, self)
+        give_ticket(book, self);
     }
 }
 
 /// What takes no lock and never waits.
 impl<'d, N: Name, D> HandleOf<'d, N, D> {
-    /// Its number: 1, 2, 3, .. in the order of making.
+    /// Its number: 1, 2, 3, .. in the order of making. No other handle of its desk has it.
     pub fn number(&self) -> u64
         ensures { result ≡ self.now.number }
     {
-        self.number
+        self.claim.number()
     }
 
     /// The handle without its desk, and the desk.
     pub fn unbind(self) -> (Caller<N>, &'d D)
         ensures { result.0 ≡ self.entry }
     {
-        let HandleOf {
-            number,
-            asker,
-            calls,
-            desk,
-        } = self;
-        let caller = Caller {
-            number,
-            asker,
-            calls,
-        };
-        (caller, desk)
+        let HandleOf { claim, asker, desk } = self;
+        (Caller { claim, asker }, desk)
     }
 
     /// The handle of this desk that the caller was.
     pub(crate) fn of(caller: Caller<N>, desk: &'d D) -> HandleOf<'d, N, D>
         ensures { result ≡ caller }
     {
-        let Caller {
-            number,
-            asker,
-            calls,
-        } = caller;
-        HandleOf {
-            number,
-            asker,
-            calls,
-            desk,
-        }
+        let Caller { claim, asker } = caller;
+        HandleOf { claim, asker, desk }
     }
 
     /// How many calls it has made.
     pub(crate) fn calls(&self) -> u64
-        ensures count { result ≡ length self.now.calls }
-        ensures first { self.now.calls ≡ take (length self.now.calls) (entries_of self.now.front self.now.number) }
+        ensures { result ≡ length self.now.calls }
     {
-        self.calls
+        self.claim.count()
     }
 
-    /// Takes a ticket's front for its own, which is its front and more calls, all of its own.
-    pub(crate) fn adopt(&mut self, told: &Ticket)
-        requires press { told.now.press ≡ N.press }
-        requires front { IsPrefix self.old.front told.now.front }
-        requires editions { IsPrefix self.old.editions told.now.editions }
-        requires whole { entries_of self.old.front self.old.number ≡ self.old.calls }
-        requires mine { entries_of (drop (length self.old.front) told.now.front) self.old.number ≡ drop (length self.old.front) told.now.front }
-        ensures { self.new ≡ record { number = self.old.number; editions = told.now.editions; front = told.now.front; calls = self.old.calls ++ drop (length self.old.front) told.now.front } }
+    /// Lets the handle see all that is published. Its calls are all of it that stands under its number. A ticket for it.
+    pub(crate) fn meet<R: Wait + Drop, J: Journal + Drop>(
+        &mut self,
+        leaf: &mut Leaf<N, R, J>,
+    ) -> Ticket
+        ensures front { self.new.front ≡ leaf.old.published }
+        ensures editions { self.new.editions ≡ leaf.old.editions }
+        ensures own { entries_of leaf.old.published self.new.number ≡ self.new.calls }
+        ensures made { IsMade leaf.old.made self.new.number }
+        ensures whole { leaf.old.published ≡ history_of leaf.old.editions }
+        ensures ticket { result ≡ record { press = N.press; editions = leaf.old.editions; front = leaf.old.published } }
+        ensures seen { HasSeenMore self.old self.new }
+        ensures calls { (self.new.calls ≡ self.old.calls) × (self.new.number ≡ self.old.number) }
+        ensures same { leaf.new ≡ leaf.old }
     {
-        let more = told.stamp() - self.asker.front();
-        let _ = self.asker.learn(told);
-        self.calls += more;
+        let told = leaf.tell();
+        let _ = self.asker.learn(&told);
+        leaf.covers(self.asker.told());
+        leaf.meet(&mut self.claim);
+        told
+    }
+
+    /// Has what is pending, all of which is its own, recorded and published. A ticket for all that is published then.
+    pub(crate) fn commit<R: Wait + Drop, J: Journal + Drop>(
+        &mut self,
+        leaf: &mut Leaf<N, R, J>,
+    ) -> Result<Ticket, JournalFault>
+        requires going { leaf.old.fault ≡ None }
+        requires front { (self.old.front ≡ leaf.old.published) × (self.old.editions ≡ leaf.old.editions) }
+        requires own { entries_of leaf.old.published self.old.number ≡ self.old.calls }
+        requires made { IsMade leaf.old.made self.old.number }
+        requires mine { entries_of leaf.old.pending self.old.number ≡ leaf.old.pending }
+        ensures leaf { OnOk result (leaf.new ≡ record leaf.old { editions = leaf.old.editions ++ in_one_step leaf.old.pending; published = leaf.old.published ++ leaf.old.pending; pending = [] }) }
+        ensures handle { OnOk result (self.new ≡ with_entries self.old leaf.old.editions leaf.old.published leaf.old.pending) }
+        ensures ticket { IfOk result (λ t. t ≡ record { press = N.press; editions = self.new.editions; front = self.new.front }) }
+        ensures err { IfErr result (λ f. (leaf.new ≡ record leaf.old { fault = Some f }) × J.may_fail f) }
+        ensures kept { OnErr result (self.new ≡ self.old) }
+    {
+        leaf.commit(&mut self.claim)?;
+        let ticket = leaf.tell();
+        let _ = self.asker.learn(&ticket);
+        Ok(ticket)
     }
 
     /// Whether these are handle 1, handle 2, .., in the order of making, as an audit asks for them.

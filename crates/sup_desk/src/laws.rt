@@ -7,8 +7,8 @@ ghost use Rattle.sup_core.specs.Account.{reply_after};
 ghost use Rattle.sup_desk.specs.Knowledge.{entries_of, IsEntryOf, with_entries};
 ghost use Rattle.sup_desk.specs.Results.{HasSeenMore, IsUpdateResult};
 ghost use Rattle.sup_desk.specs.declared.journal.JournalFault.{JournalFault};
-ghost use Rattle.sup_desk.specs.Books.{IsMade, IsSplit, IsLeft, IsOfStep, grown_by, broken_by, with_pending};
-ghost use Rattle.sup_desk.specs.Audits.{AreNumbered, AreGrown, HaveSeenAll, IsAnySplit};
+ghost use Rattle.sup_desk.specs.Books.{IsMade, IsLeft, IsOfStep, grown_by, broken_by, with_pending};
+ghost use Rattle.sup_desk.specs.Audits.{AreNumbered, AreGrown, HaveSeenAll};
 ghost use Rattle.sup_desk.specs.Batches.{AreEntered, AreWritten, IsApplied};
 ghost use Rattle.std.specs.VecDeque.{deque_len};
 
@@ -21,6 +21,7 @@ use crate::handle::HandleOf;
 use crate::journal::{Journal, JournalFault};
 use crate::leaf::Leaf;
 use crate::name::Name;
+use crate::roll::Claim;
 use std::alloc::Allocator;
 use std::collections::VecDeque;
 use std::sync::Wait;
@@ -34,27 +35,21 @@ pub struct Done {
     pub ticket: Ticket,
 }
 
-/// Lets the handle see all of the history, in which its calls are all that stand under its number. A ticket for it.
-fn meet<N: Name, D, R: Wait + Drop, J: Journal + Drop>(
-    book: &Book<N, R, J>,
+/// Gives the handle a ticket for all of the history, in which its calls are all that stand under its number.
+pub fn give_ticket<N: Name, D, R: Wait + Drop, J: Journal + Drop>(
+    book: &mut Book<N, R, J>,
     handle: &mut HandleOf<'_, N, D>,
-) -> Option<Ticket>
-    ensures met { IfSome result (λ t. (handle.new.front ≡ book.now.history) × (entries_of handle.new.front handle.new.number ≡ handle.new.calls) × IsMade book.now.made handle.new.number) }
-    ensures editions { IfSome result (λ t. handle.new.editions ≡ book.now.editions) }
+) -> Ticket
+    ensures ticket { result ≡ record { press = N.press; editions = handle.new.editions; front = handle.new.front } }
+    ensures front { (handle.new.front ≡ book.old.history) × (handle.new.editions ≡ book.old.editions) }
+    ensures own { entries_of handle.new.front handle.new.number ≡ handle.new.calls }
+    ensures made { IsMade book.old.made handle.new.number }
     ensures whole { handle.new.front ≡ history_of handle.new.editions }
-    ensures told { IfSome result (λ t. t ≡ record { press = N.press; editions = handle.new.editions; front = handle.new.front }) }
-    ensures split { IfNone result (IsSplit book.now handle.new) }
-    ensures learnt { IsPrefix book.now.history handle.new.front }
     ensures seen { HasSeenMore handle.old handle.new }
     ensures calls { (handle.new.calls ≡ handle.old.calls) × (handle.new.number ≡ handle.old.number) }
+    ensures same { book.new ≡ book.old }
 {
-    let ticket = book.leaf.tell();
-    let _ = handle.learn(&ticket);
-    if book.leaf.ties(handle, &ticket) {
-        Some(ticket)
-    } else {
-        None
-    }
+    handle.meet(&mut book.leaf)
 }
 
 /// Writes one entry on the leaf: that of the handle with this number, which has made so many before.
@@ -114,7 +109,7 @@ fn enter_one<N: Name, D, S: Starter, R: Wait + Drop, J: Journal + Drop>(
     ensures kept { OnErr result (handle.new ≡ handle.old) }
     ensures left { IfErr result (λ e. IsLeft J.may_fail book.old e book.new) }
     ensures full { IfErr result (λ e. e ≡ UpdateFault.HistoryFull → length book.old.history ≡ N.template.entries) }
-    ensures faults { IfErr result (λ e. (e ≡ UpdateFault.Gone → ⊥) × (e ≡ UpdateFault.Split → ⊥)) }
+    ensures gone { IfErr result (λ e. e ≡ UpdateFault.Gone → ⊥) }
 {
     let reply = write(
         &mut book.leaf,
@@ -124,12 +119,10 @@ fn enter_one<N: Name, D, S: Starter, R: Wait + Drop, J: Journal + Drop>(
         moment,
         operation,
     )?;
-    if let Err(fault) = book.leaf.commit(handle.number()) {
-        return Err(UpdateFault::Journal(fault));
+    match handle.commit(&mut book.leaf) {
+        Ok(ticket) => Ok(Done { reply, ticket }),
+        Err(fault) => Err(UpdateFault::Journal(fault)),
     }
-    let ticket = book.leaf.tell();
-    handle.adopt(&ticket);
-    Ok(Done { reply, ticket })
 }
 
 /// Enters an update of the handle in the book.
@@ -148,14 +141,11 @@ pub fn enter<N: Name, D, S: Starter, R: Wait + Drop, J: Journal + Drop>(
     ensures seen { OnOk result ((handle.new.front ≡ book.new.history) × (handle.new.editions ≡ book.new.editions)) }
     ensures left { IfErr result (λ e. IsLeft J.may_fail book.old e book.new) }
 
-    // When it is Split, and when the journal broke off before.
-    ensures broken { IfSome book.old.fault (λ f. (result ≡ Err UpdateFault.Split) ⊎ (result ≡ Err (UpdateFault.Journal f))) }
+    // When the journal broke off before.
+    ensures broken { IfSome book.old.fault (λ f. result ≡ Err (UpdateFault.Journal f)) }
     ensures learnt { IsPrefix book.old.history handle.new.front }
-    ensures split { IfErr result (λ e. e ≡ UpdateFault.Split → IsSplit book.old handle.new) }
 {
-    if meet(book, handle).is_none() {
-        return Err(UpdateFault::Split);
-    }
+    give_ticket(book, handle);
     if let Some(broken) = book.leaf.fault() {
         return Err(UpdateFault::Journal(broken));
     }
@@ -166,25 +156,25 @@ pub fn enter<N: Name, D, S: Starter, R: Wait + Drop, J: Journal + Drop>(
 fn write_all<N: Name, S: Starter, R: Wait + Drop, J: Journal + Drop, A: Allocator>(
     leaf: &mut Leaf<N, R, J>,
     starter: &S,
-    number: u64,
+    claim: &Claim,
     moment: u64,
     operations: &VecDeque<Operation>,
     replies: &mut Vec<Reply, A>,
 ) -> Option<UpdateFault>
     requires going { leaf.old.fault ≡ None }
     requires clean { leaf.old.pending ≡ [] }
-    requires made { IsMade leaf.old.made number }
+    requires met { entries_of leaf.old.published claim.now.number ≡ claim.now.calls }
     requires none { vec_len replies.old ≡ 0 }
     requires room { deque_len operations.now ≤ vec_capacity replies.old }
-    ensures written { AreWritten S.may_answer N.template leaf.old number moment (take (length replies.new.items) operations.now.items) replies.new.items leaf.new }
+    ensures written { AreWritten S.may_answer N.template leaf.old claim.now.number moment (take (length replies.new.items) operations.now.items) replies.new.items leaf.new }
     ensures within { length replies.new.items ≤ length operations.now.items }
     ensures all { IfNone result (length replies.new.items ≡ length operations.now.items) }
     ensures full { IfSome result (λ e. e ≡ UpdateFault.HistoryFull → length (leaf.new.published ++ leaf.new.pending) ≡ N.template.entries) }
     ensures faults { IfSome result (λ e. IsOfStep e) }
 {
     'queue: while let Some(operation) = operations.get(replies.len()) {
-        let serial = leaf.serial(number);
-        match write(leaf, starter, number, serial, moment, *operation) {
+        let serial = leaf.serial(claim);
+        match write(leaf, starter, claim.number(), serial, moment, *operation) {
             Ok(reply) => replies.push_reserved(reply),
             Err(fault) => return Some(fault),
         }
@@ -234,19 +224,22 @@ fn enter_met<N: Name, D, S: Starter, R: Wait + Drop, J: Journal + Drop, A: Alloc
     let fault = write_all(
         &mut book.leaf,
         starter,
-        handle.number(),
+        &handle.claim,
         moment,
         operations,
         replies,
     );
-    if let Err(broken) = book.leaf.commit(handle.number()) {
-        replies.clear();
-        return Err(broken);
+    let committed = handle.commit(&mut book.leaf);
+    match committed {
+        Ok(ticket) => {
+            drop_first(operations, replies.len());
+            Ok((ticket, fault))
+        }
+        Err(broken) => {
+            replies.clear();
+            Err(broken)
+        }
     }
-    let ticket = book.leaf.tell();
-    handle.adopt(&ticket);
-    drop_first(operations, replies.len());
-    Ok((ticket, fault))
 }
 
 /// Why operations were left in a queue, and a ticket for those that were entered, if there are any.
@@ -293,17 +286,11 @@ pub fn enter_all<N: Name, D, S: Starter, R: Wait + Drop, J: Journal + Drop, A: A
     // When each refusal comes.
     ensures learnt { IsPrefix book.old.history handle.new.front }
     ensures gone { IfErr result (λ r. r.fault ≡ UpdateFault.Gone → ⊥) }
-    ensures split { IfErr result (λ r. r.fault ≡ UpdateFault.Split → (replies.new.items ≡ []) × IsSplit book.old handle.new) }
     ensures full { IfErr result (λ r. r.fault ≡ UpdateFault.HistoryFull → length handle.new.front ≡ N.template.entries) }
     ensures journal { IfErr result (λ r. (f : JournalFault) → r.fault ≡ UpdateFault.Journal f → (replies.new.items ≡ []) × (book.new.fault ≡ Some f) × J.may_fail f) }
-    ensures broken { IfSome book.old.fault (λ f. IfErr result (λ r. (r.fault ≡ UpdateFault.Split) ⊎ (r.fault ≡ UpdateFault.Journal f)) × IfOk result (λ _. ⊥)) }
+    ensures broken { IfSome book.old.fault (λ f. IfErr result (λ r. r.fault ≡ UpdateFault.Journal f) × IfOk result (λ _. ⊥)) }
 {
-    if meet(book, handle).is_none() {
-        return Err(Rest {
-            ticket: None,
-            fault: UpdateFault::Split,
-        });
-    }
+    give_ticket(book, handle);
     if let Some(fault) = book.leaf.fault() {
         return Err(broken_off(fault));
     }
@@ -326,21 +313,6 @@ pub fn enter_all<N: Name, D, S: Starter, R: Wait + Drop, J: Journal + Drop, A: A
     })
 }
 
-/// Gives the handle a ticket for all of the history, in which its calls are all that stand under its number.
-pub fn give_ticket<N: Name, D, R: Wait + Drop, J: Journal + Drop>(
-    book: &Book<N, R, J>,
-    handle: &mut HandleOf<'_, N, D>,
-) -> Result<Ticket, TicketFault>
-    ensures ok { IfOk result (λ t. (handle.new.front ≡ book.now.history) × (entries_of handle.new.front handle.new.number ≡ handle.new.calls) × (t ≡ record { press = N.press; editions = handle.new.editions; front = handle.new.front })) }
-    ensures seen { HasSeenMore handle.old handle.new }
-    ensures calls { (handle.new.calls ≡ handle.old.calls) × (handle.new.number ≡ handle.old.number) }
-    ensures learnt { IsPrefix book.now.history handle.new.front }
-    ensures gone { IfErr result (λ e. e ≡ TicketFault.Gone → ⊥) }
-    ensures split { OnErr result (IsSplit book.now handle.new) }
-{
-    meet(book, handle).ok_or(TicketFault::Split)
-}
-
 /// Makes the caller of a handle. It has seen all of the history, and no entry is its own.
 pub fn add_handle<N: Name, R: Wait + Drop, J: Journal + Drop>(
     book: &mut Book<N, R, J>,
@@ -353,29 +325,8 @@ pub fn add_handle<N: Name, R: Wait + Drop, J: Journal + Drop>(
     if book.leaf.has_all() {
         return Err(HandleFault::NoHandle);
     }
-    let number = book.leaf.made() + 1;
     match book.leaf.add() {
-        Ok(lens) => Ok(Caller::begin(number, Asker::begin(lens))),
-        Err(_) => Err(HandleFault::NoPlace),
-    }
-}
-
-/// Makes the caller of a handle that was made before. It has seen all of the history, and made all entries under its number. The
-/// book is as it was.
-pub fn resume_handle<N: Name, R: Wait + Drop, J: Journal + Drop>(
-    book: &mut Book<N, R, J>,
-    number: u64,
-) -> Result<Caller<N>, HandleFault>
-    ensures ok { IfOk result (λ c. c ≡ record { number = number; editions = book.old.editions; front = book.old.history; calls = entries_of book.old.history number }) }
-    ensures same { book.new ≡ book.old }
-    ensures none { (result ≡ Err HandleFault.NoHandle) ↔ ¬ IsMade book.old.made number }
-{
-    if number == 0 || number > book.leaf.made() {
-        return Err(HandleFault::NoHandle);
-    }
-    let calls = book.leaf.calls_of(number);
-    match book.leaf.lens() {
-        Ok(lens) => Ok(Caller::again(number, Asker::begin(lens), calls)),
+        Ok((lens, claim)) => Ok(Caller::begin(claim, Asker::begin(lens))),
         Err(_) => Err(HandleFault::NoPlace),
     }
 }
@@ -391,26 +342,24 @@ pub fn add_asker<N: Name, R: Wait + Drop, J: Journal + Drop>(
 }
 
 /// Lets the handles see all of the history, and shows that it is their calls and nothing else: they are as many as were
-/// made, in the order of making. After a refusal they may have seen more.
+/// made, in the order of making. Split where they are not; then nothing has changed.
 pub fn audit<N: Name, S: Starter + Drop, R: Wait + Drop, J: Journal + Drop>(
-    book: &Book<N, R, J>,
+    book: &mut Book<N, R, J>,
     handles: &mut [HandleOf<'_, N, Desk<N, S, R, J>>],
 ) -> Result<Ticket, TicketFault>
     requires { AreNumbered handles.old }
-    ensures all { OnOk result (length handles.new ≡ book.now.made) }
-    ensures ok { IfOk result (λ t. HaveSeenAll book.now.history handles.new (length handles.new) × (t ≡ record { press = N.press; editions = book.now.editions; front = book.now.history })) }
+    ensures ok { IfOk result (λ t. HaveSeenAll book.old.history handles.new (length handles.new) × (t ≡ record { press = N.press; editions = book.old.editions; front = book.old.history })) }
     ensures whole { IfOk result (λ t. All (λ entry. IsMade (length handles.new) entry.handle) t.front) }
     ensures grown { AreGrown handles.old handles.new }
+    ensures same { book.new ≡ book.old }
+    ensures split { (result ≡ Err TicketFault.Split) ↔ ¬ (length handles.new ≡ book.old.made) }
     ensures gone { IfErr result (λ e. e ≡ TicketFault.Gone → ⊥) }
-    ensures split { OnErr result (¬ (length handles.new ≡ book.now.made) ⊎ IsAnySplit book.now handles.new) }
 {
     if handles.len() as u64 != book.leaf.made() {
         return Err(TicketFault::Split);
     }
     for handle in handles.iter_mut() {
-        if handle.see_all(book).is_err() {
-            return Err(TicketFault::Split);
-        }
+        handle.see_all(book);
     }
     Ok(book.leaf.tell())
 }

@@ -1,49 +1,52 @@
 //! What the book holds, with entries that are not yet published.
-ghost use Rattle.std.specs.Prelude.{◌≡◌, ◌+◌, ◌-◌, ◌<◌, ◌≤◌, ◌^◌, slice_index, slice_set, ◌++◌, ◌∷◌, [], length, All, ◌⊎◌, MatchBool, MatchResult, IfOk, OnOk, OnErr, IfErr, IfSome, Some, None, true, false, vec_len, vec_capacity};
+ghost use Rattle.std.specs.Prelude.{◌≡◌, ◌+◌, ◌<◌, ◌≤◌, ◌++◌, ◌∷◌, [], length, All, IfOk, OnOk, OnErr, IfErr, IfSome, Some, None, true, false};
 ghost use mathlib.Core.List.{IsPrefix};
 ghost use Rattle.sup_core.specs.Account.{state_after, reply_after};
 ghost use Rattle.sup_core.specs.Replies.{asked_argument};
 ghost use Rattle.sup_log.specs.Tokens.{standing, history_of, in_one_step};
 ghost use Rattle.sup_desk.specs.Knowledge.{entries_of};
-ghost use Rattle.sup_desk.specs.Books.{IsMade, IsSplit};
+ghost use Rattle.sup_desk.specs.Books.{IsMade};
+ghost use Rattle.sup_desk.specs.Rolls.{IsEnrolled};
 ghost use Rattle.sup_desk.specs.Journals.{IsKept};
 
-use crate::handle::HandleOf;
 use crate::journal::{Journal, JournalFault, NoJournal};
 use crate::name::Name;
+use crate::roll::{Claim, Roll};
 use std::marker::{Model, PhantomData};
 use std::sync::Wait;
 use sup_core::{Asked, Sup};
 use sup_log::{Lens, NoPlace, Press, Ticket};
 use sup_types::{Entry, Operation, OutOfMemory, Reply};
 
-/// A supervisor in the state after all that was written, the press, the journal and its fault, if it broke off, and how many
-/// published entries each handle has made.
+/// A supervisor in the state after all that was written, the press, the journal and its fault, if it broke off, and the roll of
+/// the handles, on which all that is published was entered.
 #[derive(Drop)]
 pub struct Leaf<N: Name, R: Wait + Drop, J: Journal + Drop> {
     sup: Sup,
     press: Press<R>,
     journal: J,
     fault: Option<JournalFault>,
-    counts: Vec<u64>,
+    roll: Roll,
+    made: u64,
     handles: u64,
     of: PhantomData<N>,
 }
 
 impl<N: Name, R: Wait + Drop, J: Journal + Drop> Model for Leaf<N, R, J> {
-    ghost use Rattle.std.specs.Prelude.{◌≡◌, ◌≤◌, ◌++◌, vec_len, vec_capacity};
+    ghost use Rattle.std.specs.Prelude.{◌≡◌, ◌≤◌, ◌++◌};
     ghost use Rattle.sup_log.specs.Tokens.{standing, history_of};
-    ghost use Rattle.sup_desk.specs.Books.{Written, IsCounted};
+    ghost use Rattle.sup_desk.specs.Books.{Written};
+    ghost use Rattle.sup_desk.specs.Rolls.{IsEnrolled};
     ghost use Rattle.sup_desk.specs.Journals.{IsKept};
 
     ghost Value = { Written };
 
-    ghost view = { λ l. record { editions = l.press.editions; published = l.press.published; pending = l.press.pending; made = vec_len l.counts; handles = l.handles; fault = l.fault } };
+    ghost view = { λ l. record { editions = l.press.editions; published = l.press.published; pending = l.press.pending; made = l.made; handles = l.handles; fault = l.fault } };
 
     ghost invariant = { λ l. (l.press.press ≡ N.press) × (l.press.template ≡ N.template) × (l.press.published ≡ history_of l.press.editions)
         × (l.sup ≡ standing N.template (l.press.published ++ l.press.pending))
-        × IsCounted (vec_len l.counts) l.counts.items l.press.published
-        × (vec_len l.counts ≤ l.handles) × (l.handles ≤ vec_capacity l.counts) × (l.handles ≤ 1024)
+        × IsEnrolled N.roll l.press.published l.made l.roll
+        × (l.made ≤ l.handles) × (l.handles ≤ 1024)
         × IsKept (J.has l.journal N.template) (J.is_torn l.journal N.template) J.may_fail l.fault l.press.published l.press.pending };
 }
 
@@ -57,7 +60,8 @@ impl<N: Name, R: Wait + Drop> Leaf<N, R, NoJournal> {
         let Leaf {
             sup,
             press,
-            counts,
+            roll,
+            made,
             handles,
             of,
             ..
@@ -67,7 +71,8 @@ impl<N: Name, R: Wait + Drop> Leaf<N, R, NoJournal> {
             press,
             journal,
             fault: None,
-            counts,
+            roll,
+            made,
             handles,
             of,
         }
@@ -82,37 +87,30 @@ pub struct Closed<J> {
     pub fault: Option<JournalFault>,
 }
 
-/// So many entries more of the handle with this number, which has no more than there may be in a history.
-fn count_more(counts: &mut Vec<u64>, number: u64, more: u64)
-    requires made { IsMade (vec_len counts.old) number }
-    requires room { slice_index counts.old.items (number - 1) + more < 2 ^ 63 }
-    ensures items { counts.new.items ≡ slice_set counts.old.items (number - 1) (slice_index counts.old.items (number - 1) + more) }
-    ensures len { (vec_len counts.new ≡ vec_len counts.old) × (vec_capacity counts.new ≡ vec_capacity counts.old) }
-{
-    counts[(number - 1) as usize] += more;
-}
-
 impl<N: Name, R: Wait + Drop, J: Journal + Drop> Leaf<N, R, J> {
-    /// Nothing is written, and no handle was made.
+    /// A leaf with this roll, on which all that the press has published was entered. Nothing is pending.
     pub fn begin(
         press: Press<R>,
         sup: Sup,
         journal: J,
-        counts: Vec<u64>,
+        roll: Roll,
+        made: u64,
         handles: u64,
     ) -> Leaf<N, R, J>
-        requires journal { J.has journal N.template [] [] }
-        requires press { (press.press ≡ N.press) × (press.template ≡ N.template) × (press.pending ≡ []) × (press.published ≡ []) × (press.editions ≡ []) }
-        requires sup { sup ≡ standing N.template [] }
-        requires counts { (vec_len counts ≡ 0) × (handles ≤ vec_capacity counts) × (handles ≤ 1024) }
-        ensures { result ≡ record { editions = []; published = []; pending = []; made = 0; handles = handles; fault = None } }
+        requires journal { J.has journal N.template press.published [] }
+        requires press { (press.press ≡ N.press) × (press.template ≡ N.template) × (press.pending ≡ []) × (press.published ≡ history_of press.editions) }
+        requires sup { sup ≡ standing N.template press.published }
+        requires roll { IsEnrolled N.roll press.published made roll }
+        requires handles { (made ≤ handles) × (handles ≤ 1024) }
+        ensures { result ≡ record { editions = press.editions; published = press.published; pending = []; made = made; handles = handles; fault = None } }
     {
         Leaf {
             sup,
             press,
             journal,
             fault: None,
-            counts,
+            roll,
+            made,
             handles,
             of: PhantomData,
         }
@@ -123,22 +121,7 @@ impl<N: Name, R: Wait + Drop, J: Journal + Drop> Leaf<N, R, J> {
         ensures made { result ≡ self.now.made }
         ensures entries { All (λ entry. IsMade self.now.made entry.handle) self.now.published }
     {
-        self.counts.len() as u64
-    }
-
-    /// How many handles there may be.
-    pub fn handles(&self) -> u64
-        ensures { result ≡ self.now.handles }
-    {
-        self.handles
-    }
-
-    /// How many published entries the handle with this number has made.
-    pub fn calls_of(&self, number: u64) -> u64
-        requires { IsMade self.now.made number }
-        ensures { result ≡ length (entries_of self.now.published number) }
-    {
-        self.counts[(number - 1) as usize]
+        self.made
     }
 
     /// Whether as many handles were made as there may be.
@@ -146,27 +129,21 @@ impl<N: Name, R: Wait + Drop, J: Journal + Drop> Leaf<N, R, J> {
         ensures all { result ≡ true → self.now.made ≡ self.now.handles }
         ensures room { result ≡ false → (self.now.made < self.now.handles) × (self.now.handles ≤ 1024) }
     {
-        self.counts.len() as u64 >= self.handles
+        self.made >= self.handles
     }
 
-    /// One handle more was made.
-    pub fn count_handle(&mut self)
+    /// A lens that has seen all that was published, and the claim of one handle more. After a refusal nothing has changed.
+    pub fn add(&mut self) -> Result<(Lens, Claim), NoPlace>
         requires { self.old.made < self.old.handles }
-        ensures { self.new ≡ record self.old { made = self.old.made + 1 } }
-    {
-        self.counts.push_reserved(0);
-    }
-
-    /// A lens that has seen all that was published, for one handle more. After a refusal nothing has changed.
-    pub fn add(&mut self) -> Result<Lens, NoPlace>
-        requires { self.old.made < self.old.handles }
-        ensures ok { IfOk result (λ l. (l ≡ record { press = N.press; template = N.template; editions = self.old.editions; front = self.old.published }) × (self.new ≡ record self.old { made = self.old.made + 1 })) }
+        ensures ok { IfOk result (λ p. (p.0 ≡ record { press = N.press; template = N.template; editions = self.old.editions; front = self.old.published })
+            × (p.1 ≡ record { roll = N.roll; number = self.old.made + 1; calls = [] }) × (self.new ≡ record self.old { made = self.old.made + 1 })) }
         ensures none { entries_of self.old.published (self.old.made + 1) ≡ [] }
         ensures err { OnErr result (self.new ≡ self.old) }
     {
         let lens = self.press.lens()?;
-        self.count_handle();
-        Ok(lens)
+        let claim = self.roll.open(self.made + 1, 0);
+        self.made += 1;
+        Ok((lens, claim))
     }
 
     /// A lens that has seen all that was published. Nothing else has changed.
@@ -192,41 +169,31 @@ impl<N: Name, R: Wait + Drop, J: Journal + Drop> Leaf<N, R, J> {
         self.fault
     }
 
-    /// Whether the handle has seen no more than what is published, which is told, and made all published entries under its
-    /// number.
-    pub fn ties<D>(&self, handle: &HandleOf<'_, N, D>, told: &Ticket) -> bool
-        requires told { told.now ≡ record { press = N.press; editions = self.now.editions; front = self.now.published } }
-        requires learnt { IsPrefix self.now.published handle.now.front }
-        requires editions { IsPrefix self.now.editions handle.now.editions }
-        ensures tied { result ≡ true → (handle.now.front ≡ self.now.published) × (entries_of self.now.published handle.now.number ≡ handle.now.calls) × IsMade self.now.made handle.now.number }
-        ensures editions { result ≡ true → handle.now.editions ≡ self.now.editions }
-        ensures whole { handle.now.front ≡ history_of handle.now.editions }
-        ensures split { result ≡ false → IsSplit (record { editions = self.now.editions; history = self.now.published; made = self.now.made; handles = self.now.handles; fault = self.now.fault }) handle.now }
+    /// Shows that a ticket of this desk tells no more than is published.
+    pub fn covers(&self, told: &Ticket)
+        requires { told.now.press ≡ N.press }
+        ensures { IsPrefix told.now.front self.now.published × IsPrefix told.now.editions self.now.editions }
     {
-        if handle.front() != told.stamp() {
-            return false;
-        }
-        self.counts_as(handle.number(), handle.calls())
+        self.press.covers(told);
     }
 
-    /// Whether so many published entries were made under this number.
-    fn counts_as(&self, number: u64, calls: u64) -> bool
-        ensures yes { result ≡ true → IsMade self.now.made number × (length (entries_of self.now.published number) ≡ calls) }
-        ensures no { result ≡ false → ¬ (IsMade self.now.made number × (length (entries_of self.now.published number) ≡ calls)) }
+    /// Shows that what is published under a claim's number is its calls, and that its handle was made.
+    pub fn meet(&mut self, claim: &mut Claim)
+        requires { claim.old.roll ≡ N.roll }
+        ensures met { entries_of self.old.published claim.old.number ≡ claim.old.calls }
+        ensures made { IsMade self.old.made claim.old.number }
+        ensures same { (self.new ≡ self.old) × (claim.new ≡ claim.old) }
     {
-        if number == 0 || number > self.counts.len() as u64 {
-            return false;
-        }
-        self.counts[(number - 1) as usize] == calls
+        self.roll.meet(claim);
     }
 
-    /// How many entries the handle with this number has made. All that is pending is its own.
-    pub fn serial(&self, number: u64) -> u64
-        requires made { IsMade self.now.made number }
-        requires mine { entries_of self.now.pending number ≡ self.now.pending }
-        ensures { result ≡ length (entries_of (self.now.published ++ self.now.pending) number) }
+    /// How many entries the handle with this claim has made. All that is pending is its own.
+    pub fn serial(&self, claim: &Claim) -> u64
+        requires met { entries_of self.now.published claim.now.number ≡ claim.now.calls }
+        requires mine { entries_of self.now.pending claim.now.number ≡ self.now.pending }
+        ensures { result ≡ length (entries_of (self.now.published ++ self.now.pending) claim.now.number) }
     {
-        self.counts[(number - 1) as usize] + self.press.pending().len() as u64
+        claim.count() + self.press.pending().len() as u64
     }
 
     /// Whether there are all the entries that there may be.
@@ -262,21 +229,23 @@ impl<N: Name, R: Wait + Drop, J: Journal + Drop> Leaf<N, R, J> {
         Ok(self.sup.step_asked(entry, asked))
     }
 
-    /// Has the journal record what is pending, which is all of the handle with this number, and then publishes it as one
+    /// Has the journal record what is pending, which is all of the handle with this claim, and then publishes it as one
     /// publication. Where the journal breaks off, nothing is published.
-    pub fn commit(&mut self, number: u64) -> Result<(), JournalFault>
+    pub fn commit(&mut self, claim: &mut Claim) -> Result<(), JournalFault>
         requires whole { self.old.fault ≡ None }
-        requires made { IsMade self.old.made number }
-        requires mine { entries_of self.old.pending number ≡ self.old.pending }
+        requires roll { claim.old.roll ≡ N.roll }
+        requires made { IsMade self.old.made claim.old.number }
+        requires met { entries_of self.old.published claim.old.number ≡ claim.old.calls }
+        requires mine { entries_of self.old.pending claim.old.number ≡ self.old.pending }
         ensures ok { OnOk result (self.new ≡ record self.old { editions = self.old.editions ++ in_one_step self.old.pending; published = self.old.published ++ self.old.pending; pending = [] }) }
-        ensures err { IfErr result (λ f. (self.new ≡ record self.old { fault = Some f }) × J.may_fail f) }
+        ensures claim { OnOk result (claim.new ≡ record claim.old { calls = claim.old.calls ++ self.old.pending }) }
+        ensures err { IfErr result (λ f. (self.new ≡ record self.old { fault = Some f }) × (claim.new ≡ claim.old) × J.may_fail f) }
     {
         if let Err(fault) = self.journal.record() {
             self.fault = Some(fault);
             return Err(fault);
         }
-        let more = self.press.pending().len() as u64;
-        count_more(&mut self.counts, number, more);
+        self.roll.enter(claim, self.press.pending());
         self.press.publish();
         Ok(())
     }

@@ -1,22 +1,27 @@
 //! Names for desks.
 use std::marker::Brand;
 
-/// Names a desk: its press, and the template of its supervisor. A value behind a lock is known by its type alone, so
-/// the type says which press it is.
+/// Names a desk: its press, the template of its supervisor, and the roll of its handles. A value behind a lock is known by
+/// its type alone, so the type says which press and which roll it is.
 pub trait Name {
     ghost use Rattle.logbook.specs.Pages.{Book};
     ghost use Rattle.sup_types.specs.declared.template.Template.{Template};
+    ghost use Rattle.atomic_table.specs.Seated.{TableId};
 
     ghost press: { Book };
 
     ghost template: { Template };
+
+    ghost roll: { TableId };
 }
 
 impl Name for Brand {
     ghost use Rattle.sup_log.specs.Fronts.{no_template};
-    ghost use Rattle.sup_desk.specs.Books.{no_press};
+    ghost use Rattle.sup_desk.specs.Books.{no_press, no_roll};
 
     ghost press = { no_press };
 
     ghost template = { no_template };
+
+    ghost roll = { no_roll };
 }

@@ -3,7 +3,8 @@ ghost use Rattle.std.specs.Prelude.{◌≡◌, ◌≤◌, ◌↔◌, [], IfOk, I
 ghost use Rattle.sup_desk.specs.Journals.{HasJust};
 ghost use Rattle.sup_desk.specs.Recoveries.{IsCauseOf};
 
-use crate::desk::Desk;
+use crate::caller::Caller;
+use crate::desk::{Desk, Recovered};
 use crate::faults::DeskFault;
 use crate::ground::Ground;
 use crate::journal::Journal;
@@ -30,8 +31,14 @@ pub trait JournaledProgram<S: Starter + Drop, R: Wait, J: Journal + Drop> {
     /// What comes of it.
     type Outcome: Drop;
 
-    /// Uses the desk, as a [`Program`] does.
-    fn run<N: Name + Send + Sync>(self, rt: &R, desk: &Desk<N, S, &R, J>) -> Self::Outcome;
+    /// Uses the desk, as a [`Program`] does. `before` are the callers of the history that the desk goes on from, in the order of
+    /// their numbers: none on a new desk.
+    fn run<N: Name + Send + Sync>(
+        self,
+        rt: &R,
+        desk: &Desk<N, S, &R, J>,
+        before: Vec<Caller<N>>,
+    ) -> Self::Outcome;
 }
 
 /// Makes a desk for a supervisor of this template, for so many handles at a time, 1 to 1,024 of them, and runs the program on
@@ -58,7 +65,7 @@ fn run_named<N: Name + Send + Sync, S: Starter + Drop, R: Wait, P: Program<S, R>
     starter: S,
     program: P,
 ) -> P::Outcome
-    requires { (ground.press ≡ N.press) × (ground.template ≡ N.template) }
+    requires { (ground.press ≡ N.press) × (ground.template ≡ N.template) × (ground.roll ≡ N.roll) }
 {
     let desk: Desk<N, S, &R> = Desk::new(ground, starter);
     program.run(rt, &desk)
@@ -106,12 +113,14 @@ fn run_recorded<
     entries: &[Entry],
     program: P,
 ) -> Result<(P::Outcome, Closed<J>), RecoverFault>
-    requires name { (ground.press ≡ N.press) × (ground.template ≡ N.template) }
+    requires name { (ground.press ≡ N.press) × (ground.template ≡ N.template) × (ground.roll ≡ N.roll) }
     requires journal { J.has journal N.template entries.now [] }
     ensures journal { IfOk result (λ p. HasJust (J.has p.1.journal N.template) (J.is_torn p.1.journal N.template) J.may_fail p.1.fault p.1.ticket.front) }
     ensures err { IfErr result (λ f. IsCauseOf f N.template ground.entry.handles entries.now) }
 {
-    let (desk, _) = Desk::<N, S, &R, J>::recover(ground, starter, journal, entries)?;
-    let outcome = program.run(rt, &desk);
+    let Recovered { desk, callers, .. } = Desk::<N, S, &R, J>::recover(
+        ground, starter, journal, entries,
+    )?;
+    let outcome = program.run(rt, &desk, callers);
     Ok((outcome, desk.close()))
 }

@@ -1,10 +1,13 @@
 //! Recovery: a desk goes on from a history of before.
-ghost use Rattle.std.specs.Prelude.{◌≡◌, ◌≤◌, ◌++◌, ◌∷◌, [], OnOk, IfOk, IfErr, None};
-ghost use Rattle.sup_log.specs.Tokens.{in_one_step};
+ghost use Rattle.std.specs.Prelude.{◌≡◌, [], length, IfOk, IfErr, None};
+ghost use Rattle.sup_desk.specs.Audits.{AreNumbered, HaveSeenAll};
 ghost use Rattle.sup_desk.specs.Faults.{recover_fault_number, desk_fault_number};
-ghost use Rattle.sup_desk.specs.Recoveries.{IsCauseOf, StopsAt};
+ghost use Rattle.sup_desk.specs.Recoveries.{IsCauseOf};
 
+use crate::caller::Caller;
+use crate::draft::Draft;
 use crate::faults::DeskFault;
+use crate::ground::Ground;
 use crate::journal::NoJournal;
 use crate::leaf::Leaf;
 use crate::name::Name;
@@ -54,57 +57,35 @@ impl From<DeskFault> for RecoverFault {
     }
 }
 
-/// Counts handles as made, up to this number.
-fn count_to<N: Name, R: Wait + Drop>(leaf: &mut Leaf<N, R, NoJournal>, number: u64)
-    requires { number ≤ leaf.old.handles }
-    ensures made { number ≤ leaf.new.made }
-    ensures same { leaf.new ≡ record leaf.old { made = leaf.new.made } }
+/// Enters the entries of before, in order, one after another.
+pub fn enter_again<N: Name, R: Wait + Drop>(
+    draft: Draft<N, R>,
+    entries: &[Entry],
+) -> Result<Draft<N, R>, RecoverFault>
+    requires { draft.history ≡ [] }
+    ensures ok { IfOk result (λ d. d.history ≡ entries.now) }
+    ensures err { IfErr result (λ f. IsCauseOf f N.template draft.handles entries.now) }
 {
-    'counting: while leaf.made() < number {
-        leaf.count_handle();
+    let mut draft = draft;
+    for entry in entries {
+        draft.enter(*entry)?;
     }
+    Ok(draft)
 }
 
-/// Publishes an entry of before.
-fn again<N: Name, R: Wait + Drop>(
-    leaf: &mut Leaf<N, R, NoJournal>,
-    entry: Entry,
-) -> Result<(), RecoverFault>
-    requires clean { (leaf.old.fault ≡ None) × (leaf.old.pending ≡ []) }
-    ensures ok { OnOk result ((leaf.new.fault ≡ None) × (leaf.new.pending ≡ []) × (leaf.new.published ≡ leaf.old.published ++ entry ∷ []) × (leaf.new.handles ≡ leaf.old.handles)) }
-    ensures err { IfErr result (λ f. StopsAt f N.template leaf.old.handles leaf.old.published entry) }
+/// The leaf of a ground, which N names, on which a history of before is published, and the callers that have made it.
+pub fn recover_leaf<N: Name, R: Wait + Drop>(
+    ground: Ground<R>,
+    entries: &[Entry],
+) -> Result<(Leaf<N, R, NoJournal>, Vec<Caller<N>>), RecoverFault>
+    requires { (ground.press ≡ N.press) × (ground.template ≡ N.template) × (ground.roll ≡ N.roll) }
+    ensures leaf { IfOk result (λ p. (p.0.fault ≡ None) × (p.0.pending ≡ []) × (p.0.published ≡ entries.now) × (p.0.made ≡ length p.1.items)) }
+    ensures callers { IfOk result (λ p. AreNumbered p.1.items × HaveSeenAll entries.now p.1.items (length p.1.items)) }
+    ensures err { IfErr result (λ f. IsCauseOf f N.template ground.handles entries.now) }
 {
-    let number = entry.handle;
-    if number == 0 || number > leaf.handles() {
-        return Err(RecoverFault::NoHandle);
-    }
-    if leaf.is_full() {
-        return Err(RecoverFault::HistoryFull);
-    }
-    count_to(leaf, number);
-    let asked = leaf.asks(&entry.operation, entry.moment);
-    if leaf.append(entry, &asked).is_err() {
-        return Err(RecoverFault::OutOfMemory);
-    }
-    match leaf.commit(number) {
-        Ok(()) => Ok(()),
-        // (no journal fails)
+    let (draft, roll) = ground.draft();
+    match enter_again(draft, entries)?.enrol(roll, entries) {
+        Ok(recovered) => Ok(recovered),
         Err(_) => Err(RecoverFault::OutOfMemory),
     }
-}
-
-/// Publishes the entries of before, in order, one after another.
-pub fn enter_again<N: Name, R: Wait + Drop>(
-    leaf: Leaf<N, R, NoJournal>,
-    entries: &[Entry],
-) -> Result<Leaf<N, R, NoJournal>, RecoverFault>
-    requires clean { (leaf.fault ≡ None) × (leaf.pending ≡ []) × (leaf.published ≡ []) }
-    ensures ok { IfOk result (λ l. (l.fault ≡ None) × (l.pending ≡ []) × (l.published ≡ entries.now)) }
-    ensures err { IfErr result (λ f. IsCauseOf f N.template leaf.handles entries.now) }
-{
-    let mut leaf = leaf;
-    for entry in entries {
-        again(&mut leaf, *entry)?;
-    }
-    Ok(leaf)
 }

@@ -172,14 +172,8 @@ fn is_running<N: Name, S: Starter + Drop, R: Wait + Abort>(
 }
 
 /// The stamp of the ticket that the handle gives.
-fn stamp<N: Name, S: Starter + Drop, R: Wait>(
-    rt: &R,
-    handle: &mut Handle<'_, N, S, &R>,
-) -> Option<u64> {
-    match handle.ticket(rt) {
-        Ok(ticket) => Some(ticket.stamp()),
-        Err(_) => None,
-    }
+fn stamp<N: Name, S: Starter + Drop, R: Wait>(rt: &R, handle: &mut Handle<'_, N, S, &R>) -> u64 {
+    handle.ticket(rt).stamp()
 }
 
 /// The update was entered, and the handle learns its ticket. The reply.

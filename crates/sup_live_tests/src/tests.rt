@@ -93,7 +93,7 @@ where
     N: Name + Send + Sync,
     T: Program<N, Counting<'a>, Journal = NoJournal, Outcome = u64> + Drop,
     R: Threads + Wait + Clock + RandomSource + AllocGlobal + Sync,
-    requires { (ground.press ≡ N.press) × (ground.template ≡ N.template) }
+    requires { (ground.press ≡ N.press) × (ground.template ≡ N.template) × (ground.roll ≡ N.roll) }
 {
     let desk: Desk<N, NotAtFive, &R> = Desk::new(ground, NotAtFive);
     let behaviour = Counting { board };
@@ -130,7 +130,7 @@ where
     N: Name + Send + Sync,
     T: Program<N, Counting<'a>, Journal = Keeps, Outcome = u64> + Drop,
     R: Threads + Wait + Clock + RandomSource + AllocGlobal + Sync,
-    requires { (ground.press ≡ N.press) × (ground.template ≡ N.template) }
+    requires { (ground.press ≡ N.press) × (ground.template ≡ N.template) × (ground.roll ≡ N.roll) }
 {
     let journal = Keeps::new(records);
     let desk: Desk<N, NotAtFive, &R, Keeps> = Desk::with_journal(ground, NotAtFive, journal);
@@ -173,7 +173,7 @@ fn serve<N: Name + Send + Sync, R: Threads + Wait + Clock + RandomSource + Alloc
     ground: Ground<&R>,
     board: &Board,
 ) -> Option<Told>
-    requires { (ground.press ≡ N.press) × (ground.template ≡ N.template) }
+    requires { (ground.press ≡ N.press) × (ground.template ≡ N.template) × (ground.roll ≡ N.roll) }
 {
     let desk: Desk<N, NotAtFive, &R> = Desk::new(ground, NotAtFive);
     let behaviour = Counting { board };
@@ -207,7 +207,7 @@ fn crash<N: Name + Send + Sync, R: Threads + Wait + Clock + RandomSource + Alloc
     ground: Ground<&R>,
     board: &Board,
 ) -> Option<Recorded>
-    requires { (ground.press ≡ N.press) × (ground.template ≡ N.template) }
+    requires { (ground.press ≡ N.press) × (ground.template ≡ N.template) × (ground.roll ≡ N.roll) }
 {
     record::<N, Crashes, R>(rt, ground, board, 100, Crashes { board })
 }
@@ -217,7 +217,7 @@ fn break_off<N: Name + Send + Sync, R: Threads + Wait + Clock + RandomSource + A
     ground: Ground<&R>,
     board: &Board,
 ) -> Option<Recorded>
-    requires { (ground.press ≡ N.press) × (ground.template ≡ N.template) }
+    requires { (ground.press ≡ N.press) × (ground.template ≡ N.template) × (ground.roll ≡ N.roll) }
 {
     record::<N, Breaks, R>(rt, ground, board, 2, Breaks { board })
 }
@@ -227,7 +227,7 @@ fn terminate<N: Name + Send + Sync, R: Threads + Wait + Clock + RandomSource + A
     ground: Ground<&R>,
     board: &Board,
 ) -> Option<Told>
-    requires { (ground.press ≡ N.press) × (ground.template ≡ N.template) }
+    requires { (ground.press ≡ N.press) × (ground.template ≡ N.template) × (ground.roll ≡ N.roll) }
 {
     run::<N, Terminates, R>(rt, ground, board, Terminates { board })
 }
@@ -237,7 +237,7 @@ fn try_again<N: Name + Send + Sync, R: Threads + Wait + Clock + RandomSource + A
     ground: Ground<&R>,
     board: &Board,
 ) -> Option<Told>
-    requires { (ground.press ≡ N.press) × (ground.template ≡ N.template) }
+    requires { (ground.press ≡ N.press) × (ground.template ≡ N.template) × (ground.roll ≡ N.roll) }
 {
     run::<N, Retries, R>(rt, ground, board, Retries { board })
 }
@@ -247,7 +247,7 @@ fn give_up<N: Name + Send + Sync, R: Threads + Wait + Clock + RandomSource + All
     ground: Ground<&R>,
     board: &Board,
 ) -> Option<Told>
-    requires { (ground.press ≡ N.press) × (ground.template ≡ N.template) }
+    requires { (ground.press ≡ N.press) × (ground.template ≡ N.template) × (ground.roll ≡ N.roll) }
 {
     run::<N, GivesUp, R>(rt, ground, board, GivesUp { board })
 }

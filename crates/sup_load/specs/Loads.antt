@@ -21,7 +21,6 @@ end_of (Some fault) = Err (Stopped fault)
 abbrev pub of_update : UpdateFault → StopFault
 of_update update.OutOfMemory = stop.OutOfMemory
 of_update update.HistoryFull = stop.HistoryFull
-of_update update.Split = stop.Split
 of_update update.Gone = stop.Gone
 of_update (update.Journal fault) = stop.Journal
 

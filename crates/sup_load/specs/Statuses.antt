@@ -13,7 +13,6 @@ use Rattle.sup_script.specs.declared.runs.answer.Status.TheVariants as status
 abbrev pub stop_fault_number : StopFault → ℕ
 stop_fault_number stop.OutOfMemory = 1
 stop_fault_number stop.HistoryFull = 2
-stop_fault_number stop.Split = 3
 stop_fault_number stop.Gone = 4
 stop_fault_number stop.NoHandle = 5
 stop_fault_number stop.NoPlace = 6
@@ -28,7 +27,6 @@ load_fault_number load.WriteFault = 11
 abbrev pub status_of_stop_fault : StopFault → Status
 status_of_stop_fault stop.OutOfMemory = status.OtherFault
 status_of_stop_fault stop.HistoryFull = status.OtherFault
-status_of_stop_fault stop.Split = status.OtherFault
 status_of_stop_fault stop.Gone = status.OtherFault
 status_of_stop_fault stop.NoHandle = status.OtherFault
 status_of_stop_fault stop.NoPlace = status.OtherFault

@@ -19,8 +19,6 @@ pub enum StopFault {
     OutOfMemory,
     /// The history has as many entries as the template allows.
     HistoryFull,
-    /// What a handle has seen can't be tied to the book.
-    Split,
     /// A reader could not learn or enter.
     Gone,
     /// All handles of the desk were made.
@@ -38,14 +36,13 @@ pub enum StopFault {
 impl StopFault {
     ghost use Rattle.sup_load.specs.Loads.{of_update};
 
-    /// The number of the fault: 1 to 7, in the order of the variants, and 13 and 14.
+    /// The number of the fault: 1, 2, 4 to 7, in the order of the variants, and 13 and 14.
     pub fn number(self) -> u8
         ensures { result ≡ stop_fault_number self }
     {
         match self {
             StopFault::OutOfMemory => 1,
             StopFault::HistoryFull => 2,
-            StopFault::Split => 3,
             StopFault::Gone => 4,
             StopFault::NoHandle => 5,
             StopFault::NoPlace => 6,
@@ -62,7 +59,6 @@ impl StopFault {
         match fault {
             UpdateFault::OutOfMemory => StopFault::OutOfMemory,
             UpdateFault::HistoryFull => StopFault::HistoryFull,
-            UpdateFault::Split => StopFault::Split,
             UpdateFault::Gone => StopFault::Gone,
             UpdateFault::Journal(_) => StopFault::Journal,
         }

@@ -242,7 +242,7 @@ fn on_ground<N: Name + Send + Sync, R: Threads + Wait + Sync, J: Journal + Drop 
     load: Load,
     journal: J,
 ) -> Result<Sums, StopFault>
-    requires name { (ground.press ≡ N.press) × (ground.template ≡ N.template) }
+    requires name { (ground.press ≡ N.press) × (ground.template ≡ N.template) × (ground.roll ≡ N.roll) }
     requires journal { J.has journal N.template [] [] }
     ensures { IfOk result (λ s. AreCounts N.template s) }
 {

@@ -199,7 +199,6 @@ Exit status:
 const LOAD_FAULTS: &str = "A fault is one line on standard error: `fault N`, with its number:
    1  out of memory, or a thread was refused
    2  the history is full
-   3  what a handle saw can't be tied to the history
    4  a reader was refused
    5  all handles were made
    6  there is no place for a reader

@@ -120,7 +120,7 @@ where
     R: Threads + Wait + Clock + RandomSource + AllocGlobal + Sync,
     I: Read,
     W: Write,
-    requires { (ground.press ≡ N.press) × (ground.template ≡ N.template) }
+    requires { (ground.press ≡ N.press) × (ground.template ≡ N.template) × (ground.roll ≡ N.roll) }
 {
     let desk: Desk<N, AlwaysRunning, &R> = Desk::new(ground, AlwaysRunning);
     let plan = Plan {

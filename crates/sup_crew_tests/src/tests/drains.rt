@@ -74,7 +74,7 @@ fn start_and_drain<N: Name, R: Wait + Abort>(
     ground: Ground<&R>,
     wanted: Option<Told>,
 )
-    requires { (ground.press ≡ N.press) × (ground.template ≡ N.template) }
+    requires { (ground.press ≡ N.press) × (ground.template ≡ N.template) × (ground.roll ≡ N.roll) }
 {
     let desk: Desk<N, Always, &R> = Desk::new(ground, Always);
     drain_on(rt, alloc, &desk, wanted);

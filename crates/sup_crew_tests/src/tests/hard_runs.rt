@@ -93,7 +93,7 @@ fn run_and_end<N: Name + Send + Sync, R: Threads + Wait + Abort + Sync>(
     alloc: Global,
     ground: Ground<&R>,
 ) -> Result<(), Fail>
-    requires { (ground.press ≡ N.press) × (ground.template ≡ N.template) }
+    requires { (ground.press ≡ N.press) × (ground.template ≡ N.template) × (ground.roll ≡ N.roll) }
 {
     let desk: Desk<N, Always, &R> = Desk::new(ground, Always);
     let ran = end_on(rt, alloc, &desk);

@@ -185,7 +185,7 @@ fn run_row<N: Name + Send + Sync, R: Threads + Wait + Abort + Sync>(
     ground: Ground<&R>,
     row: &Row,
 ) -> Result<(), Fail>
-    requires { (ground.press ≡ N.press) × (ground.template ≡ N.template) }
+    requires { (ground.press ≡ N.press) × (ground.template ≡ N.template) × (ground.roll ≡ N.roll) }
 {
     let desk: Desk<N, Always, &R> = Desk::new(ground, Always);
     let ran = run_on(rt, alloc, &desk, row);
@@ -321,7 +321,7 @@ fn run_usual<N: Name + Send + Sync, R: Threads + Wait + Abort + Sync>(
     alloc: Global,
     ground: Ground<&R>,
 ) -> Option<Result<(), CrewFault>>
-    requires { (ground.press ≡ N.press) × (ground.template ≡ N.template) }
+    requires { (ground.press ≡ N.press) × (ground.template ≡ N.template) × (ground.roll ≡ N.roll) }
 {
     let desk: Desk<N, Always, &R> = Desk::new(ground, Always);
     let ran = run_beside_a_handle(rt, alloc, &desk);
@@ -407,10 +407,7 @@ fn assert_nothing_entered<N: Name, R: Wait + Abort>(
     rt: &R,
     handle: &mut Handle<'_, N, Always, &R>,
 ) {
-    match handle.ticket(rt) {
-        Ok(ticket) => assert!(rt; ticket.stamp() == 0),
-        Err(_) => panic!(rt; "a ticket"),
-    }
+    assert!(rt; handle.ticket(rt).stamp() == 0);
 }
 
 /// The usual run on a desk with so many handles.
@@ -480,7 +477,7 @@ fn run_on_and_on<N: Name + Send + Sync, R: Threads + Wait + Abort + Sync>(
     alloc: Global,
     ground: Ground<&R>,
 ) -> Result<(), Fail>
-    requires { (ground.press ≡ N.press) × (ground.template ≡ N.template) }
+    requires { (ground.press ≡ N.press) × (ground.template ≡ N.template) × (ground.roll ≡ N.roll) }
 {
     let desk: Desk<N, Always, &R> = Desk::new(ground, Always);
     let ran = audit_runs(rt, alloc, &desk);

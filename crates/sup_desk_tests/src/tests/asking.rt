@@ -41,7 +41,7 @@ fn a_start_function_may_depend_on_the_world(rt: HostRuntime) {
 
 /// Two children are started, and none more. One ends, and its restart fails. No place is left, so the other calls ask for none.
 fn ask<N: Name, R: Wait + Abort>(rt: &R, ground: Ground<&R>, asked: &AtomicU64)
-    requires { (ground.press ≡ N.press) × (ground.template ≡ N.template) }
+    requires { (ground.press ≡ N.press) × (ground.template ≡ N.template) × (ground.roll ≡ N.roll) }
 {
     let desk: Desk<N, TwoPlaces, &R> = Desk::new(ground, TwoPlaces { asked });
     let mut handle = made(rt, &desk);

@@ -70,7 +70,7 @@ fn a_batch_ends_where_the_history_is_full(rt: HostRuntime) {
 }
 
 fn apply_four<N: Name, R: Wait + Abort>(rt: &R, alloc: Global, ground: Ground<&R>, entries: usize)
-    requires { (ground.press ≡ N.press) × (ground.template ≡ N.template) }
+    requires { (ground.press ≡ N.press) × (ground.template ≡ N.template) × (ground.roll ≡ N.roll) }
 {
     let desk: Desk<N, Always, &R> = Desk::new(ground, Always);
     let mut handle = made(rt, &desk);

@@ -56,7 +56,7 @@ fn update<N: Name, R: Wait + Abort>(
 }
 
 fn bear_updates<N: Name, R: Wait + Abort>(rt: &R, ground: Ground<&R>)
-    requires { (ground.press ≡ N.press) × (ground.template ≡ N.template) }
+    requires { (ground.press ≡ N.press) × (ground.template ≡ N.template) × (ground.roll ≡ N.roll) }
 {
     let desk: Desk<N, Always, &R> = Desk::new(ground, Always);
     let mut handle = made(rt, &desk);
@@ -113,7 +113,7 @@ fn bear_batch<N: Name, R: Wait + Abort>(
     ground: Ground<&R>,
     operations: &mut VecDeque<Operation>,
 )
-    requires { (ground.press ≡ N.press) × (ground.template ≡ N.template) }
+    requires { (ground.press ≡ N.press) × (ground.template ≡ N.template) × (ground.roll ≡ N.roll) }
 {
     let desk: Desk<N, Always, &R> = Desk::new(ground, Always);
     let mut handle = made(rt, &desk);

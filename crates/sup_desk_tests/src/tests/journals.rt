@@ -5,7 +5,7 @@ use std::alloc::Global;
 use std::process::Abort;
 use std::sync::Wait;
 use sup_desk::{
-    Closed, Desk, Handle, HandleFault, HandleOf, Journal, JournalFault, JournaledProgram, Name,
+    Caller, Closed, Desk, Handle, HandleOf, Journal, JournalFault, JournaledProgram, Name,
     RecoverFault, UpdateFault, on_journaled_desk,
 };
 use sup_types::{
@@ -72,7 +72,13 @@ struct BreaksOff {
 impl<R: Wait + Abort> JournaledProgram<Always, R, Takes> for BreaksOff {
     type Outcome = ();
 
-    fn run<N: Name + Send + Sync>(self, rt: &R, desk: &Desk<N, Always, &R, Takes>) {
+    fn run<N: Name + Send + Sync>(
+        self,
+        rt: &R,
+        desk: &Desk<N, Always, &R, Takes>,
+        before: Vec<Caller<N>>,
+    ) {
+        assert!(rt; before.is_empty());
         let mut handle = desk.handle(rt).expect(rt, "a handle");
         is_refused(rt, &mut handle);
         start_two(rt, &mut handle);
@@ -133,8 +139,7 @@ fn is_as_before<N: Name, R: Wait + Abort>(
     before: Option<Seen<Counts>>,
 ) {
     assert!(rt; handle.count_children().ok() == before);
-    let stamp = handle.ticket(rt).map(|ticket| ticket.stamp());
-    assert!(rt; stamp.ok() == Some(6));
+    assert!(rt; handle.ticket(rt).stamp() == 6);
 }
 
 #[test]
@@ -185,15 +190,19 @@ struct GoesOn {
 impl<R: Wait + Abort> JournaledProgram<Always, R, Takes> for GoesOn {
     type Outcome = u64;
 
-    fn run<N: Name + Send + Sync>(self, rt: &R, desk: &Desk<N, Always, &R, Takes>) -> u64 {
+    fn run<N: Name + Send + Sync>(
+        self,
+        rt: &R,
+        desk: &Desk<N, Always, &R, Takes>,
+        before: Vec<Caller<N>>,
+    ) -> u64 {
+        assert!(rt; before.len() == 2);
         let mut handles = Vec::new(self.alloc);
-        for number in [1, 2] {
-            let handle = desk.resume(rt, number).expect(rt, "a handle of before");
-            assert!(rt; handles.push(handle).is_ok());
+        for caller in before {
+            assert!(rt; handles.push(desk.bind(caller)).is_ok());
         }
         let mut handle = desk.handle(rt).expect(rt, "a handle more");
         assert!(rt; (handle.number(), handle.front()) == (3, 2));
-        assert!(rt; desk.resume(rt, 4).err() == Some(HandleFault::NoHandle));
         let done = handle.start_child(rt, 0, text(rt, "b"));
         assert!(rt; reply_of(done) == Ok(Reply::Started(3)));
         assert!(rt; handles.push(handle).is_ok());

@@ -99,7 +99,7 @@ fn ask_meanwhile<N: Name + Send + Sync, R: Threads + Wait + Abort + Sync>(
     ground: Ground<&R>,
     marks: &Marks,
 )
-    requires { (ground.press ≡ N.press) × (ground.template ≡ N.template) }
+    requires { (ground.press ≡ N.press) × (ground.template ≡ N.template) × (ground.roll ≡ N.roll) }
 {
     let desk: Desk<N, Waiting, &R> = Desk::new(ground, Waiting { marks });
     let mut first = made(rt, &desk);
@@ -137,5 +137,5 @@ fn learn_both<'m, N: Name, R: Wait + Abort>(
     is_running(rt, second, 1);
     learns(rt, second, first.terminate_child(rt, 1, 1));
     assert!(rt; matches!(second.child(1), Ok(Seen::Up(None))));
-    assert!(rt; stamp(rt, second) == Some(2));
+    assert!(rt; stamp(rt, second) == 2);
 }

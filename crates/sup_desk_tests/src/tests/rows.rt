@@ -57,7 +57,7 @@ enum Case {
 }
 
 fn on_one<N: Name, R: Wait + Abort>(rt: &R, ground: Ground<&R>, case: Case)
-    requires { (ground.press ≡ N.press) × (ground.template ≡ N.template) }
+    requires { (ground.press ≡ N.press) × (ground.template ≡ N.template) × (ground.roll ≡ N.roll) }
 {
     let desk: Desk<N, Always, &R> = Desk::new(ground, Always);
     let mut handle = made(rt, &desk);
@@ -156,7 +156,7 @@ fn a_query_enters_anew(rt: HostRuntime) {
 }
 
 fn ask_anew<N: Name, R: Wait + Abort>(rt: &R, ground: Ground<&R>)
-    requires { (ground.press ≡ N.press) × (ground.template ≡ N.template) }
+    requires { (ground.press ≡ N.press) × (ground.template ≡ N.template) × (ground.roll ≡ N.roll) }
 {
     let desk: Desk<N, Always, &R> = Desk::new(ground, Always);
     let mut first = made(rt, &desk);
@@ -206,7 +206,7 @@ fn ask_view<N: Name, R: Wait + Abort>(
     let seen = second.inspect(|view| (view.stamp(), view.counts().active));
     assert!(rt; seen.ok() == Some(Seen::Up((4, 4))));
     assert!(rt; learns(rt, second, done) == Reply::Started(4));
-    assert!(rt; stamp(rt, second) == Some(4));
+    assert!(rt; stamp(rt, second) == 4);
 }
 
 /// A function is not called once a stop was learnt.
@@ -231,7 +231,7 @@ fn goes_down_with_a_significant_child(rt: HostRuntime) -> Result<(), Fail> {
 }
 
 fn go_down<N: Name, R: Wait + Abort>(rt: &R, ground: Ground<&R>)
-    requires { (ground.press ≡ N.press) × (ground.template ≡ N.template) }
+    requires { (ground.press ≡ N.press) × (ground.template ≡ N.template) × (ground.roll ≡ N.roll) }
 {
     let desk: Desk<N, Always, &R> = Desk::new(ground, Always);
     let mut first = made(rt, &desk);

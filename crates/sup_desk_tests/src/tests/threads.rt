@@ -72,7 +72,7 @@ fn crowd<'d, 'r, N: Name + Send + Sync, R: Threads + Wait + Abort + Sync>(
 }
 
 fn crowd_on<N: Name + Send + Sync, R: Threads + Wait + Abort + Sync>(rt: &R, ground: Ground<&R>)
-    requires { (ground.press ≡ N.press) × (ground.template ≡ N.template) }
+    requires { (ground.press ≡ N.press) × (ground.template ≡ N.template) × (ground.roll ≡ N.roll) }
 {
     let desk: Desk<N, Always, &R> = Desk::new(ground, Always);
     crowd(rt, &desk);
@@ -166,7 +166,7 @@ fn exchange_all<'d, 'r, N: Name + Send + Sync, R: Threads + Wait + Abort + Sync>
 }
 
 fn exchange_on<N: Name + Send + Sync, R: Threads + Wait + Abort + Sync>(rt: &R, ground: Ground<&R>)
-    requires { (ground.press ≡ N.press) × (ground.template ≡ N.template) }
+    requires { (ground.press ≡ N.press) × (ground.template ≡ N.template) × (ground.roll ≡ N.roll) }
 {
     let desk: Desk<N, Always, &R> = Desk::new(ground, Always);
     exchange_all(rt, &desk);
@@ -201,8 +201,9 @@ fn ask_each_way<N: Name, R: Wait + Abort>(
     desk: &Desk<N, Always, &R>,
     handle: &mut Handle<'_, N, Always, &R>,
 ) {
-    match (desk.asker(rt), handle.ticket(rt)) {
-        (Ok(mut asker), Ok(ticket)) => asks_all(rt, &mut asker, &ticket),
+    let ticket = handle.ticket(rt);
+    match desk.asker(rt) {
+        Ok(mut asker) => asks_all(rt, &mut asker, &ticket),
         _ => panic!(rt; "an asker and a ticket"),
     }
 }
@@ -234,7 +235,7 @@ fn come_and_go<'r, N: Name, R: Wait + Abort>(rt: &'r R, desk: &Desk<N, Always, &
 }
 
 fn come_and_go_on<N: Name, R: Wait + Abort>(rt: &R, ground: Ground<&R>)
-    requires { (ground.press ≡ N.press) × (ground.template ≡ N.template) }
+    requires { (ground.press ≡ N.press) × (ground.template ≡ N.template) × (ground.roll ≡ N.roll) }
 {
     let desk: Desk<N, Always, &R> = Desk::new(ground, Always);
     come_and_go(rt, &desk);

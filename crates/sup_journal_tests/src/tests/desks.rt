@@ -5,7 +5,7 @@ use std::alloc::Global;
 use std::marker::Brand;
 use std::process::Abort;
 use std::sync::Wait;
-use sup_desk::{Desk, JournaledProgram, Name, on_journaled_desk};
+use sup_desk::{Caller, Desk, JournaledProgram, Name, on_journaled_desk};
 use sup_format::Fault;
 use sup_journal::{TextJournal, read_journal};
 use sup_types::{AlwaysRunning, Entry, Reason, Template, Text, Word};
@@ -24,6 +24,7 @@ impl<R: Wait> JournaledProgram<AlwaysRunning, R, Kept> for Opens {
         self,
         rt: &R,
         desk: &Desk<N, AlwaysRunning, &R, Kept>,
+        _before: Vec<Caller<N>>,
     ) -> Option<u64> {
         let mut handle = desk.handle(rt).ok()?;
         let (session, crash) = (Text::new(b"session-17")?, Word::new(b"crash")?);

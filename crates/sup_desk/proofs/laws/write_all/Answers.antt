@@ -19,11 +19,11 @@ queue-init g c =
     let none : length replies ≡ 0 = omega (arith, c.args.replies.now.ok.0, c.requires.none) in
     let empty : [] ≡ replies = sym (nil_from_length replies none) in
     let before : List Entry = leaf.published ++ leaf.pending in
-    let serial : ℕ = length (entries_of before c.args.number) in
+    let serial : ℕ = length (entries_of before c.args.claim.now.number) in
     record {
       written = (
         [],
-        subst (λ (l : List Reply). AreEntered g.S.Starter.may_answer g.N.Name.template c.args.number c.args.moment before serial (take (length l) operations) [] l) empty (refl, refl),
+        subst (λ (l : List Reply). AreEntered g.S.Starter.may_answer g.N.Name.template c.args.claim.now.number c.args.moment before serial (take (length l) operations) [] l) empty (refl, refl),
         λ i. record { editions = leaf.editions; published = leaf.published; pending = sym (append-nil leaf.pending) i; made = leaf.made; handles = leaf.handles; fault = leaf.fault },
       );
       within = omega (arith, none);
@@ -36,11 +36,11 @@ serial-serial-requires-clause-mine g c =
     let written = c.queue.invariant.written in
     let entries : List Entry = written.0 in
     let before : List Entry = first.published ++ first.pending in
-    let own : entries_of entries c.args.number ≡ entries =
-    entered-own g.S.Starter.may_answer g.N.Name.template c.args.number c.args.moment before (length (entries_of before c.args.number))
+    let own : entries_of entries c.args.claim.now.number ≡ entries =
+    entered-own g.S.Starter.may_answer g.N.Name.template c.args.claim.now.number c.args.moment before (length (entries_of before c.args.claim.now.number))
     (take (length c.queue.replies.items) c.args.operations.now.items) entries c.queue.replies.items written.1 in
     let pending : c.queue.leaf.pending ≡ entries = ap (λ (w : Written). w.pending) written.2 ∙ ap (λ (l : List Entry). l ++ entries) c.requires.clean in
-    subst (λ (l : List Entry). entries_of l c.args.number ≡ l) (sym pending) own
+    subst (λ (l : List Entry). entries_of l c.args.claim.now.number ≡ l) (sym pending) own
 
 pub queue-preserved : goal.queue-preserved
 queue-preserved g c =
@@ -60,28 +60,29 @@ queue-preserved g c =
     let long : length c.push_reserved.new.self.items ≡ k + 1 = ap length pushed.items ∙ length-append replies (c.in-Ok.reply ∷ []) in
     let taken : take (length c.push_reserved.new.self.items) operations ≡ take k operations ++ op ∷ [] = ap (λ (i : ℕ). take i operations) long ∙ next in
     let before : List Entry = first.published ++ first.pending in
-    let serial : ℕ = length (entries_of before c.args.number) in
+    let serial : ℕ = length (entries_of before c.args.claim.now.number) in
     let entries : List Entry = old.written.0 in
-    let entered : AreEntered may template c.args.number c.args.moment before serial (take k operations) entries replies = old.written.1 in
+    let entered : AreEntered may template c.args.claim.now.number c.args.moment before serial (take k operations) entries replies = old.written.1 in
     let is : now ≡ with_pending first entries = old.written.2 in
     let all : now.published ++ now.pending ≡ before ++ entries =
     ap (λ (w : Written). w.published ++ w.pending) is ∙ sym (append_assoc first.published first.pending entries) in
     let count : c.serial-serial.result ≡ serial + length entries =
-    c.serial-serial.ensures ∙ ap (λ l. length (entries_of l c.args.number)) all ∙ ap length (entries-append c.args.number before entries)
-    ∙ length-append (entries_of before c.args.number) (entries_of entries c.args.number)
-    ∙ ap (λ l. serial + length l) (entered-own may template c.args.number c.args.moment before serial (take k operations) entries replies entered) in
+    c.serial-serial.ensures ∙ ap (λ l. length (entries_of l c.args.claim.now.number)) all ∙ ap length (entries-append c.args.claim.now.number before entries)
+    ∙ length-append (entries_of before c.args.claim.now.number) (entries_of entries c.args.claim.now.number)
+    ∙ ap (λ l. serial + length l) (entered-own may template c.args.claim.now.number c.args.moment before serial (take k operations) entries replies entered) in
     let written = c.in-Ok.ensures.written in
     let entry : Entry = written.0 in
-    let made : IsEntryOf may template (before ++ entries) c.args.number (serial + length entries) op c.args.moment entry =
-    subst (λ (n : ℕ). IsEntryOf may template (before ++ entries) c.args.number n op c.args.moment entry) count
-    (subst (λ (l : List Entry). IsEntryOf may template l c.args.number c.serial-serial.result op c.args.moment entry) all written.1) in
+    let made : IsEntryOf may template (before ++ entries) c.args.claim.now.number (serial + length entries) op c.args.moment entry =
+    subst (λ (n : ℕ). IsEntryOf may template (before ++ entries) c.args.claim.now.number n op c.args.moment entry) count
+    (subst (λ (l : List Entry). IsEntryOf may template l c.args.claim.now.number c.serial-serial.result op c.args.moment entry) all
+    (subst (λ (n : ℕ). IsEntryOf may template (now.published ++ now.pending) n c.serial-serial.result op c.args.moment entry) c.number.ensures written.1)) in
     let told : c.in-Ok.reply ≡ reply_after template (before ++ entries) entry = written.2 ∙ ap (λ l. reply_after template l entry) all in
-    let more = entered-push may template c.args.number c.args.moment before serial (take k operations) entries replies op entry c.in-Ok.reply entered made told in
+    let more = entered-push may template c.args.claim.now.number c.args.moment before serial (take k operations) entries replies op entry c.in-Ok.reply entered made told in
     record {
       written = (
         entries ++ entry ∷ [],
-        subst (λ (l : List Operation). AreEntered may template c.args.number c.args.moment before serial l (entries ++ entry ∷ []) c.push_reserved.new.self.items) (sym taken)
-            (subst (λ (l : List Reply). AreEntered may template c.args.number c.args.moment before serial (take k operations ++ op ∷ []) (entries ++ entry ∷ []) l) (sym pushed.items) more),
+        subst (λ (l : List Operation). AreEntered may template c.args.claim.now.number c.args.moment before serial l (entries ++ entry ∷ []) c.push_reserved.new.self.items) (sym taken)
+            (subst (λ (l : List Reply). AreEntered may template c.args.claim.now.number c.args.moment before serial (take k operations ++ op ∷ []) (entries ++ entry ∷ []) l) (sym pushed.items) more),
         written.3 ∙ ap (λ (w : Written). with_pending w (entry ∷ [])) is
             ∙ (λ i. record { editions = first.editions; published = first.published; pending = append_assoc first.pending entries (entry ∷ []) i; made = first.made; handles = first.handles; fault = first.fault }),
       );

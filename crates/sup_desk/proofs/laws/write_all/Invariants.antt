@@ -5,7 +5,7 @@ use Rattle.sup_desk.proofs.laws.write_all.Given as goal
 -- so many operations were written as there are replies
 abbrev pub invariant-queue : goal.invariant-queue
 invariant-queue g l = record {
-  written : AreWritten g.S.Starter.may_answer g.N.Name.template l.initial.leaf l.number l.moment (take (length l.replies.items) l.operations.items) l.replies.items l.leaf;
+  written : AreWritten g.S.Starter.may_answer g.N.Name.template l.initial.leaf l.claim.number l.moment (take (length l.replies.items) l.operations.items) l.replies.items l.leaf;
   within : length l.replies.items ≤ length l.operations.items;
   room : vec_capacity l.replies ≡ vec_capacity l.initial.replies;
 }

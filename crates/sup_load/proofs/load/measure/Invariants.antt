@@ -2,4 +2,4 @@
 use Rattle.sup_load.proofs.load.measure.Given as goal
 
 abbrev pub ghosts-on_ground : goal.ghosts-on_ground
-ghosts-on_ground g a = record { press = a.ground.press; template = a.ground.template }
+ghosts-on_ground g a = record { press = a.ground.press; template = a.ground.template; roll = a.ground.roll }

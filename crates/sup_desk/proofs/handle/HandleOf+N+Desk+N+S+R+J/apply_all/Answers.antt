@@ -10,8 +10,5 @@ returns-clause-nothing g c = none_then c.in-Err.field-0.ticket (λ p. (p.0, p.1,
     none_then None f p = f p
     none_then (Some t) f p = p
 
-pub returns-clause-split : goal.returns-clause-split
-returns-clause-split g c = λ is. (c.in-Err.ensures.split is).0
-
 pub returns-clause-journal : goal.returns-clause-journal
 returns-clause-journal g c = λ f is. let told = c.in-Err.ensures.journal f is in (told.0, told.2)

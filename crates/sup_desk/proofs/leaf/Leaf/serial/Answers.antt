@@ -1,5 +1,4 @@
-use Rattle.std.proofs.Common.{◌+◌, ◌-◌, ◌<◌, ℕ, vec_len, ap, arith}
-use Rattle.std.proofs.lemmas.List.{get_or_default}
+use Rattle.std.proofs.Common.{length, ap, arith}
 use Rattle.sup_types.specs.declared.template.Template.{Template}
 use Rattle.sup_desk.specs.Books.{Written}
 use Rattle.sup_desk.specs.EntryLaws.{entries_le}
@@ -8,11 +7,9 @@ use Rattle.sup_desk.proofs.leaf.Leaf.serial.Goals as goal
 pub overflow_add-result : goal.overflow_add-result
 overflow_add-result g c =
     let l = c.self.inside in
-    let place : ℕ = c.args.number - 1 in
-    let made = ap (λ (w : Written). w.made) c.self.view_is in
-    let low : place < vec_len l.counts = omega (arith, made, c.requires.made.0, c.requires.made.1) in
-    let count = c.self.invariant.4.0 place low in
-    let few = entries_le (place + 1) l.press.published in
+    let few = entries_le c.args.claim.now.number l.press.published in
     let bound = ap (λ (t : Template). t.entries) c.self.invariant.1 in
-    let same = get_or_default l.counts.items place c.index.result.now 0 (omega (arith, low, l.counts.ok.0)) in
-    omega (arith, c.index.ensures, same, count, few, bound, c.pending.ensures.room, g.N.Name.template.in_range.6)
+    let met = ap length c.requires.met in
+    let same = ap (λ (w : Written). length w.published) c.self.view_is in
+    let fits = entries_le c.args.claim.now.number c.args.self.now.published in
+    omega (arith, c.count.ensures, met, same, fits, bound, c.pending.ensures.room, g.N.Name.template.in_range.6)

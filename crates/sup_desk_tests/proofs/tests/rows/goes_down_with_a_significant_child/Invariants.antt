@@ -2,4 +2,4 @@ use Rattle.sup_desk_tests.proofs.tests.rows.goes_down_with_a_significant_child.G
 
 -- the ground that was just made
 abbrev pub ghosts-go_down : goal.ghosts-go_down
-ghosts-go_down g a = record { press = a.ground.press; template = a.ground.template }
+ghosts-go_down g a = record { press = a.ground.press; template = a.ground.template; roll = a.ground.roll }

@@ -2,4 +2,4 @@ use Rattle.sup_desk_tests.proofs.tests.rows.makes_as_many_handles_and_entries_as
 
 -- the ground that was just made
 abbrev pub ghosts-on_one : goal.ghosts-on_one
-ghosts-on_one g a = record { press = a.ground.press; template = a.ground.template }
+ghosts-on_one g a = record { press = a.ground.press; template = a.ground.template; roll = a.ground.roll }

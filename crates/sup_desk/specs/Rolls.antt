@@ -1,0 +1,89 @@
+-- Which handle has which number, and what each of them entered.
+use Rattle.std.specs.Prelude.{◌≡◌, ℕ, suc, ◌+◌, List, [], ◌++◌, true, false}
+use Rattle.std.specs.List.{All}
+use mathlib.Core.Option.{some}
+use lib.ListN.{get_elem?}
+use Rattle.atomic_table.specs.Seated.{TableId}
+use Rattle.atomic_table.specs.Table.{Me, Step}
+use Rattle.sup_types.specs.declared.history.Entry.{Entry}
+use Rattle.sup_desk.specs.declared.roll.Known.{Known}
+use Rattle.sup_desk.specs.Books.{IsMade}
+use Rattle.sup_desk.specs.Knowledge.{entries_of}
+
+-- which roll it is, all that was entered, and how many handles were made
+pub record Enrolled : Type 0 where
+  pub id : TableId
+  pub history : List Entry
+  pub made : ℕ
+
+-- the roll of a claim, its number, and what was entered under it
+pub record Claimed : Type 0 where
+  pub roll : TableId
+  pub number : ℕ
+  pub calls : List Entry
+
+abbrev pub keeper_view : List Entry → ℕ → Known
+keeper_view history made = record { keeps = true; history = history; made = made; claims = false; number = 0; calls = [] }
+
+abbrev pub claim_view : ℕ → List Entry → Known
+claim_view number calls = record { keeps = false; history = []; made = 0; claims = true; number = number; calls = calls }
+
+abbrev pub nobody : Known
+nobody = record { keeps = false; history = []; made = 0; claims = false; number = 0; calls = [] }
+
+-- one handle more was made
+abbrev pub opened : Known → Known
+opened v = keeper_view v.history (v.made + 1)
+
+-- the claim of that handle, with what stands under its number already
+abbrev pub newcomer : Known → Known
+newcomer v = claim_view (v.made + 1) (entries_of v.history (v.made + 1))
+
+-- the keeper, with a claim that it has taken in
+abbrev pub joined : Known → Known → Known
+joined v u = record { keeps = v.keeps; history = v.history; made = v.made; claims = u.claims; number = u.number; calls = u.calls }
+
+-- the two apart again
+abbrev pub kept : Known → Known
+kept v = keeper_view v.history v.made
+
+abbrev pub handed : Known → Known
+handed v = claim_view v.number v.calls
+
+-- the one keeper knows all that was entered, and how many handles were made
+abbrev pub FitsKeeper : ℕ → List Entry → ℕ → ℕ → Known → Type 0
+FitsKeeper place history made seat v = v.keeps ≡ true → (seat ≡ place) × (v.history ≡ history) × (v.made ≡ made)
+
+-- a number has one seat, kept as the seat's number and one: it is of a handle that was made, and knows what was entered under it
+abbrev pub FitsClaim : (ℕ → ℕ) → List Entry → ℕ → ℕ → Known → Type 0
+FitsClaim places history made seat v = v.claims ≡ true → (places v.number ≡ suc seat) × IsMade made v.number × (v.calls ≡ entries_of history v.number)
+
+abbrev pub Fits : ℕ → (ℕ → ℕ) → List Entry → ℕ → ℕ → Known → Type 0
+Fits place places history made seat v = FitsKeeper place history made seat v × FitsClaim places history made seat v
+
+abbrev pub Enrols : List Known → Type 0
+Enrols views =
+    (place : ℕ) × (places : ℕ → ℕ) × (history : List Entry) × (made : ℕ)
+    × ((seat : ℕ) (v : Known) → get_elem? views seat ≡ some v → Fits place places history made seat v)
+
+-- the roll has this name, all of this history and as many handles; and each entry is of a handle that was made
+abbrev pub IsEnrolled : TableId → List Entry → ℕ → Enrolled → Type 0
+IsEnrolled id history made roll = (roll ≡ record { id = id; history = history; made = made }) × All (λ entry. IsMade made entry.handle) history
+
+-- ---- what a step of the keeper tells
+
+-- the claim's calls are all that was entered under its number, and its handle was made
+abbrev pub Compared : Step (Unit {0}) → Me (Unit {0}) Known → ℕ → Me (Unit {0}) Known → Type 0
+Compared step before found after = (after ≡ before) × (before.0.calls ≡ entries_of before.0.history before.0.number) × IsMade before.0.made before.0.number
+
+-- these entries are added to all that was entered, and to the claim's calls
+abbrev pub Entered : List Entry → Step (Unit {0}) → Me (Unit {0}) Known → ℕ → Me (Unit {0}) Known → Type 0
+Entered entries step before found after =
+    let v : Known = before.0 in
+    (after ≡ (record { keeps = v.keeps; history = v.history ++ entries; made = v.made; claims = v.claims; number = v.number; calls = v.calls ++ entries }, before.1))
+
+-- these entries are added to all that was entered
+abbrev pub Recalled : List Entry → Step (Unit {0}) → Me (Unit {0}) Known → ℕ → Me (Unit {0}) Known → Type 0
+Recalled entries step before found after =
+    let v : Known = before.0 in
+    (after ≡ (record { keeps = v.keeps; history = v.history ++ entries; made = v.made; claims = v.claims; number = v.number; calls = v.calls }, before.1))

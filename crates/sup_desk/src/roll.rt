@@ -1,0 +1,274 @@
+//! The roll: which handles were made, and what each of them entered. No two claims have one number.
+//!
+//! Both stand in the proofs alone. There they are the views of the seats of an `atomic_table`, under the rule in `specs/Rolls`; the
+//! steps load its one word and do nothing else. The roll lies under the desk's lock, and each handle has its claim.
+ghost use Rattle.std.specs.Prelude.{◌≡◌, ◌+◌, ◌++◌, ◌<◌, ◌^◌, [], length, IfOk};
+ghost use Rattle.sup_desk.specs.Books.{IsMade};
+ghost use Rattle.sup_desk.specs.Knowledge.{entries_of};
+
+use atomic_table::{Join, Play, Seat, Split, Table, TableRule};
+use core::mem::replace;
+use std::alloc::{AllocError, Global};
+use std::collections::LinkedList;
+use std::marker::{Brand, Model, PhantomData};
+use sup_types::Entry;
+
+/// What a seat knows. The keeper's has all that was entered, and how many handles were made. That of a claim has its number, and
+/// what was entered under it. No value of it is made.
+pub struct Known {
+    /// Whether the seat is the keeper's.
+    pub keeps: bool,
+    /// All that was entered.
+    pub history: LinkedList<Entry>,
+    /// How many handles were made.
+    pub made: u64,
+    /// Whether the seat has a claim.
+    pub claims: bool,
+    /// The number that it claims.
+    pub number: u64,
+    /// What was entered under that number.
+    pub calls: LinkedList<Entry>,
+}
+
+/// The roll's rule.
+pub struct Enrolment;
+
+impl TableRule<(), Known, ()> for Enrolment {
+    ghost use Rattle.std.specs.Prelude.{[]};
+    ghost use Rattle.sup_desk.specs.Rolls.{Enrols, keeper_view};
+
+    ghost holds = { λ key s. Enrols s.views };
+
+    ghost first = { λ key. keeper_view [] 0 };
+}
+
+/// One handle more is made.
+struct Opens;
+
+impl Split<Known> for Opens {
+    ghost use Rattle.sup_desk.specs.Rolls.{opened, newcomer};
+
+    ghost left = { opened };
+
+    ghost right = { newcomer };
+}
+
+/// A seat that knows nothing is made, to stand where a claim's was.
+struct Spares;
+
+impl Split<Known> for Spares {
+    ghost use Rattle.sup_desk.specs.Rolls.{nobody};
+
+    ghost left = { λ v. v };
+
+    ghost right = { λ v. nobody };
+}
+
+/// The keeper takes in a claim.
+struct Takes;
+
+impl Join<Known> for Takes {
+    ghost use Rattle.sup_desk.specs.Rolls.{joined, nobody};
+
+    ghost both = { joined };
+
+    ghost spent = { nobody };
+}
+
+/// The keeper hands the claim back.
+struct Hands;
+
+impl Split<Known> for Hands {
+    ghost use Rattle.sup_desk.specs.Rolls.{kept, handed};
+
+    ghost left = { kept };
+
+    ghost right = { handed };
+}
+
+/// The keeper compares the claim that it has taken in with all that was entered.
+struct Compares;
+
+impl Play<(), Known> for Compares {
+    ghost use Rattle.sup_desk.specs.Rolls.{Compared};
+
+    ghost then = { Compared };
+}
+
+/// Entries that are added to a roll. Each step picks them.
+trait Added {
+    ghost use Rattle.std.specs.Prelude.{List};
+    ghost use Rattle.sup_types.specs.declared.history.Entry.{Entry};
+
+    ghost entries: { List Entry };
+}
+
+impl Added for Brand {
+    ghost use Rattle.std.specs.Prelude.{[]};
+
+    ghost entries = { [] };
+}
+
+/// The keeper enters these entries under the claim that it has taken in.
+struct Enters<E> {
+    entries: PhantomData<E>,
+}
+
+impl<E: Added> Play<(), Known> for Enters<E> {
+    ghost use Rattle.sup_desk.specs.Rolls.{Entered};
+
+    ghost then = { Entered E.entries };
+}
+
+/// The keeper recalls these entries, of before the first handle.
+struct Recalls<E> {
+    entries: PhantomData<E>,
+}
+
+impl<E: Added> Play<(), Known> for Recalls<E> {
+    ghost use Rattle.sup_desk.specs.Rolls.{Recalled};
+
+    ghost then = { Recalled E.entries };
+}
+
+type Place = Seat<(), Known>;
+
+/// What lies under the lock: all that was entered, and how many handles were made.
+#[derive(Drop)]
+pub struct Roll {
+    table: Table<(), Known, (), Enrolment, Global>,
+    keeper: Place,
+}
+
+impl Model for Roll {
+    ghost use Rattle.std.specs.Prelude.{◌≡◌, ◌<◌, []};
+    ghost use Rattle.sup_desk.specs.Rolls.{Enrolled, keeper_view};
+
+    ghost Value = { Enrolled };
+
+    ghost view = { λ r. record { id = r.table.shared.table_id; history = r.keeper.me.0.history; made = r.keeper.me.0.made } };
+
+    ghost invariant = { λ r. (r.keeper.table_id ≡ r.table.shared.table_id) × (0 < r.table.shared.table_id.words)
+        × (r.keeper.me ≡ (keeper_view r.keeper.me.0.history r.keeper.me.0.made, [])) };
+}
+
+/// A handle's right to its number: what it has entered, and no one else has.
+#[derive(Drop)]
+pub struct Claim {
+    seat: Place,
+    number: u64,
+    count: u64,
+}
+
+impl Model for Claim {
+    ghost use Rattle.std.specs.Prelude.{◌≡◌, [], length};
+    ghost use Rattle.sup_desk.specs.Rolls.{Claimed, claim_view};
+
+    ghost Value = { Claimed };
+
+    ghost view = { λ c. record { roll = c.seat.table_id; number = c.number; calls = c.seat.me.0.calls } };
+
+    ghost invariant = { λ c. (c.seat.me ≡ (claim_view c.number c.seat.me.0.calls, [])) × (c.count ≡ length c.seat.me.0.calls) };
+}
+
+impl Claim {
+    /// The number that it claims.
+    pub fn number(&self) -> u64
+        ensures { result ≡ self.now.number }
+    {
+        self.number
+    }
+
+    /// How many entries were made under it.
+    pub fn count(&self) -> u64
+        ensures { result ≡ length self.now.calls }
+    {
+        self.count
+    }
+}
+
+impl Roll {
+    /// A roll of no handle, on which nothing was entered.
+    pub fn new(alloc: Global) -> Result<Roll, AllocError>
+        ensures { IfOk result (λ r. (r.history ≡ []) × (r.made ≡ 0)) }
+    {
+        let (table, keeper) = Table::of_words(alloc, &[0], &())?;
+        Ok(Roll { table, keeper })
+    }
+
+    /// Makes one handle more: its claim, to the next number, with the calls that stand under it already, which are so many.
+    pub fn open(&mut self, number: u64, count: u64) -> Claim
+        requires number { number ≡ self.old.made + 1 }
+        requires count { count ≡ length (entries_of self.old.history number) }
+        ensures made { self.new ≡ record self.old { made = self.old.made + 1 } }
+        ensures claim { result ≡ record { roll = self.old.id; number = number; calls = entries_of self.old.history number } }
+    {
+        let Roll { table, keeper } = self;
+        let seat = table.shared.split_seat::<Opens>(keeper);
+        Claim {
+            seat,
+            number,
+            count,
+        }
+    }
+
+    /// Shows that what was entered under a number is the calls of its claim, and that a handle with this number was made.
+    pub fn meet(&mut self, claim: &mut Claim)
+        requires { claim.old.roll ≡ self.old.id }
+        ensures met { entries_of self.old.history claim.old.number ≡ claim.old.calls }
+        ensures made { IsMade self.old.made claim.old.number }
+        ensures same { (self.new ≡ self.old) × (claim.new ≡ claim.old) }
+    {
+        let Roll { table, keeper } = self;
+        let spare = table.shared.split_seat::<Spares>(keeper);
+        let seat = replace(&mut claim.seat, spare);
+        table.shared.join_seat::<Takes>(keeper, seat);
+        table.shared.load::<Compares>(keeper, 0);
+        claim.seat = table.shared.split_seat::<Hands>(keeper);
+    }
+
+    /// Enters these entries under the claim's number, which is theirs.
+    pub fn enter(&mut self, claim: &mut Claim, entries: &[Entry])
+        requires roll { claim.old.roll ≡ self.old.id }
+        requires mine { entries_of entries.now claim.old.number ≡ entries.now }
+        requires room { length claim.old.calls + length entries.now < 2 ^ 64 }
+        ensures entered { self.new ≡ record self.old { history = self.old.history ++ entries.now } }
+        ensures claim { claim.new ≡ record claim.old { calls = claim.old.calls ++ entries.now } }
+    {
+        self.enter_by::<Brand>(claim, entries)
+    }
+
+    fn enter_by<E: Added>(&mut self, claim: &mut Claim, entries: &[Entry])
+        requires entries { entries.now ≡ E.entries }
+        requires roll { claim.old.roll ≡ self.old.id }
+        requires mine { entries_of E.entries claim.old.number ≡ E.entries }
+        requires room { length claim.old.calls + length E.entries < 2 ^ 64 }
+        ensures entered { self.new ≡ record self.old { history = self.old.history ++ E.entries } }
+        ensures claim { claim.new ≡ record claim.old { calls = claim.old.calls ++ E.entries } }
+    {
+        let Roll { table, keeper } = self;
+        let spare = table.shared.split_seat::<Spares>(keeper);
+        let seat = replace(&mut claim.seat, spare);
+        table.shared.join_seat::<Takes>(keeper, seat);
+        table.shared.load::<Enters<E>>(keeper, 0);
+        claim.seat = table.shared.split_seat::<Hands>(keeper);
+        claim.count += entries.len() as u64;
+    }
+
+    /// Adds these entries before the first handle is made.
+    pub fn recall(&mut self, entries: &[Entry])
+        requires { self.old.made ≡ 0 }
+        ensures { self.new ≡ record self.old { history = self.old.history ++ entries.now } }
+    {
+        self.recall_by::<Brand>(entries)
+    }
+
+    fn recall_by<E: Added>(&mut self, entries: &[Entry])
+        requires entries { entries.now ≡ E.entries }
+        requires made { self.old.made ≡ 0 }
+        ensures { self.new ≡ record self.old { history = self.old.history ++ E.entries } }
+    {
+        let Roll { table, keeper } = self;
+        table.shared.load::<Recalls<E>>(keeper, 0);
+    }
+}
