@@ -20,8 +20,6 @@ ghost use Rattle.circular_buffer.specs.Buffer.{buffer};
 ghost use Rattle.sup_window.specs.Attempts.{HasSeen, is_borne, with_attempt, still_counts, greatest, keep_last, front_counts, counts_at};
 
 pub mod laws;
-#[cfg(test)]
-mod tests;
 
 use circular_buffer::HeapCircularBuffer;
 use std::alloc::{Allocator, Global};

@@ -1,5 +1,0 @@
-use Rattle.sup_crew_tests.proofs.tests.drains.a_full_history_leaves_a_note_held.Given as goal
-
--- the ground that was just made
-abbrev pub ghosts-start_and_drain : goal.ghosts-start_and_drain
-ghosts-start_and_drain g a = record { press = a.ground.press; template = a.ground.template; roll = a.ground.roll }
