@@ -4,7 +4,7 @@
 use anyhow::{Context, Result};
 use std::sync::Wait;
 use sup_desk::{Desk, Handle, Name, Program, on_desk};
-use sup_types::{AlwaysRunning, Kind, Reason, Restart, Template, Text, Word};
+use sup_types::{AlwaysRunning, Kind, Reason, Restart, Template, Text};
 
 /// The server. Its start function is `AlwaysRunning`, since its children need nothing that could be refused.
 #[derive(Drop)]
@@ -39,8 +39,7 @@ fn crash<N: Name, R: Wait + Print>(
     server: &mut Handle<'_, N, AlwaysRunning, &R>,
     watcher: &mut Handle<'_, N, AlwaysRunning, &R>,
 ) -> Result<()> {
-    let crash = Word::new(b"crash").context("no word")?;
-    let ended = server.exit(rt, 1, 1, Reason::Other(crash))?;
+    let ended = server.exit(rt, 1, 1, Reason::crash())?;
     println!(rt; "{:?}", ended.reply)?;
 
     watcher.learn(&ended.ticket)?;

@@ -1,5 +1,5 @@
 //! Desks: what threads share.
-ghost use Rattle.std.specs.Prelude.{◌≡◌, ◌≤◌, [], length, All, IfOk, IfErr};
+ghost use Rattle.std.specs.Prelude.{◌≡◌, ◌≤◌, [], length, All, IfOk, OnErr, IfErr};
 ghost use Rattle.sup_desk.specs.Knowledge.{entries_of};
 ghost use Rattle.sup_desk.specs.Books.{IsMade};
 ghost use Rattle.sup_desk.specs.Journals.{HasJust};
@@ -139,6 +139,7 @@ impl<N: Name, S: Starter + Drop, R: Wait + Drop, J: Journal + Drop> Desk<N, S, R
         ensures ok { IfOk result (λ t. HaveSeenAll t.front handles.new (length handles.new) × (t.press ≡ N.press)) }
         ensures whole { IfOk result (λ t. All (λ entry. IsMade (length handles.new) entry.handle) t.front) }
         ensures grown { AreGrown handles.old handles.new }
+        ensures kept { OnErr result (handles.new ≡ handles.old) }
         ensures gone { IfErr result (λ e. e ≡ TicketFault.Gone → ⊥) }
     {
         audit(&mut *self.book.lock(rt), handles)

@@ -352,6 +352,7 @@ pub fn audit<N: Name, S: Starter + Drop, R: Wait + Drop, J: Journal + Drop>(
     ensures whole { IfOk result (λ t. All (λ entry. IsMade (length handles.new) entry.handle) t.front) }
     ensures grown { AreGrown handles.old handles.new }
     ensures same { book.new ≡ book.old }
+    ensures kept { OnErr result (handles.new ≡ handles.old) }
     ensures split { (result ≡ Err TicketFault.Split) ↔ ¬ (length handles.new ≡ book.old.made) }
     ensures gone { IfErr result (λ e. e ≡ TicketFault.Gone → ⊥) }
 {
