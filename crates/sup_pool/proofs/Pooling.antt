@@ -1,0 +1,53 @@
+-- A pool's report is that of its run.
+use Rattle.std.proofs.Common.{◌≡◌, ℕ, List, [], length, drop, Option, Some, None, refl, ap, sym, ◌∙◌, ◌++◌, append-nil, subst, Result, IfOk}
+use Rattle.std.specs.Prelude.{IfNone}
+use Rattle.sup_desk.specs.declared.faults.UpdateFault.{UpdateFault}
+use Rattle.sup_pool.specs.declared.fault.PoolFault.{PoolFault}
+use Rattle.sup_types.specs.declared.text.Text.{Text}
+use Rattle.sup_types.specs.declared.reason.Reason.{Reason}
+use Rattle.sup_types.specs.declared.template.Template.{Template}
+use Rattle.sup_types.specs.declared.history.Entry.{Entry}
+use Rattle.sup_log.specs.Tokens.{Told}
+use Rattle.sup_desk.specs.Knowledge.{Knowledge}
+use Rattle.sup_desk.specs.declared.name.Name.{Ghosts}
+use Rattle.sup_crew.specs.declared.plan.Report.{Report}
+use Rattle.sup_crew.specs.declared.driver.Tally.{Tally}
+use Rattle.sup_crew.specs.Calls.{Call, calls_of, starts_in, AreDriven}
+use Rattle.sup_crew.specs.Drivers.{front_of, calls_since}
+use Rattle.sup_crew.specs.Reports.{IsRunOfItsOwn, AreNamed, items_of_run}
+use Rattle.sup_crew.specs.Tallies.{tally_of}
+use Rattle.logbook.specs.Pages.{Book}
+use Rattle.sup_pool.specs.declared.pool.PoolReport.{PoolReport}
+use Rattle.sup_pool.specs.Pools.{IsPooled}
+
+-- a handle that made no call before has no others
+own_calls : (template : Template) (before : Knowledge) (ticket : Option Told) → before.calls ≡ [] → calls_since template before ticket ≡ calls_of template (front_of ticket) before.number
+own_calls template before None none = refl
+own_calls template before (Some told) none = ap (λ (l : List Entry). drop (length l) (calls_of template told.front before.number)) none
+
+-- without a fault all of the plan was started
+all_started : {N : Type 0} {G : Ghosts N} (r : Report N G) → IfNone r.fault (r.unstarted.items ≡ []) → r.fault ≡ None → (started plan : List Text) → started ++ r.unstarted.items ≡ plan → started ≡ plan
+all_started r all sound started plan whole =
+    let none : r.unstarted.items ≡ [] = subst (λ (f : Option UpdateFault). IfNone f (r.unstarted.items ≡ [])) sound all in
+    sym (append-nil started) ∙ ap (λ (l : List Text). started ++ l) (sym none) ∙ whole
+
+pub pooled : {N : Type 0} {G : Ghosts N} (may_end : ℕ → Text → Reason → Type 0) (template : Template) (press : Book) (moment : ℕ) (plan : List Text) (r : Report N G) (p : PoolReport)
+    → IsRunOfItsOwn may_end template press moment plan r → r.fault ≡ None → p.made ≡ r.made → p.exits ≡ r.exits → p.restarts ≡ r.restarts → p.given_up ≡ r.given_up → IsPooled may_end template plan p
+pooled may_end template press moment plan r p run sound a b c d =
+    let own : calls_since template run.before r.ticket ≡ calls_of template (front_of r.ticket) run.before.number = own_calls template run.before r.ticket run.new in
+    record {
+      history = front_of r.ticket;
+      driver = run.before.number;
+      driven = subst (λ (l : List Call). AreDriven l) own run.ran.driven;
+      starts = subst (λ (l : List Call). starts_in l ≡ plan) own (all_started r run.ran.all sound _ plan run.ran.starts);
+      named = subst (λ (l : List Call). AreNamed may_end (items_of_run template r) l) own run.ran.named;
+      made = a ∙ ap (λ (t : Tally). t.made) run.ran.counts ∙ ap (λ (l : List Call). (tally_of l).made) own;
+      exits = b ∙ ap (λ (t : Tally). t.exits) run.ran.counts ∙ ap (λ (l : List Call). (tally_of l).exits) own;
+      restarts = c ∙ ap (λ (t : Tally). t.restarts) run.ran.counts ∙ ap (λ (l : List Call). (tally_of l).restarts) own;
+      given_up = d ∙ ap (λ (t : Tally). t.given_up) run.ran.counts ∙ ap (λ (l : List Call). (tally_of l).given_up) own;
+    }
+
+pub of_pool : (result : Result PoolReport PoolFault) (may_end : ℕ → Text → Reason → Type 0) (template given : Template) (texts arguments : List Text) → template ≡ given → texts ≡ arguments
+    → IfOk result (λ r. IsPooled may_end template texts r) → IfOk result (λ r. IsPooled may_end given arguments r)
+of_pool result may_end template given texts arguments is_given are_arguments told =
+    subst (λ (l : List Text). IfOk result (λ r. IsPooled may_end given l r)) are_arguments (subst (λ (t : Template). IfOk result (λ r. IsPooled may_end t texts r)) is_given told)

@@ -1,0 +1,60 @@
+//! Why a pool is not run, or not to its end.
+ghost use Rattle.std.specs.Prelude.{◌≡◌};
+ghost use Rattle.sup_pool.specs.declared.fault.PoolFault.TheVariants as pool;
+
+use std::alloc::AllocError;
+use sup_crew::CrewFault;
+use sup_desk::{DeskFault, UpdateFault};
+use sup_types::OutOfMemory;
+use thiserror::Error;
+
+/// Why a pool is not run, or not to its end.
+#[derive(Clone, Copy, Debug, PartialEq, Eq, Error)]
+pub enum PoolFault {
+    /// A growth was refused, or the start of a thread.
+    #[error("out of memory")]
+    OutOfMemory,
+    /// There are no workers, or more than 64.
+    #[error("a pool has 1 to 64 workers")]
+    BadWorkers,
+    /// The argument at this place of the list, from 0 on, is no text of 1 to 40 visible characters.
+    #[error("argument {0} is no text of 1 to 40 visible characters")]
+    BadArgument(usize),
+    /// The run was stopped by an update that was refused: the history is full, say.
+    #[error("{0}")]
+    Stopped(UpdateFault),
+}
+
+impl From<OutOfMemory> for PoolFault {
+    ghost from_gives = { λ _ f. f ≡ pool.OutOfMemory };
+
+    fn from(_fault: OutOfMemory) -> PoolFault {
+        PoolFault::OutOfMemory
+    }
+}
+
+impl From<AllocError> for PoolFault {
+    ghost from_gives = { λ _ f. f ≡ pool.OutOfMemory };
+
+    fn from(_fault: AllocError) -> PoolFault {
+        PoolFault::OutOfMemory
+    }
+}
+
+impl From<CrewFault> for PoolFault {
+    ghost from_gives = { λ _ f. f ≡ pool.OutOfMemory };
+
+    /// A pool's desk has room for the handle and the lenses of its crew, so a fault is one of memory.
+    fn from(_fault: CrewFault) -> PoolFault {
+        PoolFault::OutOfMemory
+    }
+}
+
+impl From<DeskFault> for PoolFault {
+    ghost from_gives = { λ _ f. f ≡ pool.OutOfMemory };
+
+    /// A pool's desk has a number of handles that may be, so a fault is one of memory.
+    fn from(_fault: DeskFault) -> PoolFault {
+        PoolFault::OutOfMemory
+    }
+}
