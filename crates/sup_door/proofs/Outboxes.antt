@@ -1,8 +1,13 @@
 -- A row of posters, and one more; and what an outbox was told.
-use Rattle.std.proofs.Common.{◌≡◌, List, [], ◌∷◌, ◌++◌, refl, ap, sym, ◌∙◌}
+use Rattle.std.proofs.Common.{◌≡◌, ℕ, zero, suc, ◌<◌, Bool, true, false, ◌||◌, List, [], ◌∷◌, ◌++◌, refl, ap, sym, ◌∙◌, subst, arith}
+use Rattle.std.specs.Prelude.{All, Result, Ok, Err, IfOk, MatchResult, if◌then◌else◌}
+use Rattle.std.proofs.lemmas.List.Elements.{All-push}
+use Rattle.futures.specs.declared.future.abortable_task.Aborted.{Aborted}
+use Rattle.sup_types.specs.declared.reason.Reason.{Reason}
 use Rattle.sup_inbox.specs.declared.note.Note.{Note}
 use Rattle.sup_inbox.specs.declared.inbox.InboxFull.{InboxFull}
 use Rattle.sup_door.specs.Outboxes.{exit_told, told}
+use Rattle.sup_door.specs.Endings.{killed, is_crews, is_ending, EndsBy, AreEndings, AreExitEndings}
 use Rattle.atomic_table.specs.Seated.{TableId}
 use Rattle.sup_inbox.specs.Ends.{Posting, AreOf}
 use Rattle.sup_inbox.specs.PostingLaws.{are_of-snoc}
@@ -31,3 +36,35 @@ told_moved posted now note waiting rest n w = ap (λ l. told l rest) n ∙ told-
 -- the first that waits is put back
 pub told_same : (posted now : List Note) (waiting after : List InboxFull) → now ≡ posted → after ≡ waiting → told now after ≡ told posted waiting
 told_same posted now waiting after n a = (λ i. told (n i) (a i))
+
+-- one more, of which P holds
+pub all_more : {X : Type 0} (P : X → Type 0) (now was : List X) (x : X) → now ≡ was ++ x ∷ [] → All P was → P x → All P now
+all_more P now was x n h e = subst (All P) (sym n) (All-push P was x h e)
+
+module _ (may_end : Reason → Bool) where
+  -- an exit waits, or comes back
+  pub endings_pushed : (posted : List Note) (now was : List InboxFull) (exit : InboxFull) (is_put : Bool) → now ≡ (if is_put then was ++ exit ∷ [] else was)
+      → is_ending may_end exit.reason ≡ true → AreExitEndings may_end (told posted was) → AreExitEndings may_end (told posted now)
+  endings_pushed posted now was exit true n e h =
+      all_more (λ (x : InboxFull). is_ending may_end x.reason ≡ true) (told posted now) (told posted was) exit (ap (told posted) n ∙ told-waits posted was exit) h e
+  endings_pushed posted now was exit false n e h = subst (λ (l : List InboxFull). AreExitEndings may_end (told posted l)) (sym n) h
+
+  -- what was posted, and what waits
+  pub endings_posted : (posted : List Note) (waiting : List InboxFull) → AreExitEndings may_end (told posted waiting) → AreEndings may_end posted
+  endings_posted [] waiting h k d low = absurd (omega (arith, low))
+  endings_posted (n ∷ ns) waiting h zero d low = h 0 (exit_told n) (omega arith)
+  endings_posted (n ∷ ns) waiting h (suc k) d low = endings_posted ns waiting (λ j e less. h (suc j) e (omega (arith, less))) k d (omega (arith, low))
+
+  pub endings_waiting : (posted : List Note) (waiting : List InboxFull) → AreExitEndings may_end (told posted waiting) → AreExitEndings may_end waiting
+  endings_waiting [] waiting h = h
+  endings_waiting (n ∷ ns) waiting h = endings_waiting ns waiting (λ j e less. h (suc j) e (omega (arith, less)))
+
+or-true : (a b : Bool) → b ≡ true → (a || b) ≡ true
+or-true true b e = refl
+or-true false b e = e
+
+-- whatever a child's poll was ready with
+pub ended_for : {C : Type 0} (gives : C → Reason → Type 0) (may_end : Reason → Bool) (child : C) (ended : Result Reason Aborted) (reason : Reason)
+    → EndsBy gives may_end child → IfOk ended (gives child) → MatchResult ended (λ r. reason ≡ r) (λ _. reason ≡ killed) → is_ending may_end reason ≡ true
+ended_for gives may_end child (Ok r) reason ends given is = or-true (is_crews reason) (may_end reason) (ap may_end is ∙ ends r given)
+ended_for gives may_end child (Err aborted) reason ends given is = ap (is_ending may_end) is

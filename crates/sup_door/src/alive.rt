@@ -1,5 +1,6 @@
 //! Children as tasks.
-ghost use Rattle.std.specs.Prelude.{IfSome};
+ghost use Rattle.std.specs.Prelude.{◌≡◌, IfSome, MatchResult};
+ghost use Rattle.sup_door.specs.Endings.{killed, not_run, EndsBy};
 
 use crate::behaviour::Behaviour;
 use crate::due::Due;
@@ -20,26 +21,30 @@ pub struct Alive<'h, I: Office, B: Behaviour, P: Wait + Drop> {
     pub(crate) began: bool,
 }
 
-/// The reason with this word.
-fn named(word: &[u8]) -> Reason {
-    match Word::new(word) {
+/// Why a child ended that was let go, as OTP names it: `killed`.
+pub(crate) fn killed() -> Reason
+    ensures { result ≡ killed }
+{
+    match Word::new(b"killed") {
         Some(word) => Reason::Other(word),
-        None => Reason::Shutdown,
+        None => unreachable!(),
     }
 }
 
-/// Why a child ended that was let go, as OTP names it: `killed`.
-pub(crate) fn killed() -> Reason {
-    named(b"killed")
-}
-
 /// Why a child ended that could not be run: `not_run`.
-pub(crate) fn not_run() -> Reason {
-    named(b"not_run")
+pub(crate) fn not_run() -> Reason
+    ensures { result ≡ not_run }
+{
+    match Word::new(b"not_run") {
+        Some(word) => Reason::Other(word),
+        None => unreachable!(),
+    }
 }
 
 /// The reason of the child, or that of one whose time was over.
-fn reason_of(ended: Result<Reason, Aborted>) -> Reason {
+fn reason_of(ended: Result<Reason, Aborted>) -> Reason
+    ensures { MatchResult ended (λ reason. result ≡ reason) (λ _. result ≡ killed) }
+{
     match ended {
         Ok(reason) => reason,
         Err(_) => killed(),
@@ -64,7 +69,7 @@ impl<'h, I: Office, B: Behaviour, P: Wait + Drop> Drop for Alive<'h, I, B, P> {
 impl<'h, I: Office, B: Behaviour, P: Wait + Drop> Future for Alive<'h, I, B, P> {
     type Output = ();
 
-    ghost can_poll = { λ l. IfSome l.child (λ child. B.Child.can_poll child.task) };
+    ghost can_poll = { λ l. IfSome l.child (λ child. B.Child.can_poll child.task × EndsBy B.Child.gives I.may_end child.task) };
 
     fn poll(&mut self, cx: &mut Context<'_>) -> Poll<()> {
         self.began = true;

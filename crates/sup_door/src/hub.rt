@@ -1,6 +1,7 @@
 //! Hubs: what the threads of a crew share.
-ghost use Rattle.std.specs.Prelude.{◌≡◌, ◌≤◌, ◌+◌, [], IfOk, vec_len, vec_capacity};
-ghost use Rattle.sup_inbox.specs.Ends.{AreOf};
+ghost use Rattle.std.specs.Prelude.{◌≡◌, ◌≤◌, ◌+◌, [], true, All, IfOk, vec_len, vec_capacity};
+ghost use Rattle.sup_inbox.specs.Ends.{AreOf, AreNew};
+ghost use Rattle.sup_door.specs.Endings.{is_ending, AreExitEndings, HavePostedEndings};
 
 use crate::counts::CrewCounts;
 use crate::due::Due;
@@ -28,12 +29,12 @@ pub struct Hub<I: Office, M: Drop, P: Wait + Drop> {
     ghost all: { vec_len outboxes ≡ I.posters },
 }
 
-/// An outbox for each poster.
+/// An outbox for each poster. None has posted anything.
 fn outboxes_of<I: Office>(
     alloc: Global,
     posters: Vec<Poster>,
 ) -> Result<Vec<Mutex<Outbox<I>>>, OutOfMemory>
-    requires { AreOf I.inbox posters.items }
+    requires { AreOf I.inbox posters.items × AreNew posters.items }
     ensures { IfOk result (λ outboxes. vec_len outboxes ≡ vec_len posters) }
 {
     let mut outboxes = Vec::with_capacity(alloc, posters.len())?;
@@ -52,7 +53,8 @@ fn posters_of<I: Office>(
 ) -> (Vec<Poster>, Vec<VecDeque<InboxFull>>)
     requires empty { (posters.items ≡ []) × (waiting.items ≡ []) }
     requires room { (vec_len outboxes ≤ vec_capacity posters) × (vec_len outboxes ≤ vec_capacity waiting) }
-    ensures { AreOf I.inbox result.0.items × (vec_len result.0 ≡ vec_len outboxes) }
+    ensures posters { AreOf I.inbox result.0.items × (vec_len result.0 ≡ vec_len outboxes) }
+    ensures endings { HavePostedEndings I.may_end result.0.items × All (λ list. AreExitEndings I.may_end list.items) result.1.items }
 {
     let mut posters = posters;
     let mut waiting = waiting;
@@ -65,7 +67,7 @@ fn posters_of<I: Office>(
 }
 
 impl<I: Office, M: Drop, P: Wait + Drop> Hub<I, M, P> {
-    /// A hub of an inbox that I names, with an outbox for each of its posters, for so many workers.
+    /// A hub of an inbox that I names, with an outbox for each of its posters, for so many workers. No poster has posted anything.
     pub fn new(
         rt: P,
         alloc: Global,
@@ -75,6 +77,7 @@ impl<I: Office, M: Drop, P: Wait + Drop> Hub<I, M, P> {
     ) -> Result<Hub<I, M, P>, OutOfMemory>
         requires named { (inbox.id ≡ I.inbox) × (inbox.capacity ≡ I.capacity) }
         requires posters { AreOf I.inbox posters.items × (vec_len posters ≡ I.posters) }
+        requires new { AreNew posters.items }
     {
         let outboxes = outboxes_of(alloc, posters)?;
         let rooms = Rooms::new(alloc)?;
@@ -107,7 +110,9 @@ impl<I: Office, M: Drop, P: Wait + Drop> Hub<I, M, P> {
     }
 
     /// Posts the exit that is owed, or lets it wait for room, and calls the driver.
-    pub(crate) fn pay(&self, due: Due, reason: Reason) {
+    pub(crate) fn pay(&self, due: Due, reason: Reason)
+        requires { is_ending I.may_end reason ≡ true }
+    {
         let Due { number, arg, place } = due;
         self.rooms.close(&self.rt, number);
         let exit = InboxFull {
@@ -122,7 +127,9 @@ impl<I: Office, M: Drop, P: Wait + Drop> Hub<I, M, P> {
         self.ring();
     }
 
-    fn put(&self, place: usize, exit: InboxFull) -> Result<(), InboxFull> {
+    fn put(&self, place: usize, exit: InboxFull) -> Result<(), InboxFull>
+        requires { is_ending I.may_end exit.reason ≡ true }
+    {
         let Some(outbox) = self.outboxes.get(place) else {
             return Err(exit);
         };
@@ -177,7 +184,8 @@ impl<I: Office, M: Drop, P: Wait + Drop> Hub<I, M, P> {
         &self.inbox
     }
 
-    /// The inbox with its posters again, and the exits that wait, in lists that have room for them.
+    /// The inbox with its posters again, and the exits that wait, in lists that have room for them. Each exit that was posted or
+    /// waits has a reason for which a child may end, or one of the crew's own.
     pub fn end(
         self,
         posters: Vec<Poster>,
@@ -187,6 +195,7 @@ impl<I: Office, M: Drop, P: Wait + Drop> Hub<I, M, P> {
         requires room { (I.posters ≤ vec_capacity posters) × (I.posters ≤ vec_capacity waiting) }
         ensures inbox { (result.0.id ≡ I.inbox) × (result.0.capacity ≡ I.capacity) }
         ensures posters { AreOf I.inbox result.1.items × (vec_len result.1 ≡ I.posters) }
+        ensures endings { HavePostedEndings I.may_end result.1.items × All (λ list. AreExitEndings I.may_end list.items) result.2.items }
     {
         let Hub {
             rt: _,

@@ -16,7 +16,8 @@
 //!
 //! What the layer above may rely on: an update by a door has the contract of a handle's, and a query that of an asker's. The
 //! exit of a child is a value that can be neither copied nor let go, so a child that ends, however it does, has paid it once.
-//! An exit that an outbox was given was posted, or waits there, in order.
+//! An exit that an outbox was given was posted, or waits there, in order. Its reason is one for which the behaviour's children
+//! may end, or one of the crew's own: `killed` of a child that was let go, `not_run` of one that could not be run.
 //!
 //! That a child is polled, that a message comes and that a thread wakes is promised by no contract: the kit's executor and
 //! channels are trusted for it, and tests show it.

@@ -1,6 +1,7 @@
 //! Outboxes: exits on their way to the inbox, of which none is refused.
-ghost use Rattle.std.specs.Prelude.{◌≡◌, [], ◌∷◌, ◌++◌, IfErr, OnOk};
+ghost use Rattle.std.specs.Prelude.{◌≡◌, [], ◌∷◌, ◌++◌, true, IfErr, OnOk};
 ghost use Rattle.sup_door.specs.Outboxes.{told};
+ghost use Rattle.sup_door.specs.Endings.{is_ending, AreEndings, AreExitEndings};
 
 use std::alloc::Global;
 use std::collections::VecDeque;
@@ -9,20 +10,24 @@ use std::sync::Wait;
 use sup_inbox::{Inbox, InboxFull, Poster};
 use sup_types::OutOfMemory;
 
-/// Names an inbox, and says how many notes it holds at most and how many posters it has. A value behind a lock is known by
-/// its type alone, so the type says which inbox it posts to.
+/// Names an inbox, and says how many notes it holds at most, how many posters it has, and for which reasons the children may
+/// end of whom it is told. A value behind a lock is known by its type alone, so the type says which inbox it posts to.
 pub trait Office {
-    ghost use Rattle.std.specs.Prelude.{ℕ};
+    ghost use Rattle.std.specs.Prelude.{ℕ, Bool};
     ghost use Rattle.atomic_table.specs.Seated.{TableId};
+    ghost use Rattle.sup_types.specs.declared.reason.Reason.{Reason};
 
     ghost inbox: { TableId };
 
     ghost capacity: { ℕ };
 
     ghost posters: { ℕ };
+
+    ghost may_end: { Reason → Bool };
 }
 
 impl Office for Brand {
+    ghost use Rattle.std.specs.Prelude.{true};
     ghost use Rattle.sup_door.specs.Offices.{no_inbox};
 
     ghost inbox = { no_inbox };
@@ -30,9 +35,12 @@ impl Office for Brand {
     ghost capacity = { 0 };
 
     ghost posters = { 0 };
+
+    ghost may_end = { λ reason. true };
 }
 
-/// A poster, the exits that wait for room in the inbox, and how many children there is room for among these.
+/// A poster, the exits that wait for room in the inbox, and how many children there is room for among these. By its type, each
+/// exit that it was told has a reason for which a child may end, or one of the crew's own.
 #[derive(Drop)]
 pub struct Outbox<I: Office> {
     poster: Poster,
@@ -40,12 +48,13 @@ pub struct Outbox<I: Office> {
     children: usize,
     of: PhantomData<I>,
     ghost of_inbox: { poster.inbox ≡ I.inbox },
+    ghost endings: { AreExitEndings I.may_end (told poster.posted waiting.items) },
 }
 
 impl<I: Office> Outbox<I> {
-    /// An outbox in which nothing waits. It takes no memory.
+    /// An outbox in which nothing waits, of a poster that posted nothing. It takes no memory.
     pub(crate) fn new(alloc: Global, poster: Poster) -> Outbox<I>
-        requires { poster.inbox ≡ I.inbox }
+        requires { (poster.inbox ≡ I.inbox) × (poster.posted ≡ []) }
     {
         Outbox {
             poster,
@@ -79,7 +88,8 @@ impl<I: Office> Outbox<I> {
         inbox: &Inbox,
         exit: InboxFull,
     ) -> Result<(), InboxFull>
-        requires { inbox.now.id ≡ I.inbox }
+        requires inbox { inbox.now.id ≡ I.inbox }
+        requires ending { is_ending I.may_end exit.reason ≡ true }
         ensures ok { OnOk result (told self.new.poster.posted self.new.waiting.items ≡ told self.old.poster.posted self.old.waiting.items ++ exit ∷ []) }
         ensures err { IfErr result (λ back. (back ≡ exit) × (told self.new.poster.posted self.new.waiting.items ≡ told self.old.poster.posted self.old.waiting.items)) }
     {
@@ -132,6 +142,7 @@ impl<I: Office> Outbox<I> {
     pub(crate) fn end(self) -> (Poster, VecDeque<InboxFull>)
         ensures inbox { result.0.inbox ≡ I.inbox }
         ensures told { told result.0.posted result.1.items ≡ told self.poster.posted self.waiting.items }
+        ensures endings { AreEndings I.may_end result.0.posted × AreExitEndings I.may_end result.1.items }
     {
         let Outbox {
             poster,

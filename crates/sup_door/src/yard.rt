@@ -1,6 +1,7 @@
 //! Yards: where children run.
 ghost use Rattle.std.specs.Prelude.{◌≡◌, ◌+◌, ◌-◌, ◌^◌, min, IfOk};
 ghost use mathlib.Core.List.{IsPrefix};
+ghost use Rattle.sup_door.specs.Endings.{EndsBy};
 
 use crate::alive::{Alive, not_run};
 use crate::behaviour::Behaviour;
@@ -20,7 +21,7 @@ use std::time::Clock;
 use sup_desk::{Handle, Journal, Name};
 use sup_types::{OutOfMemory, Seen, Starter, Text};
 
-/// The tasks of a crew, with what they share.
+/// The tasks of a crew, with what they share. By its type, its children may end for the reasons of which the office may be told.
 #[derive(Drop)]
 pub struct Yard<'h, I: Office, B: Behaviour, P: Wait + Drop, F: Future> {
     alloc: Global,
@@ -30,6 +31,7 @@ pub struct Yard<'h, I: Office, B: Behaviour, P: Wait + Drop, F: Future> {
     /// For how many seconds a child may go on after it was told to end.
     pub grace: u64,
     tasks: TaskSet<F>,
+    ghost ends: { I.may_end ≡ B.may_end behaviour.now },
 }
 
 impl<'h, I: Office, B: Behaviour, P: Wait + Drop, F: Future> Yard<'h, I, B, P, F> {
@@ -83,7 +85,7 @@ impl<'h, I: Office, B: Behaviour, P: Wait + Drop, F: Future> Yard<'h, I, B, P, F
 
     /// The child of this number and argument, with its room opened.
     fn admit(&self, number: u64, arg: &Text) -> Result<Abortable<B::Child>, AllocError>
-        ensures { IfOk result (λ child. B.Child.can_poll child.task) }
+        ensures { IfOk result (λ child. B.Child.can_poll child.task × EndsBy B.Child.gives I.may_end child.task) }
     {
         let (wiring, mailbox) = wired(self.alloc)?;
         let child = self.behaviour.begin(number, arg, mailbox);
@@ -105,6 +107,7 @@ impl<'h, I: Office, B: Behaviour, P: Wait + Drop> Yard<'h, I, B, P, Alive<'h, I,
         grace: u64,
         workers: usize,
     ) -> Result<Yard<'h, I, B, P, Alive<'h, I, B, P>>, OutOfMemory>
+        requires { I.may_end ≡ B.may_end behaviour.now }
         ensures { IfOk result (λ yard. yard.grace ≡ grace) }
     {
         let Ok(tasks) = TaskSet::new(rt, Doorbell::parking(), workers) else {

@@ -1,5 +1,6 @@
 //! The driver: it enters exits, begins the children that were restarted, and tries failed restarts again.
 ghost use Rattle.std.specs.Prelude.{◌≡◌, ◌+◌, ◌<◌, ◌≤◌, [], true, IfSome, vec_len, vec_capacity, length};
+ghost use Rattle.sup_crew.specs.Calls.{exits as exits_told};
 ghost use Rattle.sup_driver.specs.Leads.{exits_among, are_driven};
 
 use crate::lead::Lead;
@@ -59,15 +60,17 @@ pub struct Driven<N: Name, I: Office> {
     ghost of_inbox: { drain.inbox ≡ I.inbox },
     ghost all: { drain.posters ≡ I.posters },
     ghost driven: { are_driven caller.calls ≡ true },
+    ghost entered: { exits_among caller.calls ≡ exits_told drain.entered },
     ghost counted: { exits ≡ length (exits_among caller.calls) },
 }
 
 impl<N: Name, I: Office> Driven<N, I> {
     /// Its parts: the driver's handle without its desk, the drain, how many exits the handle entered, what was replied to it,
-    /// and the fault that stopped it.
+    /// and the fault that stopped it. The exits that the handle entered are those of the notes that the drain entered.
     pub fn parts(self) -> (Caller<N>, Drain, u64, Tally, Option<UpdateFault>)
         ensures inbox { (result.1.inbox ≡ I.inbox) × (result.1.posters ≡ I.posters) }
         ensures driven { are_driven result.0.calls ≡ true }
+        ensures entered { exits_among result.0.calls ≡ exits_told result.1.entered }
         ensures counted { result.2 ≡ length (exits_among result.0.calls) }
     {
         let Driven {

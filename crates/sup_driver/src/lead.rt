@@ -122,11 +122,13 @@ impl<'d, N: Name, S: Starter + Drop, Q: Wait + Drop, I: Office, J: Journal + Dro
         yard.begin(&mut self.handle, moment, number, arg, place);
     }
 
-    /// The driver's handle without its desk, the drain, and how many exits the handle entered.
+    /// The driver's handle without its desk, the drain, and how many exits the handle entered: those of the notes that the drain
+    /// entered.
     #[tactic(auto, using(crate::proofs::Led::counts_exits))]
     pub(crate) fn end(self) -> (Caller<N>, Drain, u64)
         ensures inbox { (result.1.inbox ≡ I.inbox) × (result.1.posters ≡ I.posters) }
         ensures driven { are_driven result.0.calls ≡ true }
+        ensures entered { exits_among result.0.calls ≡ exits result.1.entered }
         ensures counted { result.2 ≡ length (exits_among result.0.calls) }
     {
         let Lead {

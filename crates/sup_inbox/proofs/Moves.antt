@@ -11,7 +11,7 @@ use Rattle.sup_inbox.specs.declared.note.Note.{Note}
 use Rattle.sup_inbox.specs.declared.rule.Sent.{Sent}
 use Rattle.sup_inbox.specs.declared.rule.View.{View}
 use Rattle.sup_inbox.specs.Delivery.{from, total, sum_of, sum_idle, root, nobody, opened, seat, gathered, posts, takes, AreGathered, AreSent, IsIdle, Fits, Delivers, IsSettled}
-use Rattle.sup_inbox.specs.NoteLaws.{from-append, from-own, from-other, counts}
+use Rattle.sup_inbox.specs.NoteLaws.{from-append, from-own, from-other, counts, members}
 
 abbrev AllFit : ℕ → (ℕ → ℕ) → (ℕ → List Note) → List Note → List View → Type 0
 AllFit taker places sent taken views = (j : ℕ) (u : View) → get_elem? views j ≡ some u → Fits taker places sent taken j u
@@ -244,7 +244,7 @@ settled pass v may all items views h at =
     let each = are_sent v.made h.1 sent notes has v.gathered mine.known in
     let none : from notes 0 ≡ [] = has 0 ∙ mine.none.1 in
     let later : (w : ℕ) → v.made < w → from notes w ≡ [] = λ w low. has w ∙ (mine.later w low).1 in
-    record { each = each; none = none; later = later; count = sym (length-append v.taken items) ∙ counts h.1 v.made notes v.gathered all mine.once each none later }
+    record { each = each; none = none; later = later; members = members h.1 v.made v.gathered all mine.once; count = sym (length-append v.taken items) ∙ counts h.1 v.made notes v.gathered all mine.once each none later }
 
 pub empties : (pass : ℕ) (v : View) → v.takes ≡ true → length v.gathered ≡ v.made → Pops Delivers pass v (λ x w. (w ≡ takes v x) × (length w.taken ≤ total v.gathered))
 empties pass v may all x items views h at =

@@ -1,5 +1,6 @@
 -- What each poster posted is what was taken of it and then what the queue holds of it, in its order, and there is no other note.
 use Rattle.std.specs.Prelude.{◌≡◌, ℕ, zero, suc, ◌+◌, ◌<◌, ◌≤◌, true, false, cond, ◌==◌, List, [], ◌∷◌, ◌++◌, length}
+use Rattle.std.specs.List.{Any}
 use mathlib.Core.Option.{some}
 use lib.ListN.{get_elem?}
 use Rattle.crossbeam_queue.specs.Passes.{Pass, view}
@@ -99,9 +100,11 @@ abbrev pub AreSent : List Note → List Sent → Type 0
 AreSent notes [] = Unit {0}
 AreSent notes (s ∷ ss) = (from notes s.poster ≡ s.notes) × AreSent notes ss
 
--- once all posters were gathered in: what each posted is what was taken of it and what the queue holds of it, and there is no more
+-- once all posters were gathered in: what each posted is what was taken of it and what the queue holds of it, and there is no more. Each
+-- poster is among those that were gathered in
 pub record IsSettled (v : View) (items : List Note) : Type 0 where
   pub each : AreSent (v.taken ++ items) v.gathered
   pub none : from (v.taken ++ items) 0 ≡ []
   pub later : (w : ℕ) → v.made < w → from (v.taken ++ items) w ≡ []
   pub count : length v.taken + length items ≡ total v.gathered
+  pub members : (w : ℕ) → 1 ≤ w → w ≤ v.made → Any (λ s. s.poster ≡ w) v.gathered

@@ -1,5 +1,6 @@
 -- What a clause sees of the inbox, of its posters and of its taker.
 use Rattle.std.specs.Prelude.{◌≡◌, ℕ, suc, ◌≤◌, List, [], ◌∷◌}
+use Rattle.std.specs.List.{Any, Contains}
 use Rattle.atomic_table.specs.Seated.{TableId}
 use Rattle.sup_inbox.specs.declared.note.Note.{Note}
 use Rattle.sup_inbox.specs.declared.rule.Sent.{Sent}
@@ -42,3 +43,7 @@ sent_of p = record { poster = p.number; notes = p.posted }
 -- the note is by one of the posters 1 to n
 abbrev pub IsBy : ℕ → Note → Type 0
 IsBy n note = (1 ≤ note.poster) × (note.poster ≤ n)
+
+-- one of these posters posted the note
+abbrev pub IsPosted : List Posting → Note → Type 0
+IsPosted ps note = Any (λ p. Contains p.posted note) ps

@@ -1,6 +1,7 @@
 -- The notes of each poster among a list, and how many they are together.
 use Rattle.std.proofs.Common.{◌≡◌, ◌≢◌, ℕ, zero, suc, ◌+◌, ◌<◌, ◌≤◌, Bool, true, false, cond, eq-eqb, ne_eqb, List, [], ◌∷◌, ◌++◌, length, refl, sym, ap, ◌∙◌, subst, arith}
-use Rattle.std.specs.Prelude.{◌==◌, All}
+use Rattle.std.specs.Prelude.{◌==◌, All, slice_index_or}
+use Rattle.std.specs.List.{Any, Contains}
 use native.Mathlib.Decide.{dec_le, ℕ_discrete}
 use mathlib.Core.Logic.{dite}
 use Rattle.sup_inbox.specs.declared.note.Note.{Note}
@@ -102,3 +103,42 @@ pub counts : (places : ℕ → ℕ) (n : ℕ) (xs : List Note) (ss : List Sent) 
 counts places n xs ss len once each none later =
     let all = once (λ _. 1) ∙ sum_of-one ss ∙ len in
     sym (count-all n xs (by_from n xs none later)) ∙ count-idle places xs n all ∙ once (λ w. length (from xs w)) ∙ total-sent xs ss each
+
+-- where none of the posters 1 to n has a pass, each of them is counted
+idle_at : (places f : ℕ → ℕ) (n w : ℕ) → sum_idle places (λ _. 1) n ≡ n → 1 ≤ w → w ≤ n → f w ≤ sum_idle places f n
+idle_at places f zero w e first high = absurd (omega (arith, first, high))
+idle_at places f (suc n) w e first high =
+    let h = both_idle (places (suc n) == 0) (sum_idle places (λ _. 1) n) n (sum_idle-most places n) e in
+    let last = ap (λ b. cond b (f (suc n)) 0) h.0 in
+    dite (ℕ_discrete w (suc n)) (λ s. let same = ap f s in omega (arith, last, same)) (λ d. let less = idle_at places f n w h.1 first (omega (arith, d, high)) in omega (arith, less))
+
+-- one of these is of this poster
+member : (ss : List Sent) (w : ℕ) → 1 ≤ sum_of (λ x. cond (x == w) 1 0) ss → Any (λ s. s.poster ≡ w) ss
+member [] w h = absurd (omega (arith, h))
+member (s ∷ ss) w h =
+    dite (ℕ_discrete s.poster w)
+    (λ e. (0, s, omega arith, refl, e))
+    (λ n.
+    let none = ap {B = ℕ} (λ b. cond b 1 0) (ne_eqb s.poster w n) in
+    let m = member ss w (omega (arith, h, none)) in
+    (suc m.0, m.1, omega (arith, m.2), m.3, m.4))
+
+-- where these are all the posters 1 to n, each once, each of them is among these
+pub members : (places : ℕ → ℕ) (n : ℕ) (ss : List Sent) → length ss ≡ n → ((f : ℕ → ℕ) → sum_idle places f n ≡ sum_of f ss) → (w : ℕ) → 1 ≤ w → w ≤ n → Any (λ s. s.poster ≡ w) ss
+members places n ss len once w first high =
+    let all = once (λ _. 1) ∙ sum_of-one ss ∙ len in
+    let least = idle_at places (λ x. cond (x == w) 1 0) n w all first high in
+    let own = ap {B = ℕ} (λ b. cond b 1 0) (eq-eqb w w refl) in
+    let same = once (λ x. cond (x == w) 1 0) in
+    member ss w (omega (arith, least, own, same))
+
+-- a note is one of its poster's
+pub contains_from : (xs : List Note) (k : ℕ) (d : Note) → k < length xs → Contains (from xs (slice_index_or xs k d).poster) (slice_index_or xs k d)
+contains_from [] k d low = absurd (omega (arith, low))
+contains_from (x ∷ xs) zero d low = subst (λ (l : List Note). Contains l x) (sym (from-own x xs x.poster refl)) (0, omega arith, refl)
+contains_from (x ∷ xs) (suc k) d low =
+    let y = slice_index_or xs k d in
+    let c = contains_from xs k d (omega (arith, low)) in
+    dite (ℕ_discrete x.poster y.poster)
+    (λ e. subst (λ (l : List Note). Contains l y) (sym (from-own x xs y.poster e)) (suc c.0, omega (arith, c.1), c.2))
+    (λ n. subst (λ (l : List Note). Contains l y) (sym (from-other x xs y.poster n)) c)

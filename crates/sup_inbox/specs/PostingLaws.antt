@@ -1,13 +1,14 @@
 -- A row of posters, and what is known once all were gathered in.
 use Rattle.std.proofs.Common.{◌≡◌, ℕ, zero, suc, ◌+◌, ◌<◌, List, [], ◌∷◌, ◌++◌, length, map, refl, sym, ap, ◌∙◌, subst, arith, append-nil, append_assoc}
-use Rattle.std.specs.Prelude.{All}
+use Rattle.std.specs.Prelude.{All, slice_index_or}
+use Rattle.std.specs.List.{Any, Contains}
 use Rattle.atomic_table.specs.Seated.{TableId}
 use Rattle.sup_inbox.specs.declared.note.Note.{Note}
 use Rattle.sup_inbox.specs.declared.rule.Sent.{Sent}
 use Rattle.sup_inbox.specs.declared.rule.View.{View}
 use Rattle.sup_inbox.specs.Delivery.{from, taker_view, gathered, AreSent, IsSettled}
-use Rattle.sup_inbox.specs.Ends.{Posting, AreFrom, AreNew, AreOf, sent_of, IsBy}
-use Rattle.sup_inbox.specs.NoteLaws.{all_by, by_from}
+use Rattle.sup_inbox.specs.Ends.{Posting, AreFrom, AreNew, AreOf, sent_of, IsBy, IsPosted}
+use Rattle.sup_inbox.specs.NoteLaws.{all_by, by_from, contains_from}
 
 pub are_from-snoc : (id : TableId) (first : ℕ) (ps : List Posting) (p : Posting) → AreFrom id first ps → p.inbox ≡ id → p.number ≡ first + length ps → AreFrom id first (ps ++ p ∷ [])
 are_from-snoc id first [] p h i n = (i, n ∙ omega arith, tt)
@@ -41,6 +42,21 @@ pub others_settled : (n : ℕ) (notes : List Note) (gs : List Sent) → IsSettle
 others_settled n notes gs s =
     let e = sym (append-nil notes) in
     all_by n notes (by_from n notes (ap (λ l. from l 0) e ∙ s.none) (λ w low. ap (λ l. from l w) e ∙ s.later w low))
+
+any_sent : (ps : List Posting) (w : ℕ) → Any (λ s. s.poster ≡ w) (map sent_of ps) → Any (λ p. p.number ≡ w) ps
+any_sent [] w (k, s, low, is, e) = absurd (omega (arith, low))
+any_sent (p ∷ ps) w (zero, s, low, is, e) = (0, p, omega arith, refl, ap (λ (x : Sent). x.poster) is ∙ e)
+any_sent (p ∷ ps) w (suc k, s, low, is, e) = let m = any_sent ps w (k, s, omega (arith, low), is, e) in (suc m.0, m.1, omega (arith, m.2), m.3, m.4)
+
+-- each note is one that a poster posted
+pub every_settled : (ps : List Posting) (notes : List Note) → IsSettled (taker_view (length ps) notes (map sent_of ps)) [] → All (IsPosted ps) notes
+every_settled ps notes s k d low =
+    let note = slice_index_or notes k d in
+    let by = others_settled (length ps) notes (map sent_of ps) s k d low in
+    let m = any_sent ps note.poster (s.members note.poster by.0 by.1) in
+    let each = each_settled ps notes s m.0 m.1 m.2 in
+    let posted : from notes note.poster ≡ m.1.posted = ap (from notes) (sym m.4) ∙ subst (λ (p : Posting). from notes p.number ≡ p.posted) m.3 each in
+    (m.0, m.1, m.2, m.3, subst (λ (l : List Note). Contains l note) posted (contains_from notes k d low))
 
 pub gathers : (made : ℕ) (taken : List Note) (v u w : View) → v ≡ taker_view made taken v.gathered → w ≡ gathered v u → w ≡ taker_view made taken w.gathered
 gathers made taken v u w e f = f ∙ (λ i. taker_view (ap (λ (x : View). x.made) e i) (ap (λ (x : View). x.taken) e i) (sym (ap (λ (x : View). x.gathered) f) i))

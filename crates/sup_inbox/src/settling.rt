@@ -1,7 +1,7 @@
 //! The end of an inbox: what each poster posted was taken or is left.
 ghost use Rattle.std.specs.Prelude.{◌≡◌, ◌+◌, ◌≤◌, [], ◌++◌, length, map, All, IfOk, IfErr, IsOk, vec_len, vec_capacity};
 ghost use Rattle.sup_inbox.specs.Delivery.{from, known_by, taker_view, IsSettled};
-ghost use Rattle.sup_inbox.specs.Ends.{AreOf, sent_of, IsBy};
+ghost use Rattle.sup_inbox.specs.Ends.{AreOf, sent_of, IsBy, IsPosted};
 
 use crate::inbox::{Inbox, Poster, Taker};
 use crate::note::Note;
@@ -77,8 +77,8 @@ fn empty<R: Wait, A: Allocator, C: Allocator>(
 /// Ends an inbox, once all its posters, in any order, and its taker are in one place. No poster can stand there twice, so as
 /// many of the inbox's as were made are all of them. The room, which is empty before, is filled with the notes that are
 /// left: for each poster, its notes among those taken and then those left are what it posted, in its order, and there is no
-/// other note. For want of memory all comes back as it was, which cannot be where the room has space for the inbox's
-/// capacity.
+/// other note: each is one that a poster posted. For want of memory all comes back as it was, which cannot be where the room
+/// has space for the inbox's capacity.
 pub fn settle<R: Wait, A: Allocator, B: Allocator, C: Allocator>(
     rt: &R,
     posters: Vec<Poster, B>,
@@ -91,6 +91,7 @@ pub fn settle<R: Wait, A: Allocator, B: Allocator, C: Allocator>(
     requires room { room.items ≡ [] }
     ensures each { IfOk result (λ s. All (λ p. from (taker.taken ++ s.left.items) p.number ≡ p.posted) posters.items) }
     ensures others { IfOk result (λ s. All (IsBy (vec_len posters)) (taker.taken ++ s.left.items)) }
+    ensures every { IfOk result (λ s. All (IsPosted posters.items) (taker.taken ++ s.left.items)) }
     ensures back { IfErr result (λ u. (u.posters ≡ posters) × (u.taker ≡ taker) × (u.inbox ≡ inbox) × (u.room.items ≡ [])) }
     ensures room { inbox.capacity ≤ vec_capacity room → IsOk result }
 {

@@ -19,9 +19,11 @@
 //! breaks off.
 //!
 //! What the layer above may rely on: an update by a door has the contract of a handle's, and a query that of an asker's. The
-//! driver entered exits, later tries and the stop, and nothing else, and the report's count is that of its exits. The report
-//! says of each patron what became of it. The exit of a child is a value that can be neither copied nor let go, so a child
-//! that ends, however it does, has paid it once. An exit that an outbox was given was posted, or waits there, in order.
+//! driver entered exits, later tries and the stop, and nothing else, and the report's count is that of its exits. Each of
+//! these, and each exit that the report tells, has a reason for which the behaviour's children may end ([`Behaviour`],
+//! `may_end`), or one of the crew's own: `killed` of a child that was let go, `not_run` of one that could not be run. The
+//! report says of each patron what became of it. The exit of a child is a value that can be neither copied nor let go, so a
+//! child that ends, however it does, has paid it once. An exit that an outbox was given was posted, or waits there, in order.
 //!
 //! That a child is polled, that a message comes, that a thread wakes, and that a crew closes is promised by no contract: the
 //! kit's executor and channels are trusted for it, and tests show it. Nor does a contract tie the children that were made to

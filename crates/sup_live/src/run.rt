@@ -1,7 +1,8 @@
 //! Runs.
-ghost use Rattle.std.specs.Prelude.{◌≡◌, ◌<◌, ◌≤◌, [], true, length, IfOk, vec_len, vec_capacity};
-ghost use Rattle.sup_driver.specs.Leads.{exits_among, are_driven};
-ghost use Rattle.sup_inbox.specs.Ends.{AreOf};
+ghost use Rattle.std.specs.Prelude.{◌≡◌, ◌<◌, ◌≤◌, [], ◌++◌, true, length, All, IfOk, vec_len, vec_capacity};
+ghost use Rattle.sup_driver.specs.Leads.{exits_among, are_driven, AreExitsEnding};
+ghost use Rattle.sup_door.specs.Endings.{AreEndings, AreExitEndings};
+ghost use Rattle.sup_inbox.specs.Ends.{AreOf, AreNew};
 
 use crate::patrons::{Nobody, Programs};
 use crate::plan::{LiveFault, Plan};
@@ -87,6 +88,7 @@ where
     U::Outcome: Send,
     R: Threads + Wait + Clock + RandomSource + AllocGlobal + Sync,
     requires taker { taker ≡ record { inbox = I.inbox; posters = I.posters; taken = [] } }
+    requires ends { I.may_end ≡ B.may_end behaviour.now }
     ensures { IfOk result (λ j. vec_len j.patrons ≡ vec_len programs.patrons) }
 {
     let ends: Ends<'d, N, S, Q, I, J> = match ends_of(rt, alloc, desk, taker, plan.retry_after) {
@@ -138,6 +140,7 @@ impl Parts {
         requires { 1 ≤ inbox }
         ensures inbox { IfOk result (λ p. p.inbox.capacity ≡ inbox) }
         ensures posters { IfOk result (λ p. AreOf p.inbox.id p.posters.items × (vec_len p.posters ≡ workers)) }
+        ensures new { IfOk result (λ p. AreNew p.posters.items) }
         ensures taker { IfOk result (λ p. p.taker ≡ record { inbox = p.inbox.id; posters = workers; taken = [] }) }
         ensures empty { IfOk result (λ p. (p.room.posters.items ≡ []) × (p.room.waiting.items ≡ []) × (p.room.left.items ≡ []) × (p.room.held.items ≡ [])) }
         ensures room { IfOk result (λ p. (workers ≤ vec_capacity p.room.posters) × (workers ≤ vec_capacity p.room.waiting) × (inbox ≤ vec_capacity p.room.left) × (64 ≤ vec_capacity p.room.held)) }
@@ -182,11 +185,14 @@ where
     R: Threads + Wait + Clock + RandomSource + AllocGlobal + Sync,
     requires inbox { (parts.inbox.id ≡ I.inbox) × (parts.inbox.capacity ≡ I.capacity) }
     requires posters { AreOf I.inbox parts.posters.items × (vec_len parts.posters ≡ I.posters) }
+    requires new { AreNew parts.posters.items }
     requires taker { parts.taker ≡ record { inbox = I.inbox; posters = I.posters; taken = [] } }
+    requires ends { I.may_end ≡ B.may_end behaviour.now }
     requires empty { (parts.room.posters.items ≡ []) × (parts.room.waiting.items ≡ []) × (parts.room.left.items ≡ []) × (parts.room.held.items ≡ []) }
     requires room { (I.posters ≤ vec_capacity parts.room.posters) × (I.posters ≤ vec_capacity parts.room.waiting) × (I.capacity ≤ vec_capacity parts.room.left) × (64 ≤ vec_capacity parts.room.held) }
     ensures driven { IfOk result (λ r. are_driven r.driver.calls ≡ true) }
     ensures counted { IfOk result (λ r. r.exits ≡ length (exits_among r.driver.calls)) }
+    ensures endings { let may_end = B.may_end behaviour.now in IfOk result (λ r. AreExitsEnding may_end (exits_among r.driver.calls) × AreEndings may_end (r.held.items ++ r.left.items) × All (λ list. AreExitEndings may_end list.items) r.unposted.items) }
     ensures patrons { IfOk result (λ r. vec_len r.patrons ≡ vec_len programs.patrons) }
 {
     let Parts {
@@ -240,6 +246,7 @@ fn report<N: Name, I: Office, M: Drop, P: Wait + Drop, T: Drop, U: Drop, R: Wait
     requires room { (I.posters ≤ vec_capacity room.posters) × (I.posters ≤ vec_capacity room.waiting) × (I.capacity ≤ vec_capacity room.left) × (64 ≤ vec_capacity room.held) }
     ensures driven { are_driven result.driver.calls ≡ true }
     ensures counted { result.exits ≡ length (exits_among result.driver.calls) }
+    ensures endings { AreExitsEnding I.may_end (exits_among result.driver.calls) × AreEndings I.may_end (result.held.items ++ result.left.items) × All (λ list. AreExitEndings I.may_end list.items) result.unposted.items }
     ensures patrons { vec_len result.patrons ≡ vec_len joined.patrons }
 {
     let Joined {
@@ -279,6 +286,9 @@ fn report<N: Name, I: Office, M: Drop, P: Wait + Drop, T: Drop, U: Drop, R: Wait
 /// driver's is refused, for any cause but memory, the driver enters nothing more: every child is told to end and is let go as at a
 /// close, the report has the fault and the exits that were not entered, and the program goes on until it returns.
 ///
+/// Each exit that the driver entered has a reason for which the behaviour's children may end, or one of the crew's own: `killed` of
+/// a child that was let go, `not_run` of one that could not be run. So has each exit that the report says was held, left or not posted.
+///
 /// Two handles of the desk are used: the driver's, and that of the program's first door. Both come back, for an audit. After a
 /// fault nothing was entered, and the program was not run.
 pub fn run_live<N, S, Q, J, B, T, R>(
@@ -304,6 +314,7 @@ where
     requires inbox { (1 ≤ plan.inbox) × (plan.inbox ≤ 65536) }
     ensures driven { IfOk result (λ r. are_driven r.driver.calls ≡ true) }
     ensures counted { IfOk result (λ r. r.exits ≡ length (exits_among r.driver.calls)) }
+    ensures endings { let may_end = B.may_end behaviour.now in IfOk result (λ r. AreExitsEnding may_end (exits_among r.driver.calls) × AreEndings may_end (r.held.items ++ r.left.items) × All (λ list. AreExitEndings may_end list.items) r.unposted.items) }
     ensures patrons { IfOk result (λ r. r.patrons.items ≡ []) }
 {
     let nobody: Vec<Nobody<J>> = Vec::new(alloc);
@@ -343,6 +354,7 @@ where
     requires inbox { (1 ≤ plan.inbox) × (plan.inbox ≤ 65536) }
     ensures driven { IfOk result (λ r. are_driven r.driver.calls ≡ true) }
     ensures counted { IfOk result (λ r. r.exits ≡ length (exits_among r.driver.calls)) }
+    ensures endings { let may_end = B.may_end behaviour.now in IfOk result (λ r. AreExitsEnding may_end (exits_among r.driver.calls) × AreEndings may_end (r.held.items ++ r.left.items) × All (λ list. AreExitEndings may_end list.items) r.unposted.items) }
     ensures patrons { IfOk result (λ r. vec_len r.patrons ≡ vec_len patrons) }
 {
     let parts = match Parts::new(alloc, plan.workers, plan.inbox) {

@@ -1,11 +1,12 @@
 //! Sessions: what the children do.
-ghost use Rattle.std.specs.Prelude.{⊤};
+ghost use Rattle.std.specs.Prelude.{◌≡◌, ⊤, true, IfSome};
+ghost use Rattle.sup_serve.specs.Sessions.{ends_session};
 
 use futures::channel::oneshot::Sender;
 use futures::task::{Context, Poll};
 use futures::{Future, Stream};
 use sup_live::{Behaviour, Mailbox};
-use sup_types::{Reason, Text, Word};
+use sup_types::{Reason, Text};
 
 /// What a session answers to a text.
 #[derive(Clone, Copy, Debug)]
@@ -25,7 +26,7 @@ pub enum Message {
     Crash,
 }
 
-/// Makes sessions.
+/// Makes sessions. One ends because it was told to, or it crashes.
 #[derive(Drop)]
 pub struct Sessions;
 
@@ -33,6 +34,8 @@ impl Behaviour for Sessions {
     type Message = Message;
 
     type Child = Session;
+
+    ghost may_end = { λ sessions reason. ends_session reason };
 
     fn begin(&self, number: u64, _name: &Text, mailbox: Mailbox<Message>) -> Session
         ensures { ⊤ }
@@ -55,7 +58,9 @@ pub struct Session {
 
 impl Session {
     /// The reason for which it ends by this message, if it does.
-    fn hear(&mut self, message: Message) -> Option<Reason> {
+    fn hear(&mut self, message: Message) -> Option<Reason>
+        ensures { IfSome result (λ reason. ends_session reason ≡ true) }
+    {
         match message {
             Message::Text(_text, answer) => {
                 self.messages = self.messages.saturating_add(1);
@@ -66,13 +71,15 @@ impl Session {
                 });
                 None
             }
-            Message::Crash => Some(crash()),
+            Message::Crash => Some(Reason::crash()),
         }
     }
 }
 
 impl Future for Session {
     type Output = Reason;
+
+    ghost gives = { λ session reason. ends_session reason ≡ true };
 
     fn poll(&mut self, cx: &mut Context<'_>) -> Poll<Reason> {
         match self.mailbox.poll_next(cx) {
@@ -83,12 +90,5 @@ impl Future for Session {
                 None => cx.yield_now(),
             },
         }
-    }
-}
-
-fn crash() -> Reason {
-    match Word::new(b"crash") {
-        Some(word) => Reason::Other(word),
-        None => unreachable!(),
     }
 }

@@ -1,0 +1,14 @@
+use Rattle.std.proofs.Common.{ap, ◌∙◌}
+use Rattle.sup_live.proofs.Told.{entered_ending, kept_ending}
+use Rattle.sup_live.proofs.run.report.Goals as goal
+
+pub returns-clause-endings : goal.returns-clause-endings
+returns-clause-endings g c =
+    let may_end = g.I.Office.may_end in
+    let posted = c.end-inbox.ensures.endings in
+    let drained = c.end-taker.ensures in
+    let took = ap (λ t. t.taken) drained.taker in (
+      entered_ending may_end _ _ _ _ _ _ posted.0 took c.in-Ok.ensures.every c.parts-caller.ensures.entered,
+      kept_ending may_end _ _ _ _ _ _ posted.0 took c.in-Ok.ensures.every (c.list_held.ensures ∙ drained.held),
+      posted.1,
+    )
