@@ -1,9 +1,3 @@
-pub mod Commands
 pub mod Counting
-pub mod Leads
-pub mod Loads
-pub mod Numbers
 pub mod Replies
 pub mod Shows
-pub mod Tables
-pub mod Walks

@@ -5,10 +5,10 @@ use Rattle.clap.specs.Kinds.{Kinds}
 use Rattle.clap.specs.Values.{kind_of}
 use Rattle.clap.specs.declared.error.Error.{Error}
 use Rattle.sup_load.specs.Answered.{IsDone, IsReply, IsServed, IsServing, IsShownAs}
-use Rattle.sup_load.specs.Orders.{Command, IsOrder, LeadsTo}
+use Rattle.sup_words.specs.Orders.{Command, IsOrder, LeadsTo}
 use Rattle.sup_script.specs.declared.runs.answer.Status.{Status}
-use Rattle.sup_load.specs.declared.words.Order.{Order}
-use Rattle.sup_load.specs.declared.words.Order.TheVariants as order
+use Rattle.sup_words.specs.declared.words.Order.{Order}
+use Rattle.sup_words.specs.declared.words.Order.TheVariants as order
 use Rattle.sup_serve.specs.declared.server.Notices.{Notices}
 
 module _ (kinds : Kinds) (command : Command) (remaining left contents held : Option (List ℕ)) (has_failed : Bool) (given : ℕ) (has_refused : Bool) (s : Status) where

@@ -1,10 +1,10 @@
 //! The load: a crew over a desk, and readers that ask meanwhile.
 
-ghost use Rattle.std.specs.Prelude.{◌≡◌, ◌≤◌, ℕ, List, [], Err, IfErr, IfOk, MatchOption, OnOk, true, vec_len};
+ghost use Rattle.std.specs.Prelude.{◌≡◌, ◌≤◌, ℕ, List, [], Err, IfErr, IfOk, OnOk, true, vec_len};
 ghost use Rattle.std.specs.Io.KnownBytes.{Appends};
-ghost use Rattle.sup_load.specs.Loads.{fault_behind, IsWithin};
+ghost use Rattle.sup_load.specs.Loads.{fault_behind};
 ghost use Rattle.sup_load.specs.Lines.{load_lines, named};
-ghost use Rattle.sup_load.specs.Reports.{AreCounts, IsTold, IsLoaded};
+ghost use Rattle.sup_load.specs.Reports.{AreCounts, AreCountsOf, IsOfKind, IsTold, IsLoaded, fault_in, lines_of};
 ghost use Rattle.sup_types.specs.declared.template.Template.{Template as ATemplate};
 ghost use Rattle.sup_crew.specs.Reports.{IsRunOfItsOwn};
 ghost use Rattle.sup_types.specs.declared.reason.Reason.TheVariants.{Normal};
@@ -12,59 +12,25 @@ ghost use Rattle.sup_types.specs.declared.text.Text.{Text as AText};
 ghost use Rattle.sup_load.specs.declared.fault.LoadFault.TheVariants.{WriteFault};
 
 use crate::fault::{LoadFault, StopFault};
+use crate::live::on_live_desk;
 use itoa::Buffer;
-use std::alloc::{AllocError, Global};
+use std::alloc::{AllocError, AllocGlobal, Global};
 use std::fs::{File, Files};
 use std::io::Write;
 use std::marker::Brand;
+use std::random::RandomSource;
 use std::sync::Wait;
 use std::thread;
 use std::thread::{JoinHandle, Threads};
+use std::time::Clock;
 use sup_crew::{Body, Job, Plan, Reads, Report, read_turns, run_crew};
 use sup_desk::{Asker, Desk, Ground, Handle, Journal, Name, NoJournal};
 use sup_journal::{TextJournal, Unknown};
+use sup_liveload::{LiveSums, write_sums};
 use sup_log::Gone;
 use sup_script::{ScriptStarter, WatchedWriter};
 use sup_types::{Kind, Reason, Restart, Starter, Template, Text};
-
-/// How much is to be done.
-#[derive(Clone, Copy, Debug, PartialEq, Eq)]
-pub struct Load {
-    /// How many threads run bodies: 1 to 64.
-    pub workers: usize,
-    /// How many children are started: 1 to 65,536.
-    pub children: u64,
-    /// How many threads ask: 0 to 64.
-    pub readers: usize,
-    /// How often each of them asks: 1 to 1,000,000.
-    pub turns: u64,
-    ghost crew: { (1 ≤ workers) × (workers ≤ 64) },
-    ghost crowd: { (1 ≤ children) × (children ≤ 65536) },
-    ghost asking: { readers ≤ 64 },
-    ghost asked: { (1 ≤ turns) × (turns ≤ 1000000) },
-}
-
-impl Load {
-    /// This much, where it is within the ranges.
-    pub fn new(workers: usize, children: u64, readers: usize, turns: u64) -> Option<Load>
-        ensures { MatchOption result (IsWithin workers children readers turns → ⊥)
-            (λ load. (load.workers ≡ workers) × (load.children ≡ children) × (load.readers ≡ readers) × (load.turns ≡ turns)) }
-    {
-        let is_load = (1..=64).contains(&workers)
-            && (1..=65_536).contains(&children)
-            && readers <= 64
-            && (1..=1_000_000).contains(&turns);
-        if !is_load {
-            return None;
-        }
-        Some(Load {
-            workers,
-            children,
-            readers,
-            turns,
-        })
-    }
-}
+use sup_words::{Load, LoadKind};
 
 /// The notes that the inbox of a load holds at most.
 const INBOX: usize = 1024;
@@ -72,9 +38,12 @@ const INBOX: usize = 1024;
 /// How often a post is tried, and how often the driver finds nothing before it gives up.
 const CREW_TURNS: u64 = 1_000_000_000;
 
-/// What a load came to.
+/// How many children may be restarted within 5 seconds where they are live: all that are told to crash, and more.
+const LIVE_INTENSITY: u64 = 1000;
+
+/// What a load of children came to that end at once.
 #[derive(Clone, Copy)]
-struct Sums {
+pub struct Sums {
     made: u64,
     exits: u64,
     strays: u64,
@@ -84,6 +53,13 @@ struct Sums {
     held: usize,
     reads: u64,
     fault: Option<StopFault>,
+}
+
+/// What a load came to.
+#[derive(Clone, Copy)]
+pub enum Measured {
+    Brief(Sums),
+    Live(LiveSums),
 }
 
 /// A body that ends at once.
@@ -99,45 +75,76 @@ impl Body for EndsAtOnce {
     }
 }
 
-/// Runs the load, and writes what it came to: two lines. With a path the history is written to a new file there, each update
-/// before it takes effect. The fault is one that comes before there is a report, and then nothing is written; or that of a
-/// refused write, else of the run, else of a reader.
+/// Runs the load, and writes what it came to: two lines, or three where it is live. With a path the history is written to a new
+/// file there, each update before it takes effect. The fault is one that comes before there is a report, and then nothing is
+/// written; or that of a refused write, else of the run, else of a reader.
 pub fn run_load<R, W: Write>(
     rt: &R,
     alloc: Global,
     load: Load,
+    kind: LoadKind,
     journal: Option<&str>,
     out: &mut WatchedWriter<W>,
 ) -> Result<(), LoadFault>
 where
-    R: Threads + Wait + Files + Sync,
+    R: Threads + Wait + Clock + RandomSource + AllocGlobal + Files + Sync,
     R::File: Send,
-    ensures loaded { IsLoaded (W.contents out.old.writer) (W.contents out.new.writer) out.new.has_refused result }
+    ensures loaded { IsLoaded kind (W.contents out.old.writer) (W.contents out.new.writer) out.new.has_refused result }
     ensures cause { result ≡ Err WriteFault → out.new.has_refused ≡ true }
 {
     let outcome = match journal {
-        None => measure_bare(rt, alloc, load),
-        Some(path) => measure_recorded(rt, alloc, load, path),
+        None => measure_bare(rt, alloc, load, kind),
+        Some(path) => measure_recorded(rt, alloc, load, kind, path),
     };
     tell(outcome, out)
 }
 
 /// Writes what a load came to, if there is a report. WriteFault: the writer refused, and a front of the lines is written.
 fn tell<W: Write>(
-    outcome: Result<Sums, StopFault>,
+    outcome: Result<Measured, StopFault>,
     out: &mut WatchedWriter<W>,
 ) -> Result<(), LoadFault>
     ensures outcome { IsTold outcome (W.contents out.old.writer) (W.contents out.new.writer) out.new.has_refused result }
     ensures cause { result ≡ Err WriteFault → out.new.has_refused ≡ true }
 {
-    let sums = match outcome {
-        Ok(sums) => sums,
+    let measured = match outcome {
+        Ok(measured) => measured,
         Err(fault) => return Err(LoadFault::Stopped(fault)),
     };
-    write_lines(&sums, out)?;
-    match sums.fault {
+    write_measured(&measured, out)?;
+    match fault_of(&measured) {
         Some(fault) => Err(LoadFault::Stopped(fault)),
         None => Ok(()),
+    }
+}
+
+/// What stopped it, if anything did.
+fn fault_of(measured: &Measured) -> Option<StopFault>
+    ensures { result ≡ fault_in measured.now }
+{
+    match measured {
+        Measured::Brief(sums) => sums.fault,
+        Measured::Live(sums) => match sums.fault {
+            Some(fault) => Some(StopFault::of_live(fault)),
+            None => None,
+        },
+    }
+}
+
+/// Writes the lines of what a load came to.
+fn write_measured<W: Write>(
+    measured: &Measured,
+    out: &mut WatchedWriter<W>,
+) -> Result<(), LoadFault>
+    ensures lines { OnOk result (Appends (W.contents out.old.writer) (W.contents out.new.writer) (lines_of measured.now)) }
+    ensures cause { IfErr result (λ f. (f ≡ WriteFault) × (out.new.has_refused ≡ true)) }
+{
+    match measured {
+        Measured::Brief(sums) => write_lines(sums, out),
+        Measured::Live(sums) => match write_sums(sums, out) {
+            Ok(()) => Ok(()),
+            Err(_) => Err(LoadFault::WriteFault),
+        },
     }
 }
 
@@ -184,70 +191,108 @@ pub fn write_text<W: Write>(out: &mut WatchedWriter<W>, text: &str) -> Result<()
 }
 
 /// The template of the load's supervisor.
-fn template_of(load: &Load) -> Result<Template, StopFault> {
+fn template_of(load: &Load, kind: LoadKind) -> Result<Template, StopFault> {
     let rows = load.children;
-    Ok(Template::new(Restart::Temporary, Kind::Worker, 0, 5, rows, 1 << 62)?)
+    let (restart, intensity) = match kind {
+        LoadKind::Brief => (Restart::Temporary, 0),
+        LoadKind::Live => (Restart::Permanent, LIVE_INTENSITY),
+    };
+    Ok(Template::new(restart, Kind::Worker, intensity, 5, rows, 1 << 62)?)
+}
+
+/// How many handles the load takes: one for each thread that runs bodies, asks or drives; or, where the children are live, the
+/// driver's, the program's and those of the threads that ask.
+fn handles_of(load: &Load, kind: LoadKind) -> u64 {
+    match kind {
+        LoadKind::Brief => (load.workers + 1 + load.readers) as u64,
+        LoadKind::Live => (2 + load.readers) as u64,
+    }
 }
 
 /// Runs the load without a journal.
-fn measure_bare<R: Threads + Wait + Sync>(
-    rt: &R,
-    alloc: Global,
-    load: Load,
-) -> Result<Sums, StopFault>
-    ensures { IfOk result (λ s. (template : ATemplate) × AreCounts template s) }
+fn measure_bare<R>(rt: &R, alloc: Global, load: Load, kind: LoadKind) -> Result<Measured, StopFault>
+where
+    R: Threads + Wait + Clock + RandomSource + AllocGlobal + Sync,
+    ensures kind { IfOk result (IsOfKind kind) }
+    ensures counts { IfOk result (λ m. (template : ATemplate) × AreCountsOf template m) }
 {
-    let template = template_of(&load)?;
-    measure(rt, alloc, load, template, NoJournal)
+    let template = template_of(&load, kind)?;
+    measure(rt, alloc, load, kind, template, NoJournal)
 }
 
 /// Runs the load with a journal on a new file at this path.
-fn measure_recorded<R>(rt: &R, alloc: Global, load: Load, path: &str) -> Result<Sums, StopFault>
+fn measure_recorded<R>(
+    rt: &R,
+    alloc: Global,
+    load: Load,
+    kind: LoadKind,
+    path: &str,
+) -> Result<Measured, StopFault>
 where
-    R: Threads + Wait + Files + Sync,
+    R: Threads + Wait + Clock + RandomSource + AllocGlobal + Files + Sync,
     R::File: Send,
-    ensures { IfOk result (λ s. (template : ATemplate) × AreCounts template s) }
+    ensures kind { IfOk result (IsOfKind kind) }
+    ensures counts { IfOk result (λ m. (template : ATemplate) × AreCountsOf template m) }
 {
-    let template = template_of(&load)?;
+    let template = template_of(&load, kind)?;
     let Ok(file) = File::create_new(rt, path) else {
         return Err(StopFault::NoJournal);
     };
     match TextJournal::<Unknown, R::File, Global>::new(alloc, file, &template) {
-        Ok(journal) => measure(rt, alloc, load, template, journal),
+        Ok(journal) => measure(rt, alloc, load, kind, template, journal),
         Err(not_begun) => Err(StopFault::from(not_begun.fault)),
     }
 }
 
 /// Runs the load with this journal.
-fn measure<R: Threads + Wait + Sync, J: Journal + Drop + Send>(
+fn measure<R, J>(
     rt: &R,
     alloc: Global,
     load: Load,
+    kind: LoadKind,
     template: Template,
     journal: J,
-) -> Result<Sums, StopFault>
+) -> Result<Measured, StopFault>
+where
+    R: Threads + Wait + Clock + RandomSource + AllocGlobal + Sync,
+    J: Journal + Drop + Send,
     requires { J.has journal template [] [] }
-    ensures { IfOk result (λ s. (template : ATemplate) × AreCounts template s) }
+    ensures kind { IfOk result (IsOfKind kind) }
+    ensures counts { IfOk result (λ m. (template : ATemplate) × AreCountsOf template m) }
 {
-    let handles = (load.workers + 1 + load.readers) as u64;
-    let ground = Ground::new(alloc, rt, template, handles)?;
-    on_ground::<Brand, R, J>(rt, alloc, ground, load, journal)
+    let ground = Ground::new(alloc, rt, template, handles_of(&load, kind))?;
+    on_ground::<Brand, R, J>(rt, alloc, ground, load, kind, journal)
 }
 
 /// Runs the load on a desk of this ground, which N names, with this journal.
-fn on_ground<N: Name + Send + Sync, R: Threads + Wait + Sync, J: Journal + Drop + Send>(
+fn on_ground<N, R, J>(
     rt: &R,
     alloc: Global,
     ground: Ground<&R>,
     load: Load,
+    kind: LoadKind,
     journal: J,
-) -> Result<Sums, StopFault>
+) -> Result<Measured, StopFault>
+where
+    N: Name + Send + Sync,
+    R: Threads + Wait + Clock + RandomSource + AllocGlobal + Sync,
+    J: Journal + Drop + Send,
     requires name { (ground.press ≡ N.press) × (ground.template ≡ N.template) × (ground.roll ≡ N.roll) }
     requires journal { J.has journal N.template [] [] }
-    ensures { IfOk result (λ s. AreCounts N.template s) }
+    ensures kind { IfOk result (IsOfKind kind) }
+    ensures counts { IfOk result (λ m. AreCountsOf N.template m) }
 {
     let desk: Desk<N, ScriptStarter, &R, J> = Desk::with_journal(ground, ScriptStarter, journal);
-    on_desk(rt, alloc, &desk, load)
+    match kind {
+        LoadKind::Brief => match on_desk(rt, alloc, &desk, load) {
+            Ok(sums) => Ok(Measured::Brief(sums)),
+            Err(fault) => Err(fault),
+        },
+        LoadKind::Live => match on_live_desk(rt, alloc, &desk, load) {
+            Ok(sums) => Ok(Measured::Live(sums)),
+            Err(fault) => Err(fault),
+        },
+    }
 }
 
 /// Runs the load on this desk, with a handle for each reader.

@@ -6,9 +6,9 @@
 #![tactic(auto)]
 
 mod fault;
+mod live;
 mod load;
 mod program;
-mod words;
 
 use program::{refuse_words, run_words};
 use std::process::ExitCode;

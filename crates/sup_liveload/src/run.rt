@@ -1,0 +1,88 @@
+//! Runs of live loads.
+
+ghost use Rattle.std.specs.Prelude.{IfOk};
+ghost use Rattle.sup_liveload.specs.Counts.{AreLiveCounts};
+
+use crate::extent::Extent;
+use crate::fault::LiveLoadFault;
+use crate::gate::Gate;
+use crate::leader::Leader;
+use crate::listener::Listeners;
+use crate::reader::readers;
+use crate::sums::{LiveSums, answers_of, sums_of};
+use std::alloc::{AllocGlobal, Global};
+use std::random::RandomSource;
+use std::sync::Wait;
+use std::thread::Threads;
+use std::time::Clock;
+use sup_desk::{Desk, Journal, Name};
+use sup_live::{Moments, Plan, run_live_with_patrons};
+use sup_script::ScriptStarter;
+
+/// How many exits the inbox of a live load holds at most.
+const INBOX: usize = 65_536;
+
+/// For how many seconds a child may go on after it was told to end.
+const GRACE: u64 = 5;
+
+/// After how many seconds a restart that failed is tried again.
+const RETRY_AFTER: u64 = 1;
+
+/// Runs a live load over this desk, whose handles are the driver's, the program's and one for each reader. It waits until all
+/// its children are gone.
+///
+/// A fault is one that comes before there is a report: want of memory, or a crew that could not run. Then nothing was entered.
+/// What stopped the run later is in the sums.
+pub fn run_live_load<N, J, R>(
+    rt: &R,
+    alloc: Global,
+    desk: &Desk<N, ScriptStarter, &R, J>,
+    extent: Extent,
+) -> Result<LiveSums, LiveLoadFault>
+where
+    N: Name + Send + Sync,
+    J: Journal + Drop + Send,
+    R: Threads + Wait + Clock + RandomSource + AllocGlobal + Sync,
+    ensures { IfOk result AreLiveCounts }
+{
+    let gate = Gate::new();
+    run_by(rt, alloc, desk, &gate, extent)
+}
+
+/// Runs a live load by this gate, which is new. It stands apart, since the borrow checker of this kit does not cover a call at
+/// the lifetime of a gate that is made beside it.
+fn run_by<N, J, R>(
+    rt: &R,
+    alloc: Global,
+    desk: &Desk<N, ScriptStarter, &R, J>,
+    gate: &Gate,
+    extent: Extent,
+) -> Result<LiveSums, LiveLoadFault>
+where
+    N: Name + Send + Sync,
+    J: Journal + Drop + Send,
+    R: Threads + Wait + Clock + RandomSource + AllocGlobal + Sync,
+    ensures { IfOk result AreLiveCounts }
+{
+    let listeners = Listeners { gate };
+    let plan = Plan {
+        workers: extent.workers,
+        inbox: INBOX,
+        retry_after: RETRY_AFTER,
+        grace: GRACE,
+    };
+    let leader = Leader::new(alloc, gate, extent.children, extent.turns);
+    let readers = readers(alloc, gate, extent.readers, extent.turns)?;
+    let report = run_live_with_patrons(
+        rt,
+        alloc,
+        desk,
+        &listeners,
+        Moments::Monotonic,
+        plan,
+        leader,
+        readers,
+    )?;
+    let answers = answers_of(report.patrons.as_slice());
+    Ok(sums_of(&report, gate.heard(), answers))
+}

@@ -1,0 +1,298 @@
+-- The words of a load lead to the load of their numbers.
+use Rattle.std.proofs.Common.{◌≡◌, ◌∙◌, ◌++◌, ◌<◌, ◌≤◌, ◌^◌, ℕ, Bool, true, false, List, [], ◌∷◌, Some, None, refl, sym, ap, ap₂, subst, arith, codes, get_or, map, inl, inr}
+use Rattle.std.specs.Prelude.{Result, Ok, Err, decimal, Option, find, if◌then◌else◌, is_some, option_and_then, option_map, slice_get}
+use Rattle.std.specs.Borrow.{Bor}
+use Rattle.std.specs.Str.{bytes_eq}
+use Rattle.std.specs.Str.Parse.{IsNumeral, digits_value, without_leading_plus}
+use Rattle.std.specs.Char.{digit_value}
+use Rattle.std.proofs.lemmas.Fmt.{decimal_is_IsNumeral}
+use Rattle.std.proofs.lemmas.List.{map-append}
+use Rattle.std.proofs.lemmas.Str.Parse.{without_leading_plus_none}
+use Rattle.clap.specs.Faults.{check_fault, defaults_fault, entered_fault, fault_of, level_fault, settle_fault, walk_fault}
+use Rattle.clap.specs.Kinds.{IsAmong, Kinds, or_else}
+use Rattle.clap.specs.Simple.{App, built, entered, names_of, subcommand_of}
+use Rattle.clap.specs.Takes.{is_given}
+use Rattle.clap.specs.Values.{Accepts, kind_of}
+use Rattle.clap.specs.Walk.{Row, Text, Walk, finished, first_of, one_of, idle, nothing_held, row_text, rows_after, settled, walk, walk_from}
+use Rattle.clap.specs.declared.builder.value_parser.ValueParser.TheVariants.{Unsigned}
+use Rattle.clap.proofs.FaultLemmas.{stopped_fault}
+use Rattle.clap.proofs.KindLemmas.{value_kinds-ok}
+use Rattle.clap.proofs.OnLiterals.{clap_on_literals}
+use Rattle.clap.proofs.WalkLemmas.{walk_stopped}
+use Rattle.sup_words.specs.Grammar.{supload_app}
+use Rattle.sup_words.specs.Ranges.{IsWithin}
+use Rattle.sup_words.specs.declared.load.Load.{Load}
+use Rattle.sup_words.specs.declared.load.LoadKind.{LoadKind}
+use Rattle.clap.specs.declared.error.Error.{Error}
+use Rattle.sup_words.proofs.Leads.{first_byte, rows_in}
+use Rattle.sup_words.specs.Orders.{AreNumbers, Command, HasNumber, IsKind, IsLoadOf, LeadsTo, WordsLeadTo, command_at, kinds_at}
+use Rattle.sup_words.specs.Settings.{AreNew, AreWithin, Given, IsWhole, Setting, workers, children, readers, turns, number, live, has_live, kind_by, kind_in, least_of, most_of, name_of, number_in, words_of}
+use Rattle.sup_words.specs.declared.words.Order.{Order}
+use Rattle.sup_words.specs.declared.words.Order.TheVariants as order
+use Rattle.sup_words.proofs.Numbers.{same_number}
+use Rattle.sup_words.proofs.Tables.{added, appends, final_is, found_at, found_before, found_behind, is_new, live_appends, live_is_new, row_for, row_without, rows_are_table, same_setting, says_live}
+use Rattle.sup_words.proofs.Walks.{AllPlain, final, leaf_fault, leaf_rows, live_fault, load_rules, load_shape, missing, or_else-nil, pair_fault, pair_faults, plain_text, rows_from}
+
+-- ---- numbers
+
+small_for : (s : Setting) (n : ℕ) → n ≤ most_of s → n < 2 ^ 64
+small_for workers n most = omega arith
+small_for children n most = omega arith
+small_for readers n most = omega arith
+small_for turns n most = omega arith
+
+-- a numeral begins with no byte that is no digit
+no_first : (v : List ℕ) → IsNumeral 10 v → (c : ℕ) → 10 ≤ digit_value c → get_or v 0 0 ≡ c → ⊥
+no_first [] is c other e = absurd (omega (arith, is.0))
+no_first (x ∷ xs) is c other e =
+    let digit : digit_value c < 10 = subst (λ (y : ℕ). digit_value y < 10) e is.1.0 in
+    omega (arith, digit, other)
+
+module _ (n : ℕ) (small : n < 2 ^ 64) where
+  numeral : IsNumeral 10 (decimal n)
+  numeral = (decimal_is_IsNumeral n small).0
+
+  no_plus : without_leading_plus (decimal n) ≡ decimal n
+  no_plus = without_leading_plus_none (decimal n) (no_first (decimal n) numeral 43 (omega arith))
+
+  value_is : digits_value 10 (without_leading_plus (decimal n)) ≡ n
+  value_is = ap (digits_value 10) no_plus ∙ (decimal_is_IsNumeral n small).1
+
+  is_accepted : (least most : ℕ) → least ≤ n → n ≤ most → Accepts false (Unsigned least most) (decimal n)
+  is_accepted least most low high = (
+    subst (IsNumeral 10) (sym no_plus) numeral,
+    subst (λ (m : ℕ). m < 2 ^ 64) (sym value_is) small,
+    subst (λ (m : ℕ). least ≤ m) (sym value_is) low,
+    subst (λ (m : ℕ). m ≤ most) (sym value_is) high,
+  )
+
+  number_at : (rows : List Row) (s : Setting) → find (λ r. bytes_eq r.id (name_of s)) rows ≡ Some (row_for (number s n)) → HasNumber rows (name_of s) n
+  unfolding row_for
+  number_at rows s at = record {
+    text = decimal n;
+    found = ap (option_and_then row_text) at;
+    numeral = subst (IsNumeral 10) (sym no_plus) numeral;
+    fits = subst (λ (m : ℕ). m < 2 ^ 64) (sym value_is) small;
+    value = sym value_is;
+  }
+
+-- ---- the faults of the options
+
+all_plain : (given : Given) → AreWithin given → AllPlain given
+unfolding AllPlain
+all_plain [] within = tt
+all_plain (number s n ∷ ps) within =
+    let small = small_for s n within.1 in
+    (plain_text (decimal n) (no_first (decimal n) (numeral n small) 45 (omega arith)), all_plain ps within.2)
+all_plain (live ∷ ps) within = all_plain ps within
+
+pair_passes : (before : Given) (s : Setting) (n : ℕ) → number_in before s ≡ None → least_of s ≤ n → n ≤ most_of s
+    → pair_fault (number s n) (map row_for before) ≡ []
+unfolding pair_fault
+pair_passes before s n new low high =
+    let small = small_for s n high in
+    rw (is_new before s n new, value_kinds-ok false (Unsigned (least_of s) (most_of s)) (decimal n) (is_accepted n small (least_of s) (most_of s) low high)) refl
+
+live_passes : (before : Given) → has_live before ≡ false → pair_fault live (map row_for before) ≡ []
+unfolding pair_fault live_fault
+live_passes before new = rw (live_is_new before new) refl
+
+pairs_pass : (before after : Given) → AreNew before after → AreWithin after → pair_faults (map row_for before) after ≡ []
+unfolding pair_faults
+pairs_pass before [] new within = refl
+pairs_pass before (number s n ∷ ps) new within =
+    ap₂ or_else (pair_passes before s n new.0 within.0 within.1)
+    (ap (λ r. pair_faults r ps) (appends before s n new.0 ∙ sym (map-append row_for before (number s n ∷ []))) ∙ pairs_pass (before ++ number s n ∷ []) ps new.1 within.2)
+pairs_pass before (live ∷ ps) new within =
+    ap₂ or_else (live_passes before new.0)
+    (ap (λ r. pair_faults r ps) (live_appends before new.0 ∙ sym (map-append row_for before (live ∷ []))) ∙ pairs_pass (before ++ live ∷ []) ps new.1 within)
+
+-- the range of a number that is given
+within_of : (given : Given) (s : Setting) (n : ℕ) → AreWithin given → number_in given s ≡ Some n → (least_of s ≤ n) × (n ≤ most_of s)
+within_of [] s n within is = cc
+within_of (live ∷ ps) s n within is = within_of ps s n within is
+within_of (number a m ∷ ps) s n within is = go (bytes_eq (name_of a) (name_of s)) refl is (within_of ps s n within.2)
+  where
+    same_in : {a b : ℕ} → Some a ≡ Some b → a ≡ b
+    same_in e = cc
+
+    go : (b : Bool) → bytes_eq (name_of a) (name_of s) ≡ b → (if b then Some m else number_in ps s) ≡ Some n
+        → (number_in ps s ≡ Some n → (least_of s ≤ n) × (n ≤ most_of s)) → (least_of s ≤ n) × (n ≤ most_of s)
+    go true same is rest =
+        let one = same_setting a s same in
+        let low : least_of s ≤ m = subst (λ (x : Setting). least_of x ≤ m) one within.0 in
+        let high : m ≤ most_of s = subst (λ (x : Setting). m ≤ most_of x) one within.1 in
+        (subst (λ (k : ℕ). least_of s ≤ k) (same_in is) low, subst (λ (k : ℕ). k ≤ most_of s) (same_in is) high)
+    go false same is rest = rest is
+
+-- the rows of what is given, with that of a flag that was left out
+unfoldable pub all_rows : Given → List Row
+all_rows given = map row_for given ++ added (has_live given)
+
+module _ (given : Given) (w n r t : ℕ) (whole : IsWhole given w n r t) where
+  row_at : (s : Setting) (m : ℕ) → number_in given s ≡ Some m → find (λ r. bytes_eq r.id (name_of s)) (all_rows given) ≡ Some (row_for (number s m))
+  unfolding all_rows
+  row_at s m is = found_before (name_of s) (map row_for given) (added (has_live given)) (row_for (number s m)) (found_at given s ∙ ap (option_map (λ k. row_for (number s k))) is)
+
+  is_there : (s : Setting) (m : ℕ) → number_in given s ≡ Some m → is_given (name_of s) (all_rows given) ≡ true
+  unfolding row_for
+  is_there s m is = rw (row_at s m is) refl
+
+  none_missing : missing (all_rows given) ≡ []
+  unfolding missing
+  none_missing = rw (is_there workers w whole.has_workers, is_there children n whole.has_children, is_there readers r whole.has_readers, is_there turns t whole.has_turns) refl
+
+  number_of : (s : Setting) (m : ℕ) → number_in given s ≡ Some m → HasNumber (all_rows given) (name_of s) m
+  number_of s m is = number_at m (small_for s m (within_of given s m whole.within is).1) (all_rows given) s (row_at s m is)
+
+  numbers : AreNumbers (all_rows given) w n r t
+  numbers = record {
+    workers = number_of workers w whole.has_workers;
+    children = number_of children n whole.has_children;
+    readers = number_of readers r whole.has_readers;
+    turns = number_of turns t whole.has_turns;
+  }
+
+  table : final (rows_from [] given) ≡ all_rows given
+  unfolding all_rows
+  table = ap final (rows_are_table [] given whole.once) ∙ final_is given
+
+  leaf_passes : level_fault load_shape [] nothing_held (words_of given) false [] ≡ []
+  leaf_passes = leaf_fault given (all_plain given whole.within) ∙ ap₂ or_else (pairs_pass [] given whole.once whole.within) (ap missing table ∙ none_missing)
+
+-- ---- the command above them
+
+abbrev app : App
+app = built supload_app
+
+-- the walk stops at the command, and leaves it the words behind it
+stops : (rest : List Text) → walk app.top.rules (names_of app) nothing_held (codes "load" ∷ rest)
+    ≡ record { held = nothing_held; waiting = idle; position = 1; is_trailing = false; stopped = Some (codes "load", rest) }
+unfolding clap_on_literals
+stops rest = sym (walk_stopped app.top.rules (names_of app) (walk_from nothing_held) (codes "load") [] rest)
+
+abbrev parts : Kinds → Walk → Kinds
+parts F end = or_else F (or_else (entered_fault app end.stopped) (or_else (settle_fault app.top.rules false end.held)
+    (or_else (defaults_fault (settled app.top.rules end.held).rows app.top.rules)
+    (check_fault app.top (finished app.top.rules end.held) (is_some (entered app end.stopped))))))
+
+passes_above : (rest : List Text) → walk_fault app.top (names_of app) (walk_from nothing_held) (codes "load" ∷ rest) ≡ []
+unfolding clap_on_literals
+passes_above rest = stopped_fault app.top (names_of app) (walk_from nothing_held) (codes "load", []) rest
+
+level_below : (rest : List Text) → parts [] (record { held = nothing_held; waiting = idle; position = 1; is_trailing = false; stopped = Some (codes "load", rest) })
+    ≡ or_else (level_fault load_shape [] nothing_held rest false []) []
+unfolding clap_on_literals
+level_below rest = refl
+
+fault_below : (name : Text) (rest : List Text) → fault_of supload_app (name ∷ codes "load" ∷ rest) ≡ level_fault load_shape [] nothing_held rest false []
+fault_below name rest =
+    let parted : fault_of supload_app (name ∷ codes "load" ∷ rest)
+    ≡ parts (walk_fault app.top (names_of app) (walk_from nothing_held) (codes "load" ∷ rest)) (walk app.top.rules (names_of app) nothing_held (codes "load" ∷ rest)) = refl in
+    parted ∙ (ap₂ parts (passes_above rest) (stops rest) ∙ (level_below rest ∙ or_else-nil _))
+
+-- ---- the load
+
+at_load : (rest : List Text) → entered app (Some (codes "load", rest)) ≡ Some (codes "load", rows_after load_rules [] rest)
+unfolding clap_on_literals
+at_load rest = refl
+
+entered_below : (name : Text) (rest : List Text) → subcommand_of supload_app (name ∷ codes "load" ∷ rest) ≡ Some (codes "load", rows_after load_rules [] rest)
+entered_below name rest = ap (λ (w : Walk). entered app w.stopped) (stops rest) ∙ at_load rest
+
+-- what is given has no path of a journal
+no_path : (given : Given) → first_of (codes "journal") (all_rows given) ≡ None
+unfolding all_rows row_for row_without
+no_path given = ap (option_and_then first_value) (found_behind (codes "journal") (map row_for given) (added (has_live given)) (none given) ∙ none_added (has_live given))
+  where
+    first_value : Row → Option Text
+    first_value r = slice_get r.values 0
+
+    none : (ps : Given) → find (λ r. bytes_eq r.id (codes "journal")) (map row_for ps) ≡ None
+    none [] = refl
+    none (number workers n ∷ ps) = none ps
+    none (number children n ∷ ps) = none ps
+    none (number readers n ∷ ps) = none ps
+    none (number turns n ∷ ps) = none ps
+    none (live ∷ ps) = none ps
+
+    none_added : (b : Bool) → find (λ r. bytes_eq r.id (codes "journal")) (added b) ≡ None
+    none_added true = refl
+    none_added false = refl
+
+no_text : (path : Option (Bor Text)) → option_map (λ s. s.now) path ≡ None → path ≡ None
+no_text None e = refl
+no_text (Some s) e = cc
+
+-- the kind that the rows say
+words_differ : codes "true" ≡ codes "false" → ⊥
+words_differ e = let bad : ◌≡◌ {A = ℕ} 116 102 = ap (λ (t : List ℕ). get_or t 0 0) e in absurd (omega arith)
+
+some_same : {a b : Text} → Some a ≡ Some b → a ≡ b
+some_same e = cc
+
+kind_said : (rows : List Row) (b : Bool) → one_of (codes "live") rows ≡ Some (if b then codes "true" else codes "false") → IsKind rows (kind_by b)
+kind_said rows true says = record { given = λ e. refl; left_out = λ e. absurd (words_differ (some_same (sym says ∙ e))) }
+kind_said rows false says = record { given = λ e. absurd (words_differ (some_same (sym e ∙ says))); left_out = λ e. refl }
+
+one_kind : (rows : List Row) (b : Bool) (kind : LoadKind) → one_of (codes "live") rows ≡ Some (if b then codes "true" else codes "false") → IsKind rows kind → kind ≡ kind_by b
+one_kind rows true kind says is = is.given says
+one_kind rows false kind says is = is.left_out says
+
+-- an order of the numbers alone is the load of them, and an error is want of memory
+load_of : (kinds : Kinds) (command : Command) (rows : List Row) (b : Bool) (w n r t : ℕ) → kinds ≡ [] → command ≡ Some (codes "load", rows)
+    → AreNumbers rows w n r t → first_of (codes "journal") rows ≡ None → one_of (codes "live") rows ≡ Some (if b then codes "true" else codes "false")
+    → IsWithin w n r t → (result : Result Order Error) → LeadsTo kinds command result → IsLoadOf (kind_by b) w n r t result
+unfolding first_byte rows_in
+load_of kinds command rows b w n r t none is are bare says within (Ok (order.Script d)) leads =
+    let bad : ◌≡◌ {A = ℕ} 115 108 = ap first_byte (sym leads.1.1 ∙ is) in absurd (omega arith)
+load_of kinds command rows b w n r t none is are bare says within (Ok (order.Replay d)) leads =
+    let bad : ◌≡◌ {A = ℕ} 114 108 = ap first_byte (sym leads.1.1 ∙ is) in absurd (omega arith)
+load_of kinds command rows b w n r t none is are bare says within (Ok (order.Serve d)) leads =
+    let bad : ◌≡◌ {A = ℕ} 115 108 = ap first_byte (sym leads.1.1 ∙ is) in absurd (omega arith)
+load_of kinds command rows b w n r t none is are bare says within (Ok (order.Load load kind path)) leads =
+    let same : leads.1.0 ≡ rows = ap rows_in (sym leads.1.1 ∙ is) in
+    let those = subst (λ (R : List Row). AreNumbers R load.workers load.children load.readers load.turns) same leads.1.2 in
+    let path_is : option_map (λ s. s.now) path ≡ None = leads.1.3 ∙ (ap (first_of (codes "journal")) same ∙ bare) in (
+      same_number those.workers are.workers,
+      same_number those.children are.children,
+      same_number those.readers are.readers,
+      same_number those.turns are.turns,
+      no_text path path_is,
+      one_kind rows b kind says (subst (λ (R : List Row). IsKind R kind) same leads.1.4),
+    )
+load_of kinds command rows b w n r t none is are bare says within (Err e) (inl memory) = memory
+load_of kinds command rows b w n r t none is are bare says within (Err e) (inr (inl among)) = absurd (subst (IsAmong (kind_of e)) none among)
+load_of kinds command rows b w n r t none is are bare says within (Err e) (inr (inr other)) =
+    let load : Load = record {
+      workers = w;
+      children = n;
+      readers = r;
+      turns = t;
+      crew = (within.0, within.1);
+      crowd = (within.2, within.3);
+      asking = within.4;
+      asked = (within.5, within.6);
+    } in
+    absurd (other.1.none (order.Load load (kind_by b) None) (rows, is, are, sym bare, kind_said rows b says))
+
+pub load_leads : (name : Text) (given : Given) (w n r t : ℕ) → IsWhole given w n r t → (result : Result Order Error)
+    → WordsLeadTo (name ∷ codes "load" ∷ words_of given) result → IsLoadOf (kind_in given) w n r t result
+unfolding kinds_at command_at all_rows
+load_leads name given w n r t whole result leads =
+    let words = name ∷ codes "load" ∷ words_of given in
+    let rows : rows_after load_rules [] (words_of given) ≡ all_rows given = leaf_rows given (all_plain given whole.within) ∙ table given w n r t whole in
+    let entered : subcommand_of supload_app words ≡ Some (codes "load", all_rows given) =
+    entered_below name (words_of given) ∙ ap (λ (R : List Row). Some (codes "load", R)) rows in
+    let range : (s : Setting) (m : ℕ) → number_in given s ≡ Some m → (least_of s ≤ m) × (m ≤ most_of s) = λ s m is. within_of given s m whole.within is in
+    let within : IsWithin w n r t = (
+      (range workers w whole.has_workers).0,
+      (range workers w whole.has_workers).1,
+      (range children n whole.has_children).0,
+      (range children n whole.has_children).1,
+      (range readers r whole.has_readers).1,
+      (range turns t whole.has_turns).0,
+      (range turns t whole.has_turns).1,
+    ) in
+    load_of (fault_of supload_app words) (subcommand_of supload_app words) (all_rows given) (has_live given) w n r t
+    (fault_below name (words_of given) ∙ leaf_passes given w n r t whole) entered (numbers given w n r t whole) (no_path given) (says_live given) within result leads

@@ -1,0 +1,4 @@
+pub mod Grammar
+pub mod Orders
+pub mod Ranges
+pub mod Settings

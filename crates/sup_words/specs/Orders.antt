@@ -1,0 +1,100 @@
+-- Which words lead where: what each order takes of them, and the kind of error where they are none.
+use Rattle.std.specs.Prelude.{◌≡◌, ◌⊎◌, ◌<◌, ◌^◌, ℕ, List, [], ◌∷◌, Option, None, Some, Result, Ok, Err, MatchResult, codes, option_map}
+use Rattle.std.specs.Borrow.{Bor}
+use Rattle.std.specs.Str.Parse.{IsNumeral, digits_value, without_leading_plus}
+use Rattle.clap.specs.Faults.{fault_of}
+use Rattle.clap.specs.Kinds.{IsAmong, Kinds}
+use Rattle.clap.specs.Simple.{subcommand_of}
+use Rattle.clap.specs.Values.{kind_of}
+use Rattle.clap.specs.Walk.{Row, Text, first_of, one_of}
+use Rattle.clap.specs.declared.error.Error.{Error}
+use Rattle.clap.specs.declared.error.kind.ErrorKind.{ErrorKind}
+use Rattle.clap.specs.declared.error.kind.ErrorKind.TheVariants.{InvalidSubcommand, OutOfMemory, ValueValidation}
+use Rattle.sup_words.specs.Grammar.{supload_app}
+use Rattle.sup_script.specs.declared.runs.answer.Detail.{Detail}
+use Rattle.sup_script.specs.declared.runs.answer.Detail.TheVariants as detail
+use Rattle.sup_words.specs.declared.words.Order.{Order}
+use Rattle.sup_words.specs.declared.words.Order.TheVariants as order
+use Rattle.sup_words.specs.declared.load.LoadKind.{LoadKind}
+use Rattle.sup_words.specs.declared.load.LoadKind.TheVariants as load_kind
+use Rattle.sup_serve.specs.declared.server.Notices.{Notices}
+use Rattle.sup_serve.specs.declared.server.Notices.TheVariants as notices
+
+-- the command that clap found among the words, with a row for each of its options
+abbrev pub Command : Type 0
+Command = Option (Text × List Row)
+
+-- a fault is explained where `--explain` was given
+pub record IsDetail (rows : List Row) (answer : Detail) : Type 0 where
+  pub given : one_of (codes "explain") rows ≡ Some (codes "true") → answer ≡ detail.Explained
+  pub left_out : one_of (codes "explain") rows ≡ Some (codes "false") → answer ≡ detail.Number
+
+-- notices are given where `--status` was
+pub record IsNotices (rows : List Row) (answer : Notices) : Type 0 where
+  pub given : one_of (codes "status") rows ≡ Some (codes "true") → answer ≡ notices.On
+  pub left_out : one_of (codes "status") rows ≡ Some (codes "false") → answer ≡ notices.Off
+
+-- the option of this name has a text, whose digits write n, perhaps behind a plus
+pub record HasNumber (rows : List Row) (name : Text) (n : ℕ) : Type 0 where
+  pub text : Text
+  pub found : one_of name rows ≡ Some text
+  pub numeral : IsNumeral 10 (without_leading_plus text)
+  pub fits : digits_value 10 (without_leading_plus text) < 2 ^ 64
+  pub value : n ≡ digits_value 10 (without_leading_plus text)
+
+-- the four numbers of a load
+pub record AreNumbers (rows : List Row) (w n r t : ℕ) : Type 0 where
+  pub workers : HasNumber rows (codes "workers") w
+  pub children : HasNumber rows (codes "children") n
+  pub readers : HasNumber rows (codes "readers") r
+  pub turns : HasNumber rows (codes "turns") t
+
+-- the path is what `--journal` says, if it was given
+abbrev pub IsPath : List Row → Option (Bor Text) → Type 0
+IsPath rows path = option_map (λ s. s.now) path ≡ first_of (codes "journal") rows
+
+-- the children are live where `--live` was given, and else end at once
+pub record IsKind (rows : List Row) (kind : LoadKind) : Type 0 where
+  pub given : one_of (codes "live") rows ≡ Some (codes "true") → kind ≡ load_kind.Live
+  pub left_out : one_of (codes "live") rows ≡ Some (codes "false") → kind ≡ load_kind.Brief
+
+-- the order is the one that the command names, with what its options say
+abbrev pub IsOrder : Command → Order → Type 0
+IsOrder command (order.Script answer) = (rows : List Row) × (command ≡ Some (codes "script", rows)) × IsDetail rows answer
+IsOrder command (order.Replay answer) = (rows : List Row) × (command ≡ Some (codes "replay", rows)) × IsDetail rows answer
+IsOrder command (order.Load load kind path) = (rows : List Row) × (command ≡ Some (codes "load", rows))
+    × AreNumbers rows load.workers load.children load.readers load.turns × IsPath rows path × IsKind rows kind
+IsOrder command (order.Serve answer) = (rows : List Row) × (command ≡ Some (codes "serve", rows)) × IsNotices rows answer
+
+-- no order is the command's
+pub record IsNoOrder (command : Command) (kind : ErrorKind) : Type 0 where
+  pub none : (o : Order) → IsOrder command o → ⊥
+  pub told : IsAmong kind (ValueValidation ∷ InvalidSubcommand ∷ [])
+
+-- why there is no order: memory ran out, or clap refuses the words, or it takes them and they are no order all the same
+abbrev pub IsRefusal : Kinds → Command → ErrorKind → Type 0
+IsRefusal kinds command kind = (kind ≡ OutOfMemory) ⊎ (IsAmong kind kinds ⊎ ((kinds ≡ []) × IsNoOrder command kind))
+
+-- where clap refuses nothing the order is the command's, and an error has its reason
+abbrev pub LeadsTo : Kinds → Command → Result Order Error → Type 0
+LeadsTo kinds command result = MatchResult result (λ o. (kinds ≡ []) × IsOrder command o) (λ e. IsRefusal kinds command (kind_of e))
+
+-- the kinds of error that clap gives at words by the program's grammar, none where it takes them; the first word is the
+-- program's name
+unfoldable pub kinds_at : List Text → Kinds
+kinds_at words = fault_of supload_app words
+
+-- the command that it finds among them
+unfoldable pub command_at : List Text → Command
+command_at words = subcommand_of supload_app words
+
+-- the same of words
+abbrev pub WordsLeadTo : List Text → Result Order Error → Type 0
+WordsLeadTo words = LeadsTo (kinds_at words) (command_at words)
+
+-- the load of this kind and these numbers, without a journal, unless memory ran out
+abbrev pub IsLoadOf : LoadKind → ℕ → ℕ → ℕ → ℕ → Result Order Error → Type 0
+IsLoadOf k w n r t (Ok (order.Load load kind path)) =
+    (load.workers ≡ w) × (load.children ≡ n) × (load.readers ≡ r) × (load.turns ≡ t) × (path ≡ None) × (kind ≡ k)
+IsLoadOf k w n r t (Ok _) = ⊥
+IsLoadOf k w n r t (Err e) = kind_of e ≡ OutOfMemory

@@ -1,0 +1,151 @@
+//! The grammar of the command line, as `clap` is told it.
+
+ghost use Rattle.std.specs.Prelude.{◌≡◌, IfOk, false};
+ghost use Rattle.clap.specs.Words.{app_of, rule_of};
+ghost use Rattle.clap.specs.declared.builder.command.Command.TheViews.{out-Command as fields_of};
+ghost use Rattle.sup_words.specs.Grammar.{flag_rule, load_app, number_rule, path_rule, serve_app, supload_app, text_app};
+
+use crate::help::{
+    ABOUT, FAULTS, LOAD, LOAD_FAULTS, LOAD_HELP, REPLAY, REPLAY_HELP, SCRIPT, SCRIPT_HELP, SERVE,
+    SERVE_FAULTS, SERVE_HELP, STATUSES, VERSION,
+};
+use clap::builder::ValueParser;
+use clap::{Arg, ArgAction, Command};
+use std::alloc::{AllocError, Global};
+
+/// An argument that takes the path of a file, and may be left out.
+fn path<'a>(alloc: Global, name: &'a str, value: &'a str, help: &'a str) -> Arg<'a>
+    ensures rule { rule_of result ≡ path_rule name.entry.now }
+    ensures local { result.global ≡ false }
+{
+    Arg::new(alloc, name)
+        .long(name)
+        .value_name(value)
+        .help(help)
+        .action(ArgAction::Set)
+}
+
+/// An argument that takes no value, and may be left out.
+fn flag<'a>(alloc: Global, name: &'a str, help: &'a str) -> Arg<'a>
+    ensures rule { rule_of result ≡ flag_rule name.entry.now }
+    ensures local { result.global ≡ false }
+{
+    Arg::new(alloc, name)
+        .long(name)
+        .help(help)
+        .action(ArgAction::SetTrue)
+}
+
+/// An argument that takes a number of this range.
+fn number<'a>(
+    alloc: Global,
+    name: &'a str,
+    value: &'a str,
+    help: &'a str,
+    range: (u64, u64),
+) -> Arg<'a>
+    ensures rule { rule_of result ≡ number_rule name.entry.now range.0 range.1 }
+    ensures local { result.global ≡ false }
+{
+    Arg::new(alloc, name)
+        .long(name)
+        .value_name(value)
+        .help(help)
+        .required(true)
+        .action(ArgAction::Set)
+        .value_parser(ValueParser::unsigned(range.0, range.1))
+}
+
+/// The command that runs a load.
+fn load_command<'a>(alloc: Global) -> Result<Command<'a>, AllocError>
+    ensures { IfOk result (λ c. (app_of c ≡ load_app) × ((fields_of c).has_globals ≡ false)) }
+{
+    let workers = number(
+        alloc,
+        "workers",
+        "W",
+        "Threads that run bodies: 1 to 64",
+        (1, 64),
+    );
+    let children = number(
+        alloc,
+        "children",
+        "N",
+        "Children to start: 1 to 65536",
+        (1, 65_536),
+    );
+    let readers = number(alloc, "readers", "R", "Threads that ask: 0 to 64", (0, 64));
+    let turns = number(
+        alloc,
+        "turns",
+        "T",
+        "Questions of each thread, and messages to each live child: 1 to 1000000",
+        (1, 1_000_000),
+    );
+    let journal = path(
+        alloc,
+        "journal",
+        "FILE",
+        "A new file to which the history is written",
+    );
+    let live = flag(alloc, "live", "Keeps children alive and sends messages");
+    Command::new(alloc, "load")
+        .about(LOAD)
+        .long_about(LOAD_HELP)
+        .after_help(LOAD_FAULTS)
+        .arg(workers)?
+        .arg(children)?
+        .arg(readers)?
+        .arg(turns)?
+        .arg(journal)?
+        .arg(live)
+}
+
+/// A command that reads a text on standard input.
+fn text_command<'a>(
+    alloc: Global,
+    name: &'a str,
+    about: &'a str,
+    help: &'a str,
+) -> Result<Command<'a>, AllocError>
+    ensures { IfOk result (λ c. (app_of c ≡ text_app name.entry.now) × ((fields_of c).has_globals ≡ false)) }
+{
+    let explain = flag(alloc, "explain", "Explains a fault in a line");
+    Command::new(alloc, name)
+        .about(about)
+        .long_about(help)
+        .after_help(FAULTS)
+        .arg(explain)
+}
+
+/// The command that serves sessions.
+fn serve_command<'a>(alloc: Global) -> Result<Command<'a>, AllocError>
+    ensures { IfOk result (λ c. (app_of c ≡ serve_app) × ((fields_of c).has_globals ≡ false)) }
+{
+    let status = flag(
+        alloc,
+        "status",
+        "Says how many sessions there are, behind an answer where that has changed",
+    );
+    Command::new(alloc, "serve")
+        .about(SERVE)
+        .long_about(SERVE_HELP)
+        .after_help(SERVE_FAULTS)
+        .arg(status)
+}
+
+/// The whole command line, with its four commands.
+pub(crate) fn command<'a>(alloc: Global) -> Result<Command<'a>, AllocError>
+    ensures { IfOk result (λ c. app_of c ≡ supload_app) }
+{
+    Command::new(alloc, "supload")
+        .bin_name("supload")?
+        .about(ABOUT)
+        .version(VERSION)
+        .after_help(STATUSES)
+        .subcommand_required(true)
+        .subcommand(text_command(alloc, "script", SCRIPT, SCRIPT_HELP)?)?
+        .subcommand(text_command(alloc, "replay", REPLAY, REPLAY_HELP)?)?
+        .subcommand(load_command(alloc)?)?
+        .subcommand(serve_command(alloc)?)
+}

@@ -1,0 +1,203 @@
+//! The help texts.
+
+pub(crate) const ABOUT: &str =
+    "A dynamic supervisor (simple_one_for_one, by the rules of Erlang/OTP 26) at the command line";
+
+pub(crate) const VERSION: &str = "0.1.0";
+
+pub(crate) const SCRIPT: &str =
+    "Reads a script on standard input and writes its replies on standard output";
+
+pub(crate) const SCRIPT_HELP: &str =
+    "Reads a script on standard input and writes its replies on standard output.
+
+The first line is the header: `sup`, a restart type (permanent, transient, temporary), a kind (worker,
+supervisor), the intensity (0 to 1000), the period in seconds (1 to 86400), the most rows (1 to 65536), and
+then, if wanted, a mark (plain, significant) and an automatic shutdown (never, any, all).
+
+Each further line is a command:
+  start MOMENT TEXT            starts a child with this argument
+  exit MOMENT NUMBER REASON    says that a child ended (normal, shutdown, shutdown:TEXT, or another text)
+  retry MOMENT NUMBER          tries a failed restart again
+  terminate MOMENT NUMBER      ends a child
+  stop MOMENT                  ends all children and the supervisor
+  which, count                 lists the children, counts them
+  terminate_id TEXT, delete_child TEXT, restart_child TEXT
+
+A moment is a whole number of seconds. An argument `ignore` is answered by no child, `fail` by a failure, and
+`gap:A:B` by a failure from moment A on until moment B, B excluded.
+
+One space stands between two words of a line, and none at its beginning or end. A text has 1 to 40 visible
+characters of ASCII, so it has no space. A number has digits alone, no sign and no leading zero, and is at most
+18446744073709551615. A line ends with a line feed, which the last line may lack.
+
+Example:
+  supload script <<END
+  sup permanent worker 1 5 10
+  start 0 session-17
+  exit 1 1 crash
+  which
+  exit 2 2 crash
+  END
+writes
+  ok 1
+  restarted 1 2
+  child 2 running session-17
+  end 1
+  gave_up";
+
+pub(crate) const REPLAY: &str =
+    "Reads a history text on standard input and writes the reply of each entry on standard output";
+
+pub(crate) const REPLAY_HELP: &str =
+    "Reads a history text on standard input and writes the reply of each entry, one a line, on standard output.
+
+The first line is `history 2`, a restart type (permanent, transient, temporary), a kind (worker, supervisor), the
+intensity (0 to 1000), the period in seconds (1 to 86400), the most rows (1 to 65536), a mark (plain, significant)
+and an automatic shutdown (never, any, all); or `history 1` with all but the last two.
+
+Each further line is an entry: HANDLE SERIAL MOMENT OPERATION ANSWER. The operation is `start TEXT`,
+`exit NUMBER REASON`, `retry NUMBER`, `terminate NUMBER` or `stop`; the answer is what the start function answered:
+`running`, `ignore` or `failed CODE`. Nothing is written before all was read.
+
+One space stands between two words of a line, and none at its beginning or end. A text has 1 to 40 visible
+characters of ASCII, so it has no space. A number has digits alone, no sign and no leading zero, and is at most
+18446744073709551615; a code is at most 4294967295. Every line ends with a line feed, the last one too: where a
+journal broke off in a line, cut that line off, and the rest is replayed.
+
+Example:
+  supload replay <<END
+  history 2 permanent worker 1 5 10 plain never
+  1 0 0 start session-17 running
+  1 1 1 exit 1 crash failed 3
+  1 2 2 retry 1 running
+  1 3 3 stop ignore
+  END
+writes
+  ok 1
+  restarting 1 3
+  gave_up
+  error down";
+
+pub(crate) const LOAD: &str = "Runs a crew beside readers, and writes what it came to";
+
+pub(crate) const LOAD_HELP: &str =
+    "Starts N children, whose bodies end at once in W threads, while R threads ask T times each how many there are.
+
+Writes two lines: `made A exits B strays C restarts D gave_up E left F held G`, the numbers of children that were
+made, of exits that were entered, of those answered stray, restarted and gave_up, of children that were left without a
+run and of exits that were held back; and `reads Q`, the number of questions that were answered.
+
+With --live the N children stay alive in W threads. Each counts the messages that it reads, and costs nothing while it
+waits for one. When all have been started, every 100th is told to crash, and runs again under a new number: N / 100
+restarts, rounded down. Then T rounds of messages are sent, one message to each child in a round, and a round begins
+when all of the last one were read. Beside that, R threads ask T times each. In the end all children are told to end.
+
+Writes three lines then: `made A exits B strays C restarts D gave_up E left F held G lost L`, where F exits were
+not taken from the inbox, G were taken and not entered, and L never came there; `messages M reads Q`, the numbers of
+messages that children read and of questions that were answered; and
+`a second: starts S messages M restarts R reads Q`, how many of each there were in a second of the clock, rounded
+down: by the time of all starts, of all rounds, of all restarts, and of the slowest of the threads that ask. A time
+of 0 counts as a nanosecond.
+
+With --journal the history is written to FILE, which must not be there yet, as a text that `supload replay` reads: each
+update before it takes effect.
+
+Examples:
+  supload load --workers 4 --children 100 --readers 2 --turns 50 --journal load.txt
+writes
+  made 100 exits 100 strays 0 restarts 0 gave_up 0 left 0 held 0
+  reads 100
+
+  supload load --live --workers 4 --children 1000 --readers 2 --turns 50
+writes, with other numbers in the last line
+  made 1010 exits 1010 strays 0 restarts 10 gave_up 0 left 0 held 0 lost 0
+  messages 50000 reads 100
+  a second: starts 90000 messages 400000 restarts 20000 reads 700000";
+
+pub(crate) const SERVE: &str =
+    "Serves sessions: reads a command a line on standard input, and answers each at once";
+
+pub(crate) const SERVE_HELP: &str =
+    "Serves sessions: reads a command a line on standard input, and answers each at once on standard output.
+
+Each session is a child of a supervisor. One that crashed runs again under a new number, with nothing counted, at most
+5 times within 10 seconds; then all sessions end, and the supervisor is down. There are at most 65536 at a time.
+
+  open NAME          `opened N`: a session of this name runs under the number N
+  tell N TEXT        `session N messages M`: session N answers how many texts it was told
+  crash N            `crashing N`: session N crashes as soon as it reads that
+  close N            `closing N`: session N is told to end
+  who                `session N NAME` for each that is listed, and `end K` with how many
+  count              `sessions K`
+  quit               ends the server, as the end of the input does
+
+A name and a text have 1 to 40 visible characters of ASCII. An answer may be `error no session N`, `error full`,
+`error down` or another `error`; a line that is no command is answered by what was expected. When all sessions have
+ended, the last line says how many were opened, restarted and ended, and whether all are told of.
+
+Example:
+  supload serve <<END
+  open ann
+  tell 1 hello
+  close 1
+  END
+writes
+  opened 1
+  session 1 messages 1
+  closing 1
+  opened 1 restarted 0 ended 1, all told";
+
+pub(crate) const SERVE_FAULTS: &str =
+    "A fault is one line on standard error: `fault N`, with its number:
+   1  out of memory, or a thread was refused
+   5  all handles were made
+   6  there is no place for a reader
+  10  standard input could not be read
+  11  standard output could not be written
+
+Exit status:
+  0  the input ended, or asked to quit
+  2  the words are wrong
+  3  fault 10 or 11
+  4  any other fault";
+
+pub(crate) const STATUSES: &str = "Exit status:
+  0  all was answered
+  2  the words or a line are wrong, or the input is too long
+  3  reading or writing failed
+  4  any other fault, as want of memory
+A fault in the input is one line on standard error: `fault N line L`; another fault is `fault N`.";
+
+pub(crate) const FAULTS: &str =
+    "A fault is one line on standard error: `fault N line L`, with its number and the line's:
+   1  out of memory
+   7  a number of the first line is out of its range, or `significant` can't stand there
+   9  a line that is none of the format
+  10  standard input could not be read
+  11  standard output could not be written
+  12  more than 16777216 bytes came
+With --explain further lines show the line, what is wrong with it and what was expected.
+
+Exit status:
+  0  all was answered
+  2  fault 7, 9 or 12, or the words are wrong
+  3  fault 10 or 11
+  4  fault 1";
+
+pub(crate) const LOAD_FAULTS: &str =
+    "A fault is one line on standard error: `fault N`, with its number:
+   1  out of memory, or a thread was refused
+   2  the history is full
+   4  a reader was refused
+   5  all handles were made
+   6  there is no place for a reader
+  11  standard output could not be written
+  13  the journal could not be written
+  14  the journal's file is there already, or could not be made
+
+Exit status:
+  0  the load was run
+  2  the words are wrong
+  3  fault 11
+  4  any other fault";

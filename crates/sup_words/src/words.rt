@@ -1,0 +1,151 @@
+//! The words of the command line.
+
+ghost use Rattle.std.specs.Prelude.{◌≡◌, ◌⊎◌, ℕ, List, [], ◌∷◌, Ok, MatchBool, MatchOption, MatchResult, codes, map};
+ghost use Rattle.clap.specs.Kinds.{IsAmong};
+ghost use Rattle.clap.specs.Words.{found_of, kind_of, rows_of, subcommand_rows_of};
+ghost use Rattle.clap.specs.declared.error.kind.ErrorKind.TheVariants.{OutOfMemory};
+ghost use Rattle.sup_words.specs.Ranges.{IsWithin};
+ghost use Rattle.sup_words.specs.Orders.{AreNumbers, IsDetail, IsKind, IsLoadOf, IsNoOrder, IsNotices, IsOrder, IsPath, WordsLeadTo};
+ghost use Rattle.sup_words.specs.Settings.{Given, IsWhole, kind_in, words_of};
+ghost use Rattle.sup_words.specs.declared.words.Order.TheVariants as order;
+ghost use Rattle.sup_script.specs.declared.runs.answer.Detail.TheVariants as detail;
+
+use crate::build::command;
+use crate::load::{Load, LoadKind};
+use clap::error::{Error, ErrorKind};
+use clap::{ArgMatches, Command};
+use std::alloc::Global;
+use std::convert::AsStr;
+use sup_script::Detail;
+use sup_serve::Notices;
+
+/// What the program is asked to do.
+#[derive(Clone, Copy, Debug, PartialEq, Eq)]
+pub enum Order<'a> {
+    /// To answer a script.
+    Script(Detail),
+    /// To replay a history text.
+    Replay(Detail),
+    /// To run a crew beside readers, with a journal on the file at this path, if there is one.
+    Load(Load, LoadKind, Option<&'a str>),
+    /// To serve sessions.
+    Serve(Notices),
+}
+
+/// Reads the words of the command line, of which the first is the program's name. A help text, the version and words that
+/// are refused are an error of `clap`, which says where it is to be written.
+pub fn read_words<'a, S: AsStr>(alloc: Global, words: &'a [S]) -> Result<Order<'a>, Error>
+    ensures script { (name : List ℕ) → map S.text words.now ≡ name ∷ codes "script" ∷ [] → result ≡ Ok (order.Script detail.Number) }
+    ensures replay { (name : List ℕ) → map S.text words.now ≡ name ∷ codes "replay" ∷ [] → result ≡ Ok (order.Replay detail.Number) }
+    ensures words { WordsLeadTo (map S.text words.now) result }
+    ensures load { (name : List ℕ) (given : Given) (w n r t : ℕ) → IsWhole given w n r t → map S.text words.now ≡ name ∷ codes "load" ∷ words_of given
+        → IsLoadOf (kind_in given) w n r t result }
+{
+    if is_command(words, "script") {
+        return Ok(Order::Script(Detail::Number));
+    }
+    if is_command(words, "replay") {
+        return Ok(Order::Replay(Detail::Number));
+    }
+    read_options(alloc, words)
+}
+
+/// Whether the words are the program's name and this command.
+fn is_command<S: AsStr>(words: &[S], command: &str) -> bool
+    ensures { MatchBool result ((name : List ℕ) × (map S.text words.now ≡ name ∷ command.now ∷ []))
+        ((name : List ℕ) → map S.text words.now ≡ name ∷ command.now ∷ [] → ⊥) }
+{
+    words.len() == 2 && words[1].as_str() == command
+}
+
+/// Reads words that are more than a command.
+fn read_options<'a, S: AsStr>(alloc: Global, words: &'a [S]) -> Result<Order<'a>, Error>
+    ensures { WordsLeadTo (map S.text words.now) result }
+{
+    let matches = command(alloc)?.try_get_matches_from(words)?;
+    read_matches(alloc, &matches)
+}
+
+/// The order that `clap` found among the words.
+fn read_matches<'a>(alloc: Global, matches: &ArgMatches<'a>) -> Result<Order<'a>, Error>
+    ensures { MatchResult result (IsOrder (subcommand_rows_of matches.now))
+        (λ e. (kind_of e ≡ OutOfMemory) ⊎ IsNoOrder (subcommand_rows_of matches.now) (kind_of e)) }
+{
+    match matches.subcommand() {
+        Some(("script", words)) => Ok(Order::Script(read_detail(words))),
+        Some(("replay", words)) => Ok(Order::Replay(read_detail(words))),
+        Some(("load", words)) => match read_load(words) {
+            Some(load) => Ok(Order::Load(load, read_kind(words), read_path(words))),
+            None => Err(refused(alloc, ErrorKind::ValueValidation, "a number is missing")),
+        },
+        Some(("serve", words)) => Ok(Order::Serve(read_notices(words))),
+        _ => Err(refused(
+            alloc,
+            ErrorKind::InvalidSubcommand,
+            "there is no such command",
+        )),
+    }
+}
+
+/// An error of this kind, or of want of memory.
+fn refused(alloc: Global, kind: ErrorKind, text: &str) -> Error
+    ensures { IsAmong (kind_of result) (kind ∷ OutOfMemory ∷ []) }
+{
+    match Command::new(alloc, "supload").error(kind, text) {
+        Ok(error) => error,
+        Err(error) => Error::from(error),
+    }
+}
+
+/// How much is to be said of a fault.
+fn read_detail(words: &ArgMatches) -> Detail
+    ensures { IsDetail (rows_of (found_of words.now)) result }
+{
+    if words.get_flag("explain") {
+        Detail::Explained
+    } else {
+        Detail::Number
+    }
+}
+
+/// Whether the server says by itself how many sessions there are.
+fn read_notices(words: &ArgMatches) -> Notices
+    ensures { IsNotices (rows_of (found_of words.now)) result }
+{
+    if words.get_flag("status") {
+        Notices::On
+    } else {
+        Notices::Off
+    }
+}
+
+/// The numbers of a load. `clap` has read them within their ranges.
+fn read_load(words: &ArgMatches) -> Option<Load>
+    ensures { MatchOption result
+        ((w n r t : ℕ) → AreNumbers (rows_of (found_of words.now)) w n r t → IsWithin w n r t → ⊥)
+        (λ load. AreNumbers (rows_of (found_of words.now)) load.workers load.children load.readers load.turns) }
+{
+    let workers = words.get_one("workers")?;
+    let children = words.get_one("children")?;
+    let readers = words.get_one("readers")?;
+    let turns = words.get_one("turns")?;
+    Load::new(workers, children, readers, turns)
+}
+
+/// What the children of a load are to do.
+fn read_kind(words: &ArgMatches) -> LoadKind
+    ensures { IsKind (rows_of (found_of words.now)) result }
+{
+    if words.get_flag("live") {
+        LoadKind::Live
+    } else {
+        LoadKind::Brief
+    }
+}
+
+/// The path of the journal, if one is wanted.
+fn read_path<'a>(words: &ArgMatches<'a>) -> Option<&'a str>
+    ensures { IsPath (rows_of (found_of words.now)) result }
+{
+    words.get_str("journal")
+}
