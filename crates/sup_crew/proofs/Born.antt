@@ -1,4 +1,4 @@
--- The children that updates made stand in each front that begins with theirs.
+-- The children that updates made stand in the front that the updates left.
 use Rattle.std.proofs.Common.{ℕ, ◌+◌, ◌≤◌, Bool, true, false, cond, List, [], ◌∷◌, ◌++◌, Option, Some, None, ap, sym, ◌∙◌, subst, arith, append_assoc, append-nil}
 use Rattle.std.specs.Prelude.{IfSome}
 use mathlib.Core.List.{IsPrefix}
@@ -18,35 +18,13 @@ use Rattle.sup_log.specs.Tokens.{Told}
 use Rattle.sup_desk.specs.Knowledge.{Knowledge, IsUpdated}
 use Rattle.sup_desk.specs.Batches.{IsApplied}
 use Rattle.sup_inbox.specs.declared.note.Note.{Note}
-use Rattle.sup_crew.specs.Births.{IsBorn, IsBornBy, AreBornBy}
-use Rattle.sup_crew.specs.Calls.{Call, calls_of, answered, exits}
-use Rattle.sup_crew.specs.Drains.{notes_of, replies_of, IsEntered}
+use Rattle.sup_work.specs.Births.{IsBorn}
+use Rattle.sup_crew.specs.Births.{IsBornBy, AreBornBy}
+use Rattle.sup_crew.specs.Calls.{Call, calls_of, answered}
+use Rattle.sup_drain.specs.Exits.{exits}
+use Rattle.sup_drain.specs.Drains.{notes_of, replies_of, IsEntered}
 use Rattle.sup_crew.proofs.Right.{IsRight, AreRightCalls, calls-right}
 use Rattle.sup_crew.proofs.Called.{updated-since, applied-since}
-
-up : (b : Bool) (n : ℕ) → n ≤ cond b (n + 1) n
-up true n = omega arith
-up false n = omega arith
-
-made_grows : (template : Template) (front more : List Entry) → made_count (account template front) ≤ made_count (account template (front ++ more))
-made_grows template front [] = subst (λ (l : List Entry). made_count (account template front) ≤ made_count (account template l)) (sym (append-nil front)) (omega arith)
-made_grows template front (e ∷ more) =
-    let items = account template front in
-    let item : Item = item_of template items e in
-    let push = ap made_count (account-push template front e) ∙ made_count-push items item in
-    let one = up (makes_child item.reply) (made_count items) in
-    let rest = made_grows template (front ++ e ∷ []) more in
-    let all = ap (λ (l : List Entry). made_count (account template l)) (append_assoc front (e ∷ []) more) in
-    omega (arith, push, one, rest, all)
-
--- a child that was made in a front was made in each that begins with it
-pub born_stays : (template : Template) (front later : List Entry) (number : ℕ) → IsPrefix front later → IsBorn template front number → IsBorn template later number
-born_stays template front later number p born =
-    let more = made_grows template front p.0 in
-    let is = ap (λ (l : List Entry). made_count (account template l)) p.1 in
-    let first = born.0 in
-    let last = born.1 in
-    (first, omega (arith, more, is, last))
 
 right_born : (template : Template) (front : List Entry) (operation : Operation) (reply : Reply) → IsRight (account template front) operation reply → IsBornBy template front reply
 right_born template front operation (Started number) h = (h.1, h.2)

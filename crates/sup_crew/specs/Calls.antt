@@ -9,7 +9,8 @@ use Rattle.sup_types.specs.declared.history.Reply.{Reply}
 use Rattle.sup_types.specs.declared.history.Reply.TheVariants.{Started, Restarted}
 use Rattle.sup_core.specs.Account.{Item, account, argument_of}
 use Rattle.sup_inbox.specs.declared.note.Note.{Note}
-use Rattle.sup_crew.specs.declared.job.Child.{Child}
+use Rattle.sup_drain.specs.Exits.{exit_of}
+use Rattle.sup_work.specs.declared.job.Child.{Child}
 
 -- an operation, and the reply to it
 pub record Call : Type 0 where
@@ -40,18 +41,9 @@ children_made items [] = []
 children_made items (c ∷ cs) = child_made items c.reply ++ children_made items cs
 
 -- the exits among the calls
-abbrev pub exit_of : Operation → List Operation
-exit_of (Exit number reason) = Exit number reason ∷ []
-exit_of _ = []
-
 abbrev pub exits_in : List Call → List Operation
 exits_in [] = []
 exits_in (c ∷ cs) = exit_of c.operation ++ exits_in cs
-
--- the exits that the notes tell
-abbrev pub exits : List Note → List Operation
-exits [] = []
-exits (n ∷ ns) = Exit n.number n.reason ∷ exits ns
 
 -- the arguments of the starts among them
 abbrev pub start_of : Operation → List Text

@@ -1,13 +1,6 @@
 pub mod Births
 pub mod Calls
-pub mod Dispatchers
-pub mod Drains
 pub mod Drivers
-pub mod Endpoints
-pub mod Faults
-pub mod Jobs
-pub mod Joins
 pub mod Reports
 pub mod Runs
 pub mod Tallies
-pub mod Work

@@ -8,10 +8,10 @@ use Rattle.sup_types.specs.declared.reason.Reason.{Reason}
 use Rattle.sup_desk.specs.Knowledge.{Knowledge}
 use Rattle.sup_crew.specs.declared.run.RunOutcome.{RunOutcome}
 use Rattle.sup_crew.specs.declared.run.Parts.{Parts}
-use Rattle.sup_crew.specs.Jobs.{permission}
+use Rattle.sup_work.specs.Jobs.{permission}
 use Rattle.sup_crew.specs.Drivers.{DriverModel, HasDriven, IsCause, Run}
 use Rattle.sup_inbox.specs.Ends.{AreFrom, AreNew}
-use Rattle.sup_crew.specs.Work.{AreWorked}
+use Rattle.sup_work.specs.Work.{AreWorked}
 
 module _ {N : Type 0} where
   -- an endpoint that knows all of the queue, all ends of the inbox, which did nothing yet, and room for what each worker hands back

@@ -24,19 +24,14 @@
 #![tactic(auto)]
 
 mod closing;
-mod crew;
-mod drain;
 mod driver;
-mod job;
 mod plan;
 mod prepare;
-mod queue;
 mod run;
 mod turns;
-mod worker;
 
-pub use drain::{Drain, DrainFault, Drained, HELD};
-pub use job::{Body, Job};
-pub use plan::{CrewFault, Plan, Report};
+pub use plan::{Plan, Report};
 pub use run::{run_crew, run_crew_with};
+pub use sup_drain::{Drain, DrainFault, Drained, HELD};
+pub use sup_work::{Body, CrewFault, Job};
 pub use turns::{Reads, read_turns};

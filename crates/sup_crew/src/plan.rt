@@ -1,13 +1,10 @@
-//! What a run is asked to do, why it could not begin, and what it hands back.
-ghost use Rattle.std.specs.Prelude.{◌≡◌};
-ghost use Rattle.sup_crew.specs.Faults.{crew_fault_number};
+//! What a run is asked to do, and what it hands back.
 
-use crate::job::Job;
-use sup_desk::{HandleFault, Name, UpdateFault};
+use sup_desk::{Name, UpdateFault};
 use sup_inbox::Note;
 use sup_log::Ticket;
-use sup_types::{OutOfMemory, Text};
-use thiserror::Error;
+use sup_types::Text;
+use sup_work::Job;
 
 /// What a crew is to do.
 #[derive(Drop)]
@@ -23,48 +20,6 @@ pub struct Plan {
     pub turns: u64,
     /// The moment of all updates.
     pub moment: u64,
-}
-
-/// Why a run did not begin. Nothing was entered.
-#[derive(Clone, Copy, Debug, PartialEq, Eq, Error)]
-pub enum CrewFault {
-    /// A growth was refused, or the start of a thread.
-    #[error("out of memory")]
-    OutOfMemory,
-    /// The desk has not enough handles left.
-    #[error("all handles were made")]
-    NoHandle,
-    /// The press has no place for a lens, or no memory for one.
-    #[error("no place for a lens is left")]
-    NoPlace,
-}
-
-impl CrewFault {
-    /// The number of this fault.
-    pub fn number(&self) -> u8
-        ensures { result ≡ crew_fault_number self.now }
-    {
-        match self {
-            CrewFault::OutOfMemory => 1,
-            CrewFault::NoHandle => 5,
-            CrewFault::NoPlace => 6,
-        }
-    }
-}
-
-impl From<OutOfMemory> for CrewFault {
-    fn from(_fault: OutOfMemory) -> Self {
-        CrewFault::OutOfMemory
-    }
-}
-
-impl From<HandleFault> for CrewFault {
-    fn from(fault: HandleFault) -> Self {
-        match fault {
-            HandleFault::NoHandle => CrewFault::NoHandle,
-            HandleFault::NoPlace => CrewFault::NoPlace,
-        }
-    }
 }
 
 /// A run of a crew.

@@ -1,14 +1,14 @@
 //! A driver's side of the account: its handle, and the drain of the inbox.
 ghost use Rattle.std.specs.Prelude.{◌≡◌, ◌+◌, ◌≤◌, [], true, length, MatchResult, vec_len};
-ghost use Rattle.sup_crew.specs.Calls.{exits};
+ghost use Rattle.sup_drain.specs.Exits.{exits};
 ghost use Rattle.sup_driver.specs.Leads.{exits_among, are_driven};
 
 use std::alloc::Global;
 use std::marker::PhantomData;
 use std::sync::Wait;
-use sup_crew::{Drain, DrainFault, Drained};
 use sup_desk::{Caller, Handle, Journal, Name, UpdateFault};
 use sup_door::{Alive, Behaviour, Office, Yard};
+use sup_drain::{Drain, DrainFault, Drained};
 use sup_inbox::{Inbox, Taker};
 use sup_types::{Reply, Starter, Text};
 

@@ -1,0 +1,5 @@
+mod Born
+mod Handed
+pub mod Moves
+pub mod Rows
+pub mod Worked
