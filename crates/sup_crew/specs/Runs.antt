@@ -1,5 +1,7 @@
 -- What is known once the workers of a run were joined.
-use Rattle.std.specs.Prelude.{◌≡◌, ℕ, ◌+◌, ◌<◌, ◌≤◌, List, [], length, take, IfNone, IfSome, vec_len, vec_capacity}
+use Rattle.std.specs.Prelude.{◌≡◌, ℕ, suc, ◌+◌, ◌<◌, ◌≤◌, List, [], ◌∷◌, length, take, IfNone, IfSome, vec_len, vec_capacity}
+use Rattle.std.specs.Coded.{×_prop, Unit-prop, le_prop}
+use Rattle.std.proofs.Props.{props}
 use Rattle.std.specs.Global.{Global}
 use Rattle.atomic_table.specs.Seated.{TableId}
 use Rattle.crossbeam_queue.specs.SegTies.{SegId}
@@ -10,8 +12,21 @@ use Rattle.sup_crew.specs.declared.run.RunOutcome.{RunOutcome}
 use Rattle.sup_crew.specs.declared.run.Parts.{Parts}
 use Rattle.sup_work.specs.Jobs.{permission}
 use Rattle.sup_crew.specs.Drivers.{DriverModel, HasDriven, IsCause, Run}
-use Rattle.sup_inbox.specs.Ends.{AreFrom, AreNew}
+use Rattle.sup_inbox.specs.Ends.{Posting, AreFrom, AreNew}
 use Rattle.sup_work.specs.Work.{AreWorked}
+
+-- posters are numbered in at most one way
+AreFrom-prop : (inbox : TableId) (first : ℕ) (ps : List Posting) → IsProp (AreFrom inbox first ps)
+AreFrom-prop inbox first [] = Unit-prop
+AreFrom-prop inbox first (p ∷ ps) =
+    let of_inbox : IsProp (p.inbox ≡ inbox) = Prim.hlevel props in
+    let number : IsProp (p.number ≡ first) = Prim.hlevel props in
+    let rest = AreFrom-prop inbox (suc first) ps in
+    λ a b i. (of_inbox a.0 b.0 i, number a.1 b.1 i, rest a.2 b.2 i)
+
+AreNew-prop : (ps : List Posting) → IsProp (AreNew ps)
+AreNew-prop [] = Unit-prop
+AreNew-prop (p ∷ ps) = let none : IsProp (p.posted ≡ []) = Prim.hlevel props in ×_prop none (AreNew-prop ps)
 
 module _ {N : Type 0} where
   -- an endpoint that knows all of the queue, all ends of the inbox, which did nothing yet, and room for what each worker hands back
@@ -19,7 +34,18 @@ module _ {N : Type 0} where
     pub endpoint : p.endpoint ≡ record { queue = queue; permission = permission 1024 [] [] }
     pub posters : AreFrom inbox 1 p.posters.items × AreNew p.posters.items × (vec_len p.posters < 1024)
     pub taker : p.taker ≡ record { inbox = inbox; posters = vec_len p.posters; taken = [] }
-    pub finished : (p.finished.items ≡ []) × (vec_len p.posters ≤ vec_capacity p.finished)
+    pub finished : (length p.finished.items ≡ 0) × (vec_len p.posters ≤ vec_capacity p.finished)
+
+  -- they are in at most one way
+  pub AreParts-prop : (queue : SegId Global) (inbox : TableId) (p : Parts N) → IsProp (AreParts queue inbox p)
+  AreParts-prop queue inbox p a b =
+      let endpoint : IsProp (p.endpoint ≡ record { queue = queue; permission = permission 1024 [] [] }) = Prim.hlevel props in
+      let from = AreFrom-prop inbox 1 p.posters.items in
+      let new = AreNew-prop p.posters.items in
+      let few : IsProp (vec_len p.posters < 1024) = Prim.hlevel props in
+      let taker : IsProp (p.taker ≡ record { inbox = inbox; posters = vec_len p.posters; taken = [] }) = Prim.hlevel props in
+      let finished : IsProp ((length p.finished.items ≡ 0) × (vec_len p.posters ≤ vec_capacity p.finished)) = Prim.hlevel props in
+      λ i. record { endpoint = endpoint a.endpoint b.endpoint i; posters = (from a.posters.0 b.posters.0 i, new a.posters.1 b.posters.1 i, few a.posters.2 b.posters.2 i); taker = taker a.taker b.taker i; finished = finished a.finished b.finished i }
 
   -- the driver in the end
   abbrev pub driver_of : Knowledge → RunOutcome N → DriverModel

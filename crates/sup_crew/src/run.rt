@@ -2,8 +2,7 @@
 ghost use Rattle.std.specs.Prelude.{◌≡◌, ◌<◌, ◌≤◌, ◌^◌, IfOk, OnErr, vec_len, MatchResult};
 ghost use Rattle.sup_crew.specs.Drivers.{run_of, HasNotCalled};
 ghost use Rattle.sup_crew.specs.Reports.{IsRun, IsRunOfItsOwn};
-ghost use Rattle.sup_crew.specs.Runs.{IsRunOutcome, AreParts};
-ghost use denote.Param.Send.{IsSend};
+ghost use Rattle.sup_crew.specs.Runs.{IsRunOutcome, AreParts, AreParts-prop};
 
 use crate::closing::close;
 use crate::driver::{Driver, Tally};
@@ -34,6 +33,16 @@ pub struct Parts<N: Name> {
     pub finished: Vec<Finished<N>>,
 }
 
+/// A run that is to begin: what its threads share, and its parts, which are of its queue and its inbox.
+#[derive(Drop)]
+pub struct Beginning<'s, N: Name> {
+    /// What the driver and the workers share.
+    pub crew: &'s Crew<N>,
+    /// What else the run is given.
+    pub parts: Parts<N>,
+    pub ghost whole: { AreParts crew.now.jobs crew.now.inbox.id parts } by { AreParts-prop crew.now.jobs crew.now.inbox.id parts },
+}
+
 /// A run whose workers were joined.
 #[derive(Drop)]
 pub struct RunOutcome<N: Name> {
@@ -60,11 +69,10 @@ fn drive<'s, 'd: 's, E, N, S, P, J, B, R>(
     scope: &Scope<'s, E>,
     rt: &'s R,
     alloc: Global,
-    crew: &'s Crew<N>,
+    run: Beginning<'s, N>,
     body: &'s B,
     desk: &'d Desk<N, S, P, J>,
     caller: Caller<N>,
-    parts: Parts<N>,
 ) -> (Caller<N>, Result<RunOutcome<N>, CrewFault>)
 where
     N: Name + Send + Sync + 's,
@@ -73,9 +81,9 @@ where
     J: Journal + Drop + Send + 's,
     B: Body + Sync,
     R: Threads + Wait + Sync,
-    requires { AreParts crew.now.jobs crew.now.inbox.id parts }
-    ensures { MatchResult result.1 (λ j. IsRunOutcome (B.may_end body.now) (run_of N.template N.press crew.now.moment caller) crew.now.jobs crew.now.inbox.id (vec_len parts.posters) crew.now.children.items result.0 j) (λ _. HasNotCalled caller result.0) }
+    ensures { MatchResult result.1 (λ j. IsRunOutcome (B.may_end body.now) (run_of N.template N.press run.entry.crew.now.moment caller) run.entry.crew.now.jobs run.entry.crew.now.inbox.id (vec_len run.entry.parts.posters) run.entry.crew.now.children.items result.0 j) (λ _. HasNotCalled caller result.0) }
 {
+    let Beginning { crew, parts } = run;
     let Parts {
         endpoint,
         posters,
@@ -121,10 +129,9 @@ where
 fn run_bound<'d, N, S, P, J, B, R>(
     rt: &R,
     alloc: Global,
-    crew: &Crew<N>,
+    run: Beginning<'_, N>,
     body: &B,
     handle: Handle<'d, N, S, P, J>,
-    parts: Parts<N>,
 ) -> (Handle<'d, N, S, P, J>, Result<RunOutcome<N>, CrewFault>)
 where
     N: Name + Send + Sync,
@@ -133,17 +140,14 @@ where
     J: Journal + Drop + Send,
     B: Body + Sync,
     R: Threads + Wait + Sync,
-    requires { AreParts crew.now.jobs crew.now.inbox.id parts }
-    ensures outcome { IfOk result.1 (λ j. IsRunOutcome (B.may_end body.now) (run_of N.template N.press crew.now.moment handle.entry) crew.now.jobs crew.now.inbox.id (vec_len parts.posters) crew.now.children.items result.0 j) }
+    ensures outcome { IfOk result.1 (λ j. IsRunOutcome (B.may_end body.now) (run_of N.template N.press run.entry.crew.now.moment handle.entry) run.entry.crew.now.jobs run.entry.crew.now.inbox.id (vec_len run.entry.parts.posters) run.entry.crew.now.children.items result.0 j) }
     ensures kept { OnErr result.1 (HasNotCalled handle.entry result.0) }
 {
     let (caller, desk) = handle.unbind();
     let (caller, outcome) = thread::scope(
         thread::scope_env(),
         rt,
-        move |scope| -> (Caller<N>, Result<RunOutcome<N>, CrewFault>)
-            requires { AreParts crew.now.jobs crew.now.inbox.id parts }
-        { drive(scope, rt, alloc, crew, body, desk, caller, parts) },
+        move |scope| drive(scope, rt, alloc, run, body, desk, caller),
     );
     (desk.bind(caller), outcome)
 }
@@ -152,10 +156,9 @@ where
 fn run_lent<'d, N, S, P, J, B, R>(
     rt: &R,
     alloc: Global,
-    crew: &Crew<N>,
+    run: Beginning<'_, N>,
     body: &B,
     driver: &mut Handle<'d, N, S, P, J>,
-    parts: Parts<N>,
 ) -> Result<RunOutcome<N>, CrewFault>
 where
     N: Name + Send + Sync,
@@ -164,20 +167,15 @@ where
     J: Journal + Drop + Send,
     B: Body + Sync,
     R: Threads + Wait + Sync,
-    requires { AreParts crew.now.jobs crew.now.inbox.id parts }
-    ensures outcome { IfOk result (λ j. IsRunOutcome (B.may_end body.now) (run_of N.template N.press crew.now.moment driver.old) crew.now.jobs crew.now.inbox.id (vec_len parts.posters) crew.now.children.items driver.new j) }
+    ensures outcome { IfOk result (λ j. IsRunOutcome (B.may_end body.now) (run_of N.template N.press run.entry.crew.now.moment driver.old) run.entry.crew.now.jobs run.entry.crew.now.inbox.id (vec_len run.entry.parts.posters) run.entry.crew.now.children.items driver.new j) }
     ensures kept { OnErr result (HasNotCalled driver.old driver.new) }
 {
     replace_with(
         driver,
-        parts,
-        |handle: Handle<'_, N, S, P, J>, parts: Parts<N>| -> (
-            Handle<'_, N, S, P, J>,
-            Result<RunOutcome<N>, CrewFault>,
-        )
-            requires threads { IsSend N.row × IsSend S.row × IsSend P.row × IsSend J.row }
-            requires parts { AreParts crew.now.jobs crew.now.inbox.id parts }
-        { run_bound(rt, alloc, crew, body, handle, parts) },
+        run,
+        |handle: Handle<'_, N, S, P, J>, run: Beginning<'_, N>| run_bound(
+            rt, alloc, run, body, handle,
+        ),
     )
 }
 
@@ -214,7 +212,7 @@ where
         buffers,
     } = prepare(alloc, plan)?;
     let workers = parts.posters.len();
-    let outcome = run_lent(rt, alloc, &crew, body, driver, parts)?;
+    let outcome = run_lent(rt, alloc, Beginning { crew: &crew, parts }, body, driver)?;
     Ok(close(rt, crew, body, workers, outcome, buffers))
 }
 
