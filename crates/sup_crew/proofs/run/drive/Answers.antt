@@ -1,4 +1,4 @@
-use Rattle.std.proofs.Common.{◌≡◌, take, [], ap, sym, ◌∙◌, subst, arith}
+use Rattle.std.proofs.Common.{◌≡◌, take, [], refl, ap, sym, ◌∙◌, subst, arith}
 use Rattle.std.specs.Prelude.{IfSome}
 use Rattle.sup_desk.specs.Knowledge.{Knowledge}
 use Rattle.sup_crew.specs.Drivers.{run_of, DriverModel, HasDriven, IsCause}
@@ -43,3 +43,6 @@ returns g c =
       count = sym c.join_all-finished.result.ok.0 ∙ c.join_all-finished.ensures.len ∙ h.len;
       worked = c.join_all-finished.ensures.each;
     }
+
+pub returns-in-Err : goal.returns-in-Err
+returns-in-Err g c = (refl, refl)

@@ -4,6 +4,12 @@ use Rattle.sup_crew.proofs.driver.Driver.drain_all.Goals as goal
 pub returns-then-is_some-2-clause-drained : goal.returns-then-is_some-2-clause-drained
 returns-then-is_some-2-clause-drained g c before begun driven = c.drain_once-count.ensures.drained before begun (c.loop.invariant.drained before begun driven)
 
+pub returns-then-is_some-2-clause-same : goal.returns-then-is_some-2-clause-same
+returns-then-is_some-2-clause-same g c = same_trans c.args.self.now c.loop.self c.drain_once-count.new.self c.loop.invariant.same c.drain_once-count.ensures.same
+
+pub returns-then-is_some-2-clause-cause : goal.returns-then-is_some-2-clause-cause
+returns-then-is_some-2-clause-cause g c = c.drain_once-count.ensures.cause
+
 pub loop-preserved-then-count-gt0 : goal.loop-preserved-then-count-gt0
 loop-preserved-then-count-gt0 g c =
     let i = c.loop.invariant in
