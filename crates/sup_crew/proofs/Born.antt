@@ -1,7 +1,6 @@
 -- The children that updates made stand in the front that the updates left.
-use Rattle.std.proofs.Common.{ℕ, ◌+◌, ◌≤◌, Bool, true, false, cond, List, [], ◌∷◌, ◌++◌, Option, Some, None, ap, sym, ◌∙◌, subst, arith, append_assoc, append-nil}
+use Rattle.std.proofs.Common.{ℕ, List, [], ◌∷◌, ◌++◌, Option, Some, None, ap, ◌∙◌, subst, arith}
 use Rattle.std.specs.Prelude.{IfSome}
-use mathlib.Core.List.{IsPrefix}
 use Rattle.logbook.specs.Pages.{Book}
 use Rattle.sup_types.specs.declared.text.Text.{Text}
 use Rattle.sup_types.specs.declared.template.Template.{Template}
@@ -11,14 +10,11 @@ use Rattle.sup_types.specs.declared.history.Operation.TheVariants.{Exit}
 use Rattle.sup_types.specs.declared.history.Entry.{Entry}
 use Rattle.sup_types.specs.declared.history.Reply.{Reply}
 use Rattle.sup_types.specs.declared.history.Reply.TheVariants.{Started, Restarted}
-use Rattle.sup_core.specs.Account.{Item, account, made_count, item_of}
-use Rattle.sup_core.specs.Changes.{makes_child}
-use Rattle.sup_core.specs.AccountLaws.{account-push, made_count-push}
+use Rattle.sup_core.specs.Account.{Item, account}
 use Rattle.sup_log.specs.Tokens.{Told}
 use Rattle.sup_desk.specs.Knowledge.{Knowledge, IsUpdated}
 use Rattle.sup_desk.specs.Batches.{IsApplied}
 use Rattle.sup_inbox.specs.declared.note.Note.{Note}
-use Rattle.sup_work.specs.Births.{IsBorn}
 use Rattle.sup_crew.specs.Births.{IsBornBy, AreBornBy}
 use Rattle.sup_crew.specs.Calls.{Call, calls_of, answered}
 use Rattle.sup_drain.specs.Exits.{exits}

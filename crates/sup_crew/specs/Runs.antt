@@ -1,6 +1,6 @@
 -- What is known once the workers of a run were joined.
 use Rattle.std.specs.Prelude.{◌≡◌, ℕ, suc, ◌+◌, ◌<◌, ◌≤◌, List, [], ◌∷◌, length, take, IfNone, IfSome, vec_len, vec_capacity}
-use Rattle.std.specs.Coded.{×_prop, Unit-prop, le_prop}
+use Rattle.std.specs.Coded.{×_prop, Unit-prop}
 use Rattle.std.proofs.Props.{props}
 use Rattle.std.specs.Global.{Global}
 use Rattle.atomic_table.specs.Seated.{TableId}

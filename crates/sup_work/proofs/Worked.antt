@@ -1,6 +1,5 @@
 -- One job more of a worker.
-use Rattle.std.proofs.Common.{◌≡◌, ℕ, suc, ◌+◌, List, [], ◌∷◌, ◌++◌, length, Some, refl, ap, ◌∙◌, subst, arith}
-use Rattle.std.specs.Prelude.{Result, Ok, Err, OnErr}
+use Rattle.std.proofs.Common.{◌≡◌, ℕ, suc, ◌+◌, List, [], ◌∷◌, ◌++◌, length, Some, ap, ◌∙◌, subst, arith}
 use Rattle.sup_work.specs.declared.worker.Exit.{Exit}
 use Rattle.sup_inbox.specs.declared.note.Note.{Note}
 use Rattle.sup_types.specs.declared.reason.Reason.{Reason}
@@ -11,7 +10,7 @@ use Rattle.std.specs.Global.{Global}
 use Rattle.atomic_table.specs.Seated.{TableId}
 use Rattle.crossbeam_queue.specs.SegTies.{SegId}
 use Rattle.sup_work.specs.declared.worker.Finished.{Finished}
-use Rattle.sup_work.specs.Work.{IsWorked, AreWorked, ended_of, ended, untold, AreEnds}
+use Rattle.sup_work.specs.Work.{IsWorked, AreWorked, ended_of, ended, untold}
 use Rattle.sup_work.specs.JobLaws.{weigh-append}
 use Rattle.sup_work.specs.WorkLaws.{ended-append}
 
