@@ -7,9 +7,8 @@ use Rattle.sup_liveload.specs.declared.fault.LiveLoadFault.{LiveLoadFault}
 use Rattle.sup_liveload.specs.declared.fault.LiveLoadFault.TheVariants.{Update}
 use Rattle.sup_liveload.specs.declared.sums.LiveSums.{LiveSums}
 
--- the driver's updates, which are exits, later tries and the stop alone: the sums have as many exits
-pub record AreLiveCounts (s : LiveSums) : Type 0 where
-  pub calls : List Entry
+-- the calls of the driver are exits, later tries and the stop alone, and the sums have as many exits
+pub record AreLiveCounts (calls : List Entry) (s : LiveSums) : Type 0 where
   pub driven : are_driven calls ≡ true
   pub exits : s.exits ≡ length (exits_among calls)
 

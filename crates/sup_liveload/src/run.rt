@@ -15,7 +15,7 @@ use std::random::RandomSource;
 use std::sync::Wait;
 use std::thread::Threads;
 use std::time::Clock;
-use sup_desk::{Desk, Journal, Name};
+use sup_desk::{Caller, Desk, Journal, Name};
 use sup_live::{Moments, Plan, run_live_with_patrons};
 use sup_script::ScriptStarter;
 
@@ -28,6 +28,15 @@ const GRACE: u64 = 5;
 /// After how many seconds a restart that failed is tried again.
 const RETRY_AFTER: u64 = 1;
 
+/// A live load that was run.
+#[derive(Drop)]
+pub struct LiveRun<N: Name> {
+    /// The driver's handle, by which the exits were entered, for an audit.
+    pub driver: Caller<N>,
+    /// What it came to.
+    pub sums: LiveSums,
+}
+
 /// Runs a live load over this desk, whose handles are the driver's, the program's and one for each reader. It waits until all
 /// its children are gone.
 ///
@@ -38,12 +47,12 @@ pub fn run_live_load<N, J, R>(
     alloc: Global,
     desk: &Desk<N, ScriptStarter, &R, J>,
     extent: Extent,
-) -> Result<LiveSums, LiveLoadFault>
+) -> Result<LiveRun<N>, LiveLoadFault>
 where
     N: Name + Send + Sync,
     J: Journal + Drop + Send,
     R: Threads + Wait + Clock + RandomSource + AllocGlobal + Sync,
-    ensures { IfOk result AreLiveCounts }
+    ensures { IfOk result (λ r. AreLiveCounts r.driver.calls r.sums) }
 {
     let gate = Gate::new();
     run_by(rt, alloc, desk, &gate, extent)
@@ -57,12 +66,12 @@ fn run_by<N, J, R>(
     desk: &Desk<N, ScriptStarter, &R, J>,
     gate: &Gate,
     extent: Extent,
-) -> Result<LiveSums, LiveLoadFault>
+) -> Result<LiveRun<N>, LiveLoadFault>
 where
     N: Name + Send + Sync,
     J: Journal + Drop + Send,
     R: Threads + Wait + Clock + RandomSource + AllocGlobal + Sync,
-    ensures { IfOk result AreLiveCounts }
+    ensures { IfOk result (λ r. AreLiveCounts r.driver.calls r.sums) }
 {
     let listeners = Listeners { gate };
     let plan = Plan {
@@ -84,5 +93,9 @@ where
         readers,
     )?;
     let answers = answers_of(report.patrons.as_slice());
-    Ok(sums_of(&report, gate.heard(), answers))
+    let sums = sums_of(&report, gate.heard(), answers);
+    Ok(LiveRun {
+        driver: report.driver,
+        sums,
+    })
 }

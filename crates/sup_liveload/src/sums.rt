@@ -129,7 +129,7 @@ pub(crate) fn sums_of<N: Name>(
     ensures starts { (result.rates.starts ≡ rate_of report.now.outcome.started report.now.outcome.starting) × (result.rates.messages ≡ rate_of messages report.now.outcome.sending) }
     ensures rates { (result.rates.restarts ≡ rate_of report.now.tally.restarts report.now.outcome.restarting) × (result.rates.reads ≡ rate_of answers.reads answers.asking) }
     ensures fault { result.fault ≡ first_fault report.now.fault report.now.outcome.fault answers.fault }
-    ensures counts { are_driven report.now.driver.calls ≡ true → report.now.exits ≡ length (exits_among report.now.driver.calls) → AreLiveCounts result }
+    ensures counts { are_driven report.now.driver.calls ≡ true → report.now.exits ≡ length (exits_among report.now.driver.calls) → AreLiveCounts report.now.driver.calls result }
 {
     let course = report.outcome;
     let rates = Rates {

@@ -15,6 +15,7 @@ use Rattle.sup_load.specs.Lines.{load_lines}
 use Rattle.sup_load.specs.Loads.{end_of, of_live}
 use Rattle.sup_liveload.specs.Counts.{AreLiveCounts}
 use Rattle.sup_liveload.specs.Lines.{live_lines}
+use Rattle.sup_liveload.specs.declared.sums.LiveSums.{LiveSums}
 use Rattle.sup_words.specs.declared.load.LoadKind.{LoadKind}
 use Rattle.sup_words.specs.declared.load.LoadKind.TheVariants as kind
 
@@ -35,9 +36,13 @@ IsOfKind kind.Live (measured.Live s) = ⊤
 IsOfKind kind.Brief (measured.Live s) = ⊥
 IsOfKind kind.Live (measured.Brief s) = ⊥
 
+-- the sums are the numbers of a driver's calls
+abbrev pub HasLiveCounts : LiveSums → Type 0
+HasLiveCounts s = (calls : List Entry) × AreLiveCounts calls s
+
 abbrev pub AreCountsOf : Template → Measured → Type 0
 AreCountsOf template (measured.Brief s) = AreCounts template s
-AreCountsOf template (measured.Live s) = AreLiveCounts s
+AreCountsOf template (measured.Live s) = HasLiveCounts s
 
 abbrev pub lines_of : Measured → List ℕ
 lines_of (measured.Brief s) = load_lines s

@@ -1,7 +1,7 @@
 //! The live load over a desk.
 
 ghost use Rattle.std.specs.Prelude.{IfOk};
-ghost use Rattle.sup_liveload.specs.Counts.{AreLiveCounts};
+ghost use Rattle.sup_load.specs.Reports.{HasLiveCounts};
 
 use crate::fault::StopFault;
 use std::alloc::{AllocGlobal, Global};
@@ -25,7 +25,7 @@ where
     N: Name + Send + Sync,
     R: Threads + Wait + Clock + RandomSource + AllocGlobal + Sync,
     J: Journal + Drop + Send,
-    ensures { IfOk result AreLiveCounts }
+    ensures { IfOk result HasLiveCounts }
 {
     let extent = Extent {
         workers: load.workers,
@@ -34,7 +34,7 @@ where
         turns: load.turns,
     };
     match run_live_load(rt, alloc, desk, extent) {
-        Ok(sums) => Ok(sums),
+        Ok(run) => Ok(run.sums),
         Err(fault) => Err(StopFault::of_live(fault)),
     }
 }

@@ -1,5 +1,5 @@
 //! A pool: a crew over a desk of its own.
-ghost use Rattle.std.specs.Prelude.{◌≡◌, ◌≤◌, ◌^◌, ◌⊎◌, ◌↔◌, ℕ, List, IfOk, IfErr, Err, map, ⊤};
+ghost use Rattle.std.specs.Prelude.{◌≡◌, ◌+◌, ◌≤◌, ◌^◌, ◌⊎◌, ◌↔◌, ℕ, List, IfOk, IfErr, Err, map, ⊤};
 ghost use Rattle.sup_desk.specs.declared.faults.UpdateFault.{UpdateFault as AFault};
 ghost use Rattle.sup_pool.specs.Pools.{IsPooled, IsNoText};
 ghost use Rattle.sup_pool.specs.declared.fault.PoolFault.TheVariants.{OutOfMemory, BadWorkers, BadArgument, Stopped};
@@ -29,6 +29,8 @@ pub struct PoolReport {
     pub made: u64,
     /// How many ended.
     pub exits: u64,
+    /// How many were made and did not end, as where the supervisor gave up before they were run.
+    pub left: u64,
     /// How many were started again.
     pub restarts: u64,
     /// 1 where more of them crashed than the template allows: the supervisor gave up, and what was not run is left. Else 0.
@@ -138,11 +140,14 @@ fn run_named<N: Name + Send + Sync, R: Threads + Wait + Sync, T: Work + Sync>(
 
 /// The numbers of a report.
 fn numbers_of<N: Name>(report: &Report<N>) -> PoolReport
-    ensures { (result.made ≡ report.now.made) × (result.exits ≡ report.now.exits) × (result.restarts ≡ report.now.restarts) × (result.given_up ≡ report.now.given_up) }
+    requires { report.now.exits ≤ report.now.made }
+    ensures whole { result.made ≡ result.exits + result.left }
+    ensures told { (result.made ≡ report.now.made) × (result.exits ≡ report.now.exits) × (result.restarts ≡ report.now.restarts) × (result.given_up ≡ report.now.given_up) }
 {
     PoolReport {
         made: report.made,
         exits: report.exits,
+        left: report.made - report.exits,
         restarts: report.restarts,
         given_up: report.given_up,
     }
