@@ -63,7 +63,7 @@ def check_account(record):
     """Each child that was made has one exit, which was entered, and is one of those that doors, restarts and tries made."""
     report, tally, board = (record.named[it] for it in ("report", "tally", "board"))
     demand(not report["fault"] and not any(it["fault"] for it in record.doors), "no fault", f"{report}, {record.doors}")
-    demand(report["adds_up"] and report["lost"] == 0, "the account adds up", report)
+    demand(report["adds_up"] and report["owed"] == 0, "the account adds up", report)
     demand(report["made"] == report["exits"] + report["not_entered"], "each child has an exit", report)
     made = record.sum("started") + tally["restarts"] + tally["retried"]
     demand(report["made"] == made, "doors, restarts and tries made the children", f"{report['made']} were made, and not {made}")

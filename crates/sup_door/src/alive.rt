@@ -16,7 +16,7 @@ use sup_types::{Reason, Word};
 pub struct Alive<'h, I: Office, B: Behaviour, P: Wait + Drop> {
     pub(crate) hub: &'h Hub<I, B::Message, P>,
     pub(crate) child: Option<Abortable<B::Child>>,
-    pub(crate) due: Option<Due>,
+    pub(crate) due: Option<Due<I>>,
     /// Whether it was polled.
     pub(crate) began: bool,
 }

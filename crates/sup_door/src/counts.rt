@@ -6,7 +6,6 @@ use std::sync::atomic::{AtomicBool, AtomicU64, Ordering};
 pub struct CrewCounts {
     made: AtomicU64,
     paid: AtomicU64,
-    lost: AtomicU64,
     workers: AtomicU64,
     turn: AtomicU64,
     closing: AtomicBool,
@@ -18,7 +17,6 @@ impl CrewCounts {
         CrewCounts {
             made: AtomicU64::new(0),
             paid: AtomicU64::new(0),
-            lost: AtomicU64::new(0),
             workers: AtomicU64::new(workers),
             turn: AtomicU64::new(0),
             closing: AtomicBool::new(false),
@@ -33,11 +31,6 @@ impl CrewCounts {
     /// One child's exit was paid.
     pub(crate) fn child_paid(&self) {
         self.paid.fetch_add(1, Ordering::SeqCst);
-    }
-
-    /// One exit was lost for want of memory.
-    pub(crate) fn exit_lost(&self) {
-        self.lost.fetch_add(1, Ordering::SeqCst);
     }
 
     /// One worker went, or could not be started.
@@ -60,20 +53,10 @@ impl CrewCounts {
         self.closing.load(Ordering::SeqCst)
     }
 
-    /// How many children were made.
-    pub fn made(&self) -> u64 {
-        self.made.load(Ordering::SeqCst)
-    }
-
-    /// How many exits were lost for want of memory.
-    pub fn lost(&self) -> u64 {
-        self.lost.load(Ordering::SeqCst)
-    }
-
     /// Whether each child that was made has ended.
     pub fn have_all_ended(&self) -> bool {
         let paid = self.paid.load(Ordering::SeqCst);
-        paid == self.made()
+        paid == self.made.load(Ordering::SeqCst)
     }
 
     /// Whether no worker is left.

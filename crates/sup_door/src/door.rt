@@ -1,5 +1,5 @@
 //! Doors: by which a program starts children, sends to them, ends them and asks.
-ghost use Rattle.std.specs.Prelude.{◌≡◌, ℕ, length, IfOk, IfErr, OnErr, IsOk};
+ghost use Rattle.std.specs.Prelude.{◌≡◌, ℕ, [], length, IfOk, IfErr, OnErr, IsOk};
 ghost use mathlib.Core.List.{IsPrefix};
 ghost use Rattle.sup_core.specs.State.{MatchSeen};
 ghost use Rattle.sup_core.specs.Queries.{which, count, child};
@@ -8,6 +8,7 @@ ghost use Rattle.sup_desk.specs.Asking.{IsAnswered};
 ghost use Rattle.sup_desk.specs.Knowledge.{IsUpdated, entries_of};
 ghost use Rattle.sup_desk.specs.declared.journal.JournalFault.{JournalFault};
 ghost use Rattle.sup_desk.specs.Results.{IsUpdateResult};
+ghost use Rattle.sup_door.specs.Starts.{HasStarted};
 
 use crate::alive::Alive;
 use crate::behaviour::Behaviour;
@@ -20,6 +21,7 @@ use std::time::Clock;
 use sup_desk::{
     Caller, Desk, Done, Handle, HandleFault, Journal, Name, NoJournal, QueryFault, UpdateFault,
 };
+use sup_ledger::Witness;
 use sup_log::{Gone, Ticket, View};
 use sup_types::{Counts, Operation, Reply, Row, Seen, Starter, Text};
 
@@ -43,6 +45,8 @@ pub struct Door<
     desk: &'d Desk<N, S, Q, J>,
     handle: Handle<'d, N, S, Q, J>,
     yard: &'t Yard<'h, I, B, P, F>,
+    /// Shows the children that it started.
+    witness: Witness,
 }
 
 impl<
@@ -58,11 +62,15 @@ impl<
     F: Future,
     J: Journal + Drop,
 > Model for Door<'t, 'h, 'd, N, S, Q, I, B, P, F, J> {
+    ghost use Rattle.std.specs.Prelude.{◌≡◌};
     ghost use Rattle.sup_desk.specs.Knowledge.{Knowledge};
+    ghost use Rattle.sup_door.specs.Starts.{HasStarted};
 
     ghost Value = { Knowledge };
 
     ghost view = { λ d. d.handle };
+
+    ghost invariant = { λ d. (d.witness.ledger ≡ I.ledger) × HasStarted N.template d.handle d.witness.shown };
 }
 
 /// Updates, at the moment of the crew's clock. Each waits for the desk's lock, as a handle's does. After a refusal the
@@ -79,15 +87,21 @@ impl<
     P: Wait + Drop,
     J: Journal + Drop,
 > Door<'t, 'h, 'd, N, S, Q, I, B, P, Alive<'h, I, B, P>, J> {
-    /// A door by this handle of the desk, to the children of the yard. The handle is one that no door has.
+    /// A door by this handle of the desk, to the children of the yard. The handle is one that no door has, and has made no call.
     pub fn new(
         desk: &'d Desk<N, S, Q, J>,
         handle: Handle<'d, N, S, Q, J>,
         yard: &'t Yard<'h, I, B, P, Alive<'h, I, B, P>>,
     ) -> Door<'t, 'h, 'd, N, S, Q, I, B, P, Alive<'h, I, B, P>, J>
+        requires { handle.calls ≡ [] }
         ensures { result ≡ handle.entry }
     {
-        Door { desk, handle, yard }
+        Door {
+            desk,
+            handle,
+            yard,
+            witness: yard.hub.witness(),
+        }
     }
 
     /// Starts a child with this argument. At `Started` it runs, and is sent to under its number. Room for its exit is made
@@ -107,27 +121,20 @@ impl<
         let moment = self.yard.now(rt);
         match self.handle.start_child(rt, moment, arg) {
             Ok(done) => {
-                self.run_started(moment, arg, place, &done.reply);
+                self.yard.begin_started(
+                    &mut self.handle,
+                    &mut self.witness,
+                    moment,
+                    arg,
+                    place,
+                    &done.reply,
+                );
                 Ok(done)
             }
             Err(fault) => {
                 self.yard.hub.free_room(place);
                 Err(fault)
             }
-        }
-    }
-
-    /// Runs the child that was started, whose exit has room in the outbox of this place. Where none was, the room is given
-    /// back.
-    fn run_started(&mut self, moment: u64, arg: Text, place: usize, reply: &Reply)
-        ensures front { IsPrefix self.old.front self.new.front }
-        ensures calls { (self.new.calls ≡ self.old.calls) × (self.new.number ≡ self.old.number) }
-    {
-        if let Reply::Started(number) = reply {
-            self.yard
-                .begin(&mut self.handle, moment, *number, arg, place);
-        } else {
-            self.yard.hub.free_room(place);
         }
     }
 
@@ -193,11 +200,8 @@ impl<
         &self,
         rt: &R,
     ) -> Result<Door<'t, 'h, 'd, N, S, Q, I, B, P, Alive<'h, I, B, P>, J>, HandleFault> {
-        Ok(Door {
-            desk: self.desk,
-            handle: self.desk.handle(rt)?,
-            yard: self.yard,
-        })
+        let handle = self.desk.handle(rt)?;
+        Ok(Door::new(self.desk, handle, self.yard))
     }
 
     /// Lets the crew close: the driver stops the supervisor, and all children end.
@@ -210,12 +214,23 @@ impl<
     pub fn end(self) -> Caller<N>
         ensures { result ≡ self.entry }
     {
+        self.parts().0
+    }
+
+    /// Its handle, for an audit once the crew has closed, and a witness of the crew's ledger, which shows the children that it
+    /// started.
+    pub fn parts(self) -> (Caller<N>, Witness)
+        ensures handle { result.0 ≡ self.entry }
+        ensures ledger { result.1.ledger ≡ I.ledger }
+        ensures started { HasStarted N.template result.0 result.1.shown }
+    {
         let Door {
             desk: _,
             handle,
             yard: _,
+            witness,
         } = self;
-        handle.unbind().0
+        (handle.unbind().0, witness)
     }
 }
 
@@ -248,6 +263,7 @@ impl<
     }
 
     /// How many children there are at one front, which begins with all that the door had seen, learnt or done.
+    #[tactic(auto, using(crate::specs::ReplyLaws::seen_more))]
     pub fn count_children(&mut self) -> Result<Seen<Counts>, Gone>
         ensures front { IsPrefix self.old.front self.new.front }
         ensures editions { IsPrefix self.old.editions self.new.editions }
@@ -258,6 +274,7 @@ impl<
     }
 
     /// The listed child with this number at such a front.
+    #[tactic(auto, using(crate::specs::ReplyLaws::seen_more))]
     pub fn child(&mut self, number: u64) -> Result<Seen<Option<Row>>, Gone>
         ensures front { IsPrefix self.old.front self.new.front }
         ensures editions { IsPrefix self.old.editions self.new.editions }
@@ -268,6 +285,7 @@ impl<
     }
 
     /// The listed children at such a front, by ascending numbers.
+    #[tactic(auto, using(crate::specs::ReplyLaws::seen_more))]
     pub fn which_children(&mut self) -> Result<Seen<Vec<Row>>, QueryFault>
         ensures front { IsPrefix self.old.front self.new.front }
         ensures editions { IsPrefix self.old.editions self.new.editions }
@@ -279,6 +297,7 @@ impl<
 
     /// Calls `f` once on a view at such a front, and not at all where the supervisor is down. `f` may make no update,
     /// which would wait for this look.
+    #[tactic(auto, using(crate::specs::ReplyLaws::seen_more))]
     pub fn inspect<T, G: FnOnce(&View) -> T>(&mut self, f: G) -> Result<Seen<T>, Gone>
         requires { G.IsAlwaysCallable f }
         ensures front { IsPrefix self.old.front self.new.front }
@@ -291,6 +310,7 @@ impl<
     }
 
     /// From now on its front begins with the ticket's, which is of the same desk. It enters nothing and always succeeds.
+    #[tactic(auto, using(crate::specs::ReplyLaws::seen_more))]
     pub fn learn(&mut self, ticket: &Ticket) -> Result<(), Gone>
         requires { ticket.now.press ≡ N.press }
         ensures answered { IsOk result }

@@ -2,8 +2,8 @@
 //!
 //! A [`Behaviour`] makes a child: a future of the kit's `futures`, which reads its [`Mailbox`] and is ready with the reason of
 //! its end. A [`Door`] starts children, sends to them, ends them, asks by every query of a handle, and makes other doors. The
-//! children of one crew run in a [`Yard`]. What its threads share lies in a [`Hub`]: the inbox of exits with its posters, and
-//! where each child is reached. This crate runs nothing by itself: `sup_live` has the threads, and the driver that enters
+//! children of one crew run in a [`Yard`]. What its threads share lies in a [`Hub`]: the inbox of exits with its posters, the
+//! ledger of the children that were made, and where each child is reached. This crate runs nothing by itself: `sup_live` has the threads, and the driver that enters
 //! exits.
 //!
 //! ```text
@@ -16,7 +16,7 @@
 //!
 //! What the layer above may rely on: an update by a door has the contract of a handle's, and a query that of an asker's. The
 //! exit of a child is a value that can be neither copied nor let go, so a child that ends, however it does, has paid it once.
-//! An exit that an outbox was given was posted, or waits there, in order. Its reason is one for which the behaviour's children
+//! Each child that was made has one exit, which was posted or waits in an outbox, or the ledger says that it owes it. Its reason is one for which the behaviour's children
 //! may end, or one of the crew's own: `killed` of a child that was let go, `not_run` of one that could not be run.
 //!
 //! That a child is polled, that a message comes and that a thread wakes is promised by no contract: the kit's executor and
@@ -40,7 +40,7 @@ pub use behaviour::Behaviour;
 pub use clock::Moments;
 pub use counts::CrewCounts;
 pub use door::Door;
-pub use hub::Hub;
+pub use hub::{Ended, Hub};
 pub use mailbox::Mailbox;
 pub use outbox::Office;
 pub use yard::Yard;

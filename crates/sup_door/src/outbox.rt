@@ -1,6 +1,6 @@
 //! Outboxes: exits on their way to the inbox, of which none is refused.
 ghost use Rattle.std.specs.Prelude.{◌≡◌, [], ◌∷◌, ◌++◌, true, IfErr, OnOk};
-ghost use Rattle.sup_door.specs.Outboxes.{told};
+ghost use Rattle.sup_door.specs.Outboxes.{told, exit_of, children_of};
 ghost use Rattle.sup_door.specs.Endings.{is_ending, AreEndings, AreExitEndings};
 
 use std::alloc::Global;
@@ -8,16 +8,20 @@ use std::collections::VecDeque;
 use std::marker::{Brand, PhantomData};
 use std::sync::Wait;
 use sup_inbox::{Inbox, InboxFull, Poster};
-use sup_types::OutOfMemory;
+use sup_ledger::{Account, Child, Debt, Ledger, Witness};
+use sup_types::{OutOfMemory, Reason};
 
-/// Names an inbox, and says how many notes it holds at most, how many posters it has, and for which reasons the children may
-/// end of whom it is told. A value behind a lock is known by its type alone, so the type says which inbox it posts to.
+/// Names an inbox and a ledger, and says how many notes the inbox holds at most, how many posters it has, and for which reasons
+/// the children may end of whom it is told. A value behind a lock is known by its type alone, so the type says which inbox it
+/// posts to, and in which ledger it stands.
 pub trait Office {
     ghost use Rattle.std.specs.Prelude.{ℕ, Bool};
     ghost use Rattle.atomic_table.specs.Seated.{TableId};
     ghost use Rattle.sup_types.specs.declared.reason.Reason.{Reason};
 
     ghost inbox: { TableId };
+
+    ghost ledger: { TableId };
 
     ghost capacity: { ℕ };
 
@@ -28,9 +32,11 @@ pub trait Office {
 
 impl Office for Brand {
     ghost use Rattle.std.specs.Prelude.{true};
-    ghost use Rattle.sup_door.specs.Offices.{no_inbox};
+    ghost use Rattle.sup_door.specs.Offices.{no_table};
 
-    ghost inbox = { no_inbox };
+    ghost inbox = { no_table };
+
+    ghost ledger = { no_table };
 
     ghost capacity = { 0 };
 
@@ -39,27 +45,34 @@ impl Office for Brand {
     ghost may_end = { λ reason. true };
 }
 
-/// A poster, the exits that wait for room in the inbox, and how many children there is room for among these. By its type, each
-/// exit that it was told has a reason for which a child may end, or one of the crew's own.
+/// A poster, the exits that wait for room in the inbox, and how many children there is room for among these; and the account of
+/// the children that were made here. By its type, each exit that it was told has a reason for which a child may end, or one of
+/// the crew's own, and the exits that were paid here are those that it was told, in order and each once.
 #[derive(Drop)]
 pub struct Outbox<I: Office> {
     poster: Poster,
     waiting: VecDeque<InboxFull>,
     children: usize,
+    account: Account,
     of: PhantomData<I>,
     ghost of_inbox: { poster.inbox ≡ I.inbox },
+    ghost of_ledger: { account.ledger ≡ I.ledger },
+    ghost at: { account.places ≡ poster.number ∷ [] },
+    ghost paid: { account.paid ≡ children_of (told poster.posted waiting.items) },
     ghost endings: { AreExitEndings I.may_end (told poster.posted waiting.items) },
 }
 
 impl<I: Office> Outbox<I> {
-    /// An outbox in which nothing waits, of a poster that posted nothing. It takes no memory.
-    pub(crate) fn new(alloc: Global, poster: Poster) -> Outbox<I>
-        requires { (poster.inbox ≡ I.inbox) × (poster.posted ≡ []) }
+    /// An outbox in which nothing waits, of a poster that posted nothing, with the account of its place. It takes no memory.
+    pub(crate) fn new(alloc: Global, poster: Poster, account: Account) -> Outbox<I>
+        requires poster { (poster.inbox ≡ I.inbox) × (poster.posted ≡ []) }
+        requires account { (account.ledger ≡ I.ledger) × (account.places ≡ poster.number ∷ []) × (account.paid ≡ []) }
     {
         Outbox {
             poster,
             waiting: VecDeque::new(alloc),
             children: 0,
+            account,
             of: PhantomData,
         }
     }
@@ -79,23 +92,42 @@ impl<I: Office> Outbox<I> {
         self.children = self.children.saturating_sub(1);
     }
 
-    /// Lets the exit wait behind those that wait, and posts as many as the inbox has room for. It comes back where memory was
-    /// refused for it, which cannot be where room was made for it.
+    /// Makes a child, which owes its exit.
+    pub(crate) fn make<R: Wait>(&mut self, rt: &R, ledger: &Ledger, child: Child) -> (Debt, Witness)
+        requires { ledger.now.id ≡ I.ledger }
+        ensures debt { result.0 ≡ record { ledger = I.ledger; child = child } }
+        ensures witness { result.1 ≡ record { ledger = I.ledger; shown = child ∷ [] } }
+    {
+        ledger.make(rt, &mut self.account, child)
+    }
+
+    /// Lets the exit of this child wait behind those that wait, which pays its debt, and posts as many as the inbox has room for.
+    /// The debt comes back where memory was refused for the exit, which cannot be where room was made for it.
     #[tactic(auto, using(crate::proofs::Outboxes::told_one_more))]
     pub(crate) fn put<R: Wait>(
         &mut self,
         rt: &R,
         inbox: &Inbox,
-        exit: InboxFull,
-    ) -> Result<(), InboxFull>
+        ledger: &Ledger,
+        debt: Debt,
+        reason: Reason,
+    ) -> Result<(), Debt>
         requires inbox { inbox.now.id ≡ I.inbox }
-        requires ending { is_ending I.may_end exit.reason ≡ true }
-        ensures ok { OnOk result (told self.new.poster.posted self.new.waiting.items ≡ told self.old.poster.posted self.old.waiting.items ++ exit ∷ []) }
-        ensures err { IfErr result (λ back. (back ≡ exit) × (told self.new.poster.posted self.new.waiting.items ≡ told self.old.poster.posted self.old.waiting.items)) }
+        requires ledger { (ledger.now.id ≡ I.ledger) × (debt.ledger ≡ I.ledger) }
+        requires ending { is_ending I.may_end reason ≡ true }
+        ensures ok { OnOk result (told self.new.poster.posted self.new.waiting.items ≡ told self.old.poster.posted self.old.waiting.items ++ exit_of debt.child reason ∷ []) }
+        ensures err { IfErr result (λ back. (back ≡ debt) × (told self.new.poster.posted self.new.waiting.items ≡ told self.old.poster.posted self.old.waiting.items)) }
     {
-        if let Err(refused) = self.waiting.push_back(exit) {
-            return Err(refused.value);
+        let Child { number, arg } = debt.child();
+        let exit = InboxFull {
+            number,
+            arg,
+            reason,
+        };
+        if self.waiting.push_back(exit).is_err() {
+            return Err(debt);
         }
+        ledger.pay(rt, &mut self.account, debt);
         self.post_waiting(rt, inbox);
         Ok(())
     }
@@ -138,18 +170,19 @@ impl<I: Office> Outbox<I> {
         }
     }
 
-    /// The poster, and the exits that wait.
-    pub(crate) fn end(self) -> (Poster, VecDeque<InboxFull>)
+    /// The poster, the exits that wait, and the account.
+    pub(crate) fn end(self) -> (Poster, VecDeque<InboxFull>, Account)
         ensures inbox { result.0.inbox ≡ I.inbox }
-        ensures told { told result.0.posted result.1.items ≡ told self.poster.posted self.waiting.items }
+        ensures account { (result.2.ledger ≡ I.ledger) × (result.2.places ≡ result.0.number ∷ []) × (result.2.paid ≡ children_of (told result.0.posted result.1.items)) }
         ensures endings { AreEndings I.may_end result.0.posted × AreExitEndings I.may_end result.1.items }
     {
         let Outbox {
             poster,
             waiting,
             children: _,
+            account,
             of: _,
         } = self;
-        (poster, waiting)
+        (poster, waiting, account)
     }
 }

@@ -1,7 +1,8 @@
 //! Yards: where children run.
-ghost use Rattle.std.specs.Prelude.{◌≡◌, ◌+◌, ◌-◌, ◌^◌, min, IfOk};
+ghost use Rattle.std.specs.Prelude.{◌≡◌, ◌+◌, ◌-◌, ◌^◌, [], ◌∷◌, ◌++◌, min, IfOk};
 ghost use mathlib.Core.List.{IsPrefix};
 ghost use Rattle.sup_door.specs.Endings.{EndsBy};
+ghost use Rattle.sup_door.specs.Starts.{child_started};
 
 use crate::alive::{Alive, not_run};
 use crate::behaviour::Behaviour;
@@ -19,7 +20,8 @@ use std::random::RandomSource;
 use std::sync::Wait;
 use std::time::Clock;
 use sup_desk::{Handle, Journal, Name};
-use sup_types::{OutOfMemory, Seen, Starter, Text};
+use sup_ledger::{Child, Witness};
+use sup_types::{Operation, OutOfMemory, Reply, Seen, Starter, Text};
 
 /// The tasks of a crew, with what they share. By its type, its children may end for the reasons of which the office may be told.
 #[derive(Drop)]
@@ -137,9 +139,9 @@ impl<'h, I: Office, B: Behaviour, P: Wait + Drop> Yard<'h, I, B, P, Alive<'h, I,
     }
 
     /// Runs a child that was made. Where that is refused, its exit is paid at once.
-    fn spawn(&self, due: Due) {
-        self.hub.counts.child_made();
-        match self.admit(due.number, &due.arg) {
+    fn spawn(&self, due: Due<I>) {
+        let Child { number, arg } = due.debt.child();
+        match self.admit(number, &arg) {
             Ok(child) => drop(
                 self.tasks.spawn(Alive {
                     hub: self.hub,
@@ -152,22 +154,52 @@ impl<'h, I: Office, B: Behaviour, P: Wait + Drop> Yard<'h, I, B, P, Alive<'h, I,
         }
     }
 
-    /// Runs a child that was made, whose exit has room in the outbox of this place. One that is listed no more is told to
-    /// end: who ends a child enters that first, and then looks for its room.
+    /// Makes and runs a child that was started, whose exit has room in the outbox of this place, and shows that it was made. One
+    /// that is listed no more is told to end: who ends a child enters that first, and then looks for its room.
     pub fn begin<N: Name, S: Starter + Drop, Q: Wait + Drop, J: Journal + Drop>(
         &self,
         handle: &mut Handle<'_, N, S, Q, J>,
         moment: u64,
-        number: u64,
-        arg: Text,
+        child: Child,
         place: usize,
-    )
+    ) -> Witness
         ensures front { IsPrefix handle.old.front handle.new.front }
         ensures calls { (handle.new.calls ≡ handle.old.calls) × (handle.new.number ≡ handle.old.number) }
+        ensures witness { result ≡ record { ledger = I.ledger; shown = child ∷ [] } }
     {
-        self.spawn(Due { number, arg, place });
-        if !matches!(handle.child(number), Ok(Seen::Up(Some(_)))) {
-            self.end(number, moment);
+        let (due, witness) = self.hub.own(child, place);
+        self.spawn(due);
+        if !matches!(handle.child(child.number), Ok(Seen::Up(Some(_)))) {
+            self.end(child.number, moment);
+        }
+        witness
+    }
+
+    /// Makes and runs the child that was started, if one was, whose exit has room in the outbox of this place, and adds it to what
+    /// the witness shows. Where none was, the room is given back.
+    pub(crate) fn begin_started<N: Name, S: Starter + Drop, Q: Wait + Drop, J: Journal + Drop>(
+        &self,
+        handle: &mut Handle<'_, N, S, Q, J>,
+        witness: &mut Witness,
+        moment: u64,
+        arg: Text,
+        place: usize,
+        reply: &Reply,
+    )
+        requires { witness.old.ledger ≡ I.ledger }
+        ensures front { IsPrefix handle.old.front handle.new.front }
+        ensures calls { (handle.new.calls ≡ handle.old.calls) × (handle.new.number ≡ handle.old.number) }
+        ensures witness { witness.new ≡ record { ledger = I.ledger; shown = witness.old.shown ++ child_started (Operation.Start arg) reply.now } }
+    {
+        if let Reply::Started(number) = reply {
+            let child = Child {
+                number: *number,
+                arg,
+            };
+            let begun = self.begin(handle, moment, child, place);
+            self.hub.show(witness, begun);
+        } else {
+            self.hub.free_room(place);
         }
     }
 }

@@ -1,5 +1,5 @@
 -- What a driver entered, and one call or one drain more.
-use Rattle.std.proofs.Common.{◌≡◌, ℕ, ◌+◌, ◌&&◌, Bool, true, false, List, [], ◌∷◌, ◌++◌, length, refl, ap, sym, ◌∙◌, append-nil, append_assoc, suc, arith, length-append, Option, Some, None}
+use Rattle.std.proofs.Common.{◌≡◌, ℕ, ◌+◌, ◌<◌, ◌&&◌, Bool, true, false, List, [], ◌∷◌, ◌++◌, length, take, get_or, subst, refl, ap, sym, ◌∙◌, append-nil, append_assoc, suc, arith, length-append, Option, Some, None}
 use Rattle.sup_types.specs.declared.text.Text.{Text}
 use Rattle.sup_types.specs.declared.template.Template.{Template}
 use Rattle.sup_types.specs.declared.history.Answer.{Answer}
@@ -11,6 +11,7 @@ use Rattle.logbook.specs.Pages.{Book}
 use Rattle.sup_log.specs.Tokens.{Told}
 use Rattle.sup_desk.specs.Knowledge.{Knowledge}
 use Rattle.sup_desk.specs.Batches.{AreEntered}
+use Rattle.sup_desk.specs.BatchLaws.{next_of}
 use Rattle.sup_inbox.specs.declared.note.Note.{Note}
 use Rattle.sup_drain.specs.Exits.{exit_of, exits}
 use Rattle.sup_drain.specs.Drains.{notes_of, replies_of, IsEntered}
@@ -20,6 +21,11 @@ use Rattle.sup_desk.specs.declared.laws.Done.{Done}
 use Rattle.sup_desk.specs.Results.{IsUpdateResult}
 use Rattle.sup_drain.specs.declared.drain.Drained.{Drained}
 use Rattle.sup_drain.specs.declared.drain.DrainFault.{DrainFault}
+use mathlib.Core.List.{IsPrefix}
+use Rattle.sup_ledger.specs.declared.child.Child.{Child}
+use Rattle.sup_door.specs.Starts.{HasReplies}
+use Rattle.sup_door.specs.ReplyLaws.{each_of, seen_more, applied}
+use Rattle.sup_driver.specs.Restarts.{restarted_as, number_restarted, restarted_among, numbers_of}
 use Rattle.sup_driver.specs.Leads.{exits_among, is_driven, are_driven}
 
 pub exits-append : (xs ys : List Note) → exits (xs ++ ys) ≡ exits xs ++ exits ys
@@ -142,3 +148,58 @@ counted_drained was now (Err f) count more next all part m h n =
 -- the count is that of the exits
 pub counts_exits : (calls : List Entry) (entered : List Note) (count : ℕ) → exits_among calls ≡ exits entered → count ≡ length entered → count ≡ length (exits_among calls)
 counts_exits calls entered count e h = h ∙ sym (exits-length entered) ∙ ap (λ l. length l) (sym e)
+
+-- ---- the children that were restarted
+
+numbers_of-append : (xs ys : List Child) → numbers_of (xs ++ ys) ≡ numbers_of xs ++ numbers_of ys
+numbers_of-append [] ys = refl
+numbers_of-append (x ∷ xs) ys = ap (λ l. x.number ∷ l) (numbers_of-append xs ys)
+
+-- one child more is shown
+pub numbers_shown : (now was : List Child) (c : Child) → now ≡ was ++ c ∷ [] → numbers_of now ≡ numbers_of was ++ c.number ∷ []
+numbers_shown now was c n = ap numbers_of n ∙ numbers_of-append was (c ∷ [])
+
+restarted_snoc : (ps : List (Note × Reply)) (p : Note × Reply) → restarted_among (ps ++ p ∷ []) ≡ restarted_among ps ++ restarted_as p.1
+restarted_snoc [] p = append-nil (restarted_as p.1)
+restarted_snoc (q ∷ ps) p = ap (λ l. restarted_as q.1 ++ l) (restarted_snoc ps p) ∙ sym (append_assoc (restarted_as q.1) (restarted_among ps) (restarted_as p.1))
+
+-- the child of one exit more
+restarted_more : (pairs : List (Note × Reply)) (k : ℕ) (p : Note × Reply) → k < length pairs → p ≡ get_or pairs k p → restarted_among (take (k + 1) pairs) ≡ restarted_among (take k pairs) ++ restarted_as p.1
+restarted_more pairs k p low is = ap restarted_among (next_of k pairs p low is) ∙ restarted_snoc (take k pairs) p
+
+pub restarted_one_more : (pairs : List (Note × Reply)) (k : ℕ) (p : Note × Reply) (now then was : List ℕ) → k < length pairs → p ≡ get_or pairs k p → then ≡ was ++ restarted_among (take k pairs) → now ≡ then ++ restarted_as p.1
+    → now ≡ was ++ restarted_among (take (k + 1) pairs)
+restarted_one_more pairs k p now then was low is t n =
+    n ∙ ap (λ l. l ++ restarted_as p.1) t ∙ append_assoc was (restarted_among (take k pairs)) (restarted_as p.1) ∙ ap (λ l. was ++ l) (sym (restarted_more pairs k p low is))
+
+each_restarted : (pairs : List (Note × Reply)) → each_of number_restarted (exits (notes_of pairs)) (replies_of pairs) ≡ restarted_among pairs
+each_restarted [] = refl
+each_restarted (p ∷ ps) = ap (λ l. restarted_as p.1 ++ l) (each_restarted ps)
+
+module _ (may : Text → ℕ → Answer → Type 0) (template : Template) (press : Book) (before after : Knowledge) (moment : ℕ) where
+  restarted_entered : (pairs : List (Note × Reply)) (ticket : Option Told) (was : List ℕ) → IsEntered may template press before after moment pairs ticket → IsPrefix before.front after.front
+      → HasReplies number_restarted template before was → HasReplies number_restarted template after (was ++ restarted_among pairs)
+  restarted_entered pairs None was e more h =
+      subst (HasReplies number_restarted template after) (sym (append-nil was) ∙ ap (λ l. was ++ restarted_among l) (sym e.0)) (seen_more number_restarted template before after was h more e.1 e.2)
+  restarted_entered pairs (Some told) was e more h =
+      subst (λ l. HasReplies number_restarted template after (was ++ l)) (each_restarted pairs)
+      (applied number_restarted may template press before was (exits (notes_of pairs)) moment after (replies_of pairs) told h e)
+
+  -- whatever a drain answered
+  pub restarted_drained : (pairs : List (Note × Reply)) (was : List ℕ) (r : Result Drained DrainFault) → MatchResult r (λ d. pairs ≡ d.pairs.items) (λ e. pairs ≡ e.done.pairs.items)
+      → IfOk r (λ d. IsEntered may template press before after moment d.pairs.items d.ticket) → IfErr r (λ e. IsEntered may template press before after moment e.done.pairs.items e.done.ticket) → IsPrefix before.front after.front
+      → HasReplies number_restarted template before was → HasReplies number_restarted template after (was ++ restarted_among pairs)
+  restarted_drained pairs was (Ok d) is ok err more h = subst (λ l. HasReplies number_restarted template after (was ++ restarted_among l)) (sym is) (restarted_entered d.pairs.items d.ticket was ok more h)
+  restarted_drained pairs was (Err e) is ok err more h = subst (λ l. HasReplies number_restarted template after (was ++ restarted_among l)) (sym is) (restarted_entered e.done.pairs.items e.done.ticket was err more h)
+
+-- how many notes a drain entered
+pub counted_pairs : (pairs : List (Note × Reply)) (r : Result Drained DrainFault) (count : ℕ) → MatchResult r (λ d. pairs ≡ d.pairs.items) (λ e. pairs ≡ e.done.pairs.items) → count ≡ length pairs
+    → MatchResult r (λ d. count ≡ length d.pairs.items) (λ e. count ≡ length e.done.pairs.items)
+counted_pairs pairs (Ok d) count is n = n ∙ ap length is
+counted_pairs pairs (Err e) count is n = n ∙ ap length is
+
+-- and the numbers that a witness shows
+pub restarted_shown : (template : Template) (before after : Knowledge) (was now : List ℕ) → HasReplies number_restarted template before was → IsPrefix before.front after.front → after.calls ≡ before.calls → after.number ≡ before.number → now ≡ was
+    → HasReplies number_restarted template after now
+restarted_shown template before after was now h more calls number is =
+    subst (HasReplies number_restarted template after) (sym is) (seen_more number_restarted template before after was h more calls number)

@@ -1,9 +1,11 @@
 //! The driver: it enters exits, begins the children that were restarted, and tries failed restarts again.
 ghost use Rattle.std.specs.Prelude.{◌≡◌, ◌+◌, ◌<◌, ◌≤◌, [], true, IfSome, vec_len, vec_capacity, length};
 ghost use Rattle.sup_drain.specs.Exits.{exits as exits_told};
+ghost use Rattle.sup_door.specs.Starts.{HasReplies};
 ghost use Rattle.sup_driver.specs.Leads.{exits_among, are_driven};
+ghost use Rattle.sup_driver.specs.Restarts.{number_restarted, numbers_of};
 
-use crate::lead::Lead;
+use crate::lead::{Lead, place_of};
 use crate::tally::Tally;
 use std::alloc::{AllocError, Global};
 use std::marker::PhantomData;
@@ -13,6 +15,7 @@ use sup_desk::{Caller, Handle, Journal, Name, NoJournal, UpdateFault};
 use sup_door::{Alive, Behaviour, Office, Yard};
 use sup_drain::{Drain, DrainFault, HELD};
 use sup_inbox::{Note, Taker};
+use sup_ledger::Witness;
 use sup_types::{Reply, Starter, Text};
 
 /// How long the driver sleeps at most while something is to be done later.
@@ -56,7 +59,10 @@ pub struct Driven<N: Name, I: Office> {
     exits: u64,
     tally: Tally,
     fault: Option<UpdateFault>,
+    witness: Witness,
     of: PhantomData<I>,
+    ghost of_ledger: { witness.ledger ≡ I.ledger },
+    ghost restarted: { HasReplies number_restarted N.template caller (numbers_of witness.shown) },
     ghost of_inbox: { drain.inbox ≡ I.inbox },
     ghost all: { drain.posters ≡ I.posters },
     ghost driven: { are_driven caller.calls ≡ true },
@@ -66,12 +72,15 @@ pub struct Driven<N: Name, I: Office> {
 
 impl<N: Name, I: Office> Driven<N, I> {
     /// Its parts: the driver's handle without its desk, the drain, how many exits the handle entered, what was replied to it,
-    /// and the fault that stopped it. The exits that the handle entered are those of the notes that the drain entered.
-    pub fn parts(self) -> (Caller<N>, Drain, u64, Tally, Option<UpdateFault>)
+    /// the fault that stopped it, and a witness of the crew's ledger. The exits that the handle entered are those of the notes
+    /// that the drain entered, and the witness shows the children that were restarted by the handle's calls.
+    pub fn parts(self) -> (Caller<N>, Drain, u64, Tally, Option<UpdateFault>, Witness)
         ensures inbox { (result.1.inbox ≡ I.inbox) × (result.1.posters ≡ I.posters) }
         ensures driven { are_driven result.0.calls ≡ true }
         ensures entered { exits_among result.0.calls ≡ exits_told result.1.entered }
         ensures counted { result.2 ≡ length (exits_among result.0.calls) }
+        ensures ledger { result.5.ledger ≡ I.ledger }
+        ensures restarted { HasReplies number_restarted N.template result.0 (numbers_of result.5.shown) }
     {
         let Driven {
             caller,
@@ -79,9 +88,10 @@ impl<N: Name, I: Office> Driven<N, I> {
             exits,
             tally,
             fault,
+            witness,
             of: _,
         } = self;
-        (caller, drain, exits, tally, fault)
+        (caller, drain, exits, tally, fault, witness)
     }
 }
 
@@ -92,11 +102,6 @@ pub(crate) enum Goal {
     Ended(u64),
     /// All workers have gone.
     Gone,
-}
-
-/// The place of the outbox by which the note was posted, whose room is the child's.
-fn place_of(note: &Note) -> usize {
-    note.poster.saturating_sub(1) as usize
 }
 
 /// Where the first of the retries stands whose moment has come.
@@ -120,18 +125,20 @@ impl<'d, N: Name, S: Starter + Drop, Q: Wait + Drop, I: Office, J: Journal + Dro
     J,
 > {
     /// A driver that begins, with room for the first retries. A restart that failed is tried again after `retry_after` seconds.
-    /// The handle has made no call yet.
+    /// The handle has made no call yet, and the witness, which is of the crew's ledger, shows no child.
     pub fn new(
         alloc: Global,
         handle: Handle<'d, N, S, Q, J>,
         taker: Taker,
+        witness: Witness,
         retry_after: u64,
     ) -> Result<Driver<'d, N, S, Q, I, J>, AllocError>
         requires handle { handle.calls ≡ [] }
         requires taker { taker ≡ record { inbox = I.inbox; posters = I.posters; taken = [] } }
+        requires witness { witness ≡ record { ledger = I.ledger; shown = [] } }
     {
         Ok(Driver {
-            lead: Lead::new(handle, taker),
+            lead: Lead::new(handle, taker, witness),
             retries: Vec::with_capacity(alloc, HELD)?,
             retry_after,
             tally: Tally::default(),
@@ -160,10 +167,7 @@ impl<'d, N: Name, S: Starter + Drop, Q: Wait + Drop, I: Office, J: Journal + Dro
         if limit == 0 {
             return Err(UpdateFault::OutOfMemory);
         }
-        match self
-            .lead
-            .drain(rt, yard.alloc(), yard.hub().inbox(), moment, limit)
-        {
+        match self.lead.drain(rt, yard, moment, limit) {
             Ok(done) => Ok(self.answer_all(yard, moment, done.pairs)),
             Err(DrainFault { done, fault }) => {
                 self.answer_all(yard, moment, done.pairs);
@@ -203,7 +207,8 @@ impl<'d, N: Name, S: Starter + Drop, Q: Wait + Drop, I: Office, J: Journal + Dro
         ensures { (vec_len self.new.retries ≤ vec_len self.old.retries + 1) × (vec_capacity self.new.retries ≡ vec_capacity self.old.retries) }
     {
         match reply {
-            Reply::Restarted(_, number) => { self.lead.begin(yard, moment, number, arg, place) }
+            // The lead has made the child, which has the room.
+            Reply::Restarted(_, _) => {}
             Reply::Restarting(number, _) => self.retries.push_reserved(Retry {
                 number,
                 arg,
@@ -245,7 +250,9 @@ impl<'d, N: Name, S: Starter + Drop, Q: Wait + Drop, I: Office, J: Journal + Dro
                 return Ok(());
             };
             let retry = self.retries[place];
-            let reply = self.lead.retry(rt, moment, retry.number)?;
+            let reply = self
+                .lead
+                .retry(rt, yard, moment, retry.number, retry.arg, retry.place)?;
             self.tally = self.tally.retried(&reply);
             let _ = self.retries.swap_remove(place);
             self.answer(yard, moment, retry.arg, retry.place, reply);
@@ -405,13 +412,14 @@ impl<'d, N: Name, S: Starter + Drop, Q: Wait + Drop, I: Office, J: Journal + Dro
             is_starved: _,
             fault,
         } = self;
-        let (caller, drain, exits) = lead.end();
+        let (caller, drain, exits, witness) = lead.end();
         Driven {
             caller,
             drain,
             exits,
             tally,
             fault,
+            witness,
             of: PhantomData,
         }
     }

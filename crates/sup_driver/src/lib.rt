@@ -7,13 +7,14 @@
 //! the crew, stops the supervisor, and returns once all workers have gone.
 //!
 //! ```text
-//! let driver = Driver::new(rt.alloc(), desk.handle(&rt)?, taker, 1)?;
+//! let driver = Driver::new(rt.alloc(), desk.handle(&rt)?, taker, hub.witness(), 1)?;
 //! // in a thread of its own, beside the workers
-//! let (caller, drain, exits, tally, fault) = driver.drive(&rt, &yard).parts();
+//! let (caller, drain, exits, tally, fault, witness) = driver.drive(&rt, &yard).parts();
 //! ```
 //!
 //! What the layer above may rely on: the calls of the driver's handle are exits, later tries of restarts and the stop, and
-//! nothing else, and its count is that of the exits. That it wakes, and that a crew closes, is promised by no contract.
+//! nothing else, its count is that of the exits, and each child that was restarted by these calls was made. That it wakes,
+//! and that a crew closes, is promised by no contract.
 #![tactic(auto)]
 
 mod driver;

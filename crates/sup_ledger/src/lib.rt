@@ -12,10 +12,10 @@
 //! let (ledger, mut root) = Ledger::new(rt.alloc(), 2)?;
 //! let mut first = ledger.open(&mut root);
 //! let mut second = ledger.open(&mut root);
-//! let (debt, witness) = ledger.make(&rt, &mut first, number, arg);
+//! let (debt, witness) = ledger.make(&rt, &mut first, Child { number, arg });
 //! ledger.pay(&rt, &mut second, debt);
-//! let all = ledger.join(&rt, first, second);
-//! let totals = ledger.settle(all, witness);
+//! ledger.join(&rt, &mut first, second);
+//! let totals = ledger.settle(first, witness);
 //! ```
 #![tactic(auto)]
 

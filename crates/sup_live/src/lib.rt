@@ -11,7 +11,7 @@
 //! let plan = Plan { workers: 4, inbox: 4096, retry_after: 1, grace: 5 };
 //! let report = run_live(&rt, rt.alloc(), &desk, &behaviour, Moments::Monotonic, plan, program)?;
 //! if report.adds_up() {
-//!     // each child that was made has ended, and each exit was entered or is in the report
+//!     // each child that was made has one exit, which was entered or is in the report
 //! }
 //! ```
 //!
@@ -22,12 +22,13 @@
 //! driver entered exits, later tries and the stop, and nothing else, and the report's count is that of its exits. Each of
 //! these, and each exit that the report tells, has a reason for which the behaviour's children may end ([`Behaviour`],
 //! `may_end`), or one of the crew's own: `killed` of a child that was let go, `not_run` of one that could not be run. The
-//! report says of each patron what became of it. The exit of a child is a value that can be neither copied nor let go, so a
-//! child that ends, however it does, has paid it once. An exit that an outbox was given was posted, or waits there, in order.
+//! report says of each patron what became of it. Each child that was made has one exit: it was entered, or is in one of the
+//! report's lists, or the report counts it among those that are owed; and there is no other exit. Each child that the program's
+//! first door started, and each that was restarted by the driver's calls, is one of these.
 //!
 //! That a child is polled, that a message comes, that a thread wakes, and that a crew closes is promised by no contract: the
-//! kit's executor and channels are trusted for it, and tests show it. Nor does a contract tie the children that were made to
-//! the exits that were entered: [`Report::adds_up`] counts them.
+//! kit's executor and channels are trusted for it, and tests show it. So no contract says that a child ends:
+//! [`Report::adds_up`] is whether no exit is owed.
 #![tactic(auto)]
 
 mod patrons;

@@ -1,12 +1,14 @@
 //! What a crew did.
+ghost use Rattle.std.specs.Prelude.{◌≡◌, ◌↔◌, IsTrue};
+
 use crate::patrons::Patron;
 use std::collections::VecDeque;
 use sup_desk::{Caller, Name, UpdateFault};
 use sup_driver::Tally;
 use sup_inbox::{InboxFull, Note};
 
-/// What a crew did, once all its threads were joined. Each child that it made has ended, and its exit was entered, or is in
-/// one of the lists, or is lost.
+/// What a crew did, once all its threads were joined. Each child that it made has one exit, which was entered or is in one of the
+/// lists, or is among those that are owed.
 #[derive(Drop)]
 pub struct Report<N: Name, T: Drop, U: Drop = ()> {
     /// What came of the program.
@@ -29,8 +31,9 @@ pub struct Report<N: Name, T: Drop, U: Drop = ()> {
     pub left: Vec<Note>,
     /// The exits that were not posted, in a list for each poster.
     pub unposted: Vec<VecDeque<InboxFull>>,
-    /// How many exits were lost. Room for an exit is made before its child is started, so there are none.
-    pub lost: u64,
+    /// How many of the children that were made have no exit that was entered or is in one of the lists. Each child has ended, and
+    /// room for its exit was made before it was started, so there are none.
+    pub owed: u64,
     /// The fault that stopped the driver.
     pub fault: Option<UpdateFault>,
 }
@@ -38,9 +41,7 @@ pub struct Report<N: Name, T: Drop, U: Drop = ()> {
 impl<N: Name, T: Drop, U: Drop> Report<N, T, U> {
     /// How many exits were not entered.
     pub fn not_entered(&self) -> u64 {
-        let mut count = self.lost;
-        count = count.saturating_add(self.held.len() as u64);
-        count = count.saturating_add(self.left.len() as u64);
+        let mut count = (self.held.len() as u64).saturating_add(self.left.len() as u64);
         for list in &self.unposted {
             count = count.saturating_add(list.len() as u64);
         }
@@ -48,7 +49,9 @@ impl<N: Name, T: Drop, U: Drop> Report<N, T, U> {
     }
 
     /// Whether each child that was made has an exit that was entered, or is told of, and no other has.
-    pub fn adds_up(&self) -> bool {
-        self.made == self.exits.saturating_add(self.not_entered())
+    pub fn adds_up(&self) -> bool
+        ensures { IsTrue result ↔ (self.now.owed ≡ 0) }
+    {
+        self.owed == 0
     }
 }

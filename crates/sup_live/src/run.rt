@@ -2,13 +2,16 @@
 ghost use Rattle.std.specs.Prelude.{◌≡◌, ◌<◌, ◌≤◌, [], ◌++◌, true, length, All, IfOk, vec_len, vec_capacity};
 ghost use Rattle.sup_driver.specs.Leads.{exits_among, are_driven, AreExitsEnding};
 ghost use Rattle.sup_door.specs.Endings.{AreEndings, AreExitEndings};
-ghost use Rattle.sup_inbox.specs.Ends.{AreOf, AreNew};
+ghost use Rattle.sup_inbox.specs.Ends.{AreFrom, AreNew};
+ghost use Rattle.sup_ledger.specs.Holdings.{numbers_from};
+ghost use Rattle.sup_door.specs.Outboxes.{children_in, children_of};
+ghost use Rattle.sup_live.specs.Accounts.{IsToldOf};
 
 use crate::patrons::{Nobody, Programs};
 use crate::plan::{LiveFault, Plan};
 use crate::program::Program;
 use crate::report::Report;
-use crate::threads::{Joined, run_threads};
+use crate::threads::{Ends, Joined, run_threads};
 use arrayvec::ArrayVec;
 use futures::Future;
 use std::alloc::{AllocGlobal, Global};
@@ -18,11 +21,12 @@ use std::random::RandomSource;
 use std::sync::Wait;
 use std::thread::Threads;
 use std::time::Clock;
-use sup_desk::{Desk, Handle, Journal, Name};
-use sup_door::{Behaviour, Hub, Moments, Office, Yard};
+use sup_desk::{Desk, Journal, Name};
+use sup_door::{Behaviour, Ended, Hub, Moments, Office, Yard};
 use sup_drain::HELD;
 use sup_driver::Driver;
 use sup_inbox::{Inbox, InboxFull, Note, Poster, Taker, settle};
+use sup_ledger::{Account, Ledger, Witness};
 use sup_types::{OutOfMemory, Starter};
 
 /// Ends a yard. It stands apart, over any future, since the borrow checker of this kit sees no lifetime of a yard's children
@@ -31,19 +35,13 @@ fn end_yard<'h, I: Office, B: Behaviour, P: Wait + Drop, F: Future>(yard: Yard<'
     drop(yard);
 }
 
-/// The two ends by which a run uses its desk: the driver, and the handle of the program's first door.
-#[derive(Drop)]
-struct Ends<'d, N: Name, S: Starter + Drop, Q: Wait + Drop, I: Office, J: Journal + Drop> {
-    driver: Driver<'d, N, S, Q, I, J>,
-    door: Handle<'d, N, S, Q, J>,
-}
-
 /// Makes the two ends.
 fn ends_of<'d, N, S, Q, J, I, R>(
     rt: &R,
     alloc: Global,
     desk: &'d Desk<N, S, Q, J>,
     taker: Taker,
+    witness: Witness,
     retry_after: u64,
 ) -> Result<Ends<'d, N, S, Q, I, J>, LiveFault>
 where
@@ -54,10 +52,11 @@ where
     I: Office,
     R: Wait,
     requires taker { taker ≡ record { inbox = I.inbox; posters = I.posters; taken = [] } }
+    requires witness { witness ≡ record { ledger = I.ledger; shown = [] } }
 {
     let handle = desk.handle(rt)?;
     let door = desk.handle(rt)?;
-    let driver = Driver::new(alloc, handle, taker, retry_after)?;
+    let driver = Driver::new(alloc, handle, taker, witness, retry_after)?;
     Ok(Ends { driver, door })
 }
 
@@ -91,15 +90,22 @@ where
     requires ends { I.may_end ≡ B.may_end behaviour.now }
     ensures { IfOk result (λ j. vec_len j.patrons ≡ vec_len programs.patrons) }
 {
-    let ends: Ends<'d, N, S, Q, I, J> = match ends_of(rt, alloc, desk, taker, plan.retry_after) {
+    let witness = hub.witness();
+    let ends: Ends<'d, N, S, Q, I, J> = match ends_of(
+        rt,
+        alloc,
+        desk,
+        taker,
+        witness,
+        plan.retry_after,
+    ) {
         Ok(ends) => ends,
         Err(fault) => return Err(fault),
     };
     let Ok(yard) = Yard::new(rt, alloc, hub, behaviour, moments, plan.grace, plan.workers) else {
         return Err(LiveFault::OutOfMemory);
     };
-    let Ends { driver, door } = ends;
-    let joined = run_threads(rt, desk, &yard, driver, door, programs, plan.workers);
+    let joined = run_threads(rt, desk, &yard, ends, programs, plan.workers);
     end_yard(yard);
     joined
 }
@@ -127,11 +133,13 @@ impl Room {
     }
 }
 
-/// The inbox of a run, its ends, and room.
+/// The inbox of a run with its ends, the ledger with the account of all places, and room.
 struct Parts {
     inbox: Inbox,
     posters: Vec<Poster>,
     taker: Taker,
+    ledger: Ledger,
+    root: Account,
     room: Room,
 }
 
@@ -139,21 +147,26 @@ impl Parts {
     fn new(alloc: Global, workers: usize, inbox: usize) -> Result<Parts, LiveFault>
         requires { 1 ≤ inbox }
         ensures inbox { IfOk result (λ p. p.inbox.capacity ≡ inbox) }
-        ensures posters { IfOk result (λ p. AreOf p.inbox.id p.posters.items × (vec_len p.posters ≡ workers)) }
+        ensures posters { IfOk result (λ p. AreFrom p.inbox.id 1 p.posters.items × (vec_len p.posters ≡ workers)) }
         ensures new { IfOk result (λ p. AreNew p.posters.items) }
+        ensures ledger { IfOk result (λ p. p.ledger.places ≡ workers) }
+        ensures root { IfOk result (λ p. p.root ≡ record { ledger = p.ledger.id; places = numbers_from 1 workers; made = []; paid = [] }) }
         ensures taker { IfOk result (λ p. p.taker ≡ record { inbox = p.inbox.id; posters = workers; taken = [] }) }
         ensures empty { IfOk result (λ p. (p.room.posters.items ≡ []) × (p.room.waiting.items ≡ []) × (p.room.left.items ≡ []) × (p.room.held.items ≡ [])) }
         ensures room { IfOk result (λ p. (workers ≤ vec_capacity p.room.posters) × (workers ≤ vec_capacity p.room.waiting) × (inbox ≤ vec_capacity p.room.left) × (64 ≤ vec_capacity p.room.held)) }
     {
         let room = Room::new(alloc, workers, inbox)?;
-        let (inbox, root) = Inbox::new(alloc, inbox)?;
-        let Ok((posters, taker)) = root.split(alloc, &inbox, workers) else {
+        let (ledger, root) = Ledger::new(alloc, workers as u64)?;
+        let (inbox, ends) = Inbox::new(alloc, inbox)?;
+        let Ok((posters, taker)) = ends.split(alloc, &inbox, workers) else {
             return Err(LiveFault::OutOfMemory);
         };
         Ok(Parts {
             inbox,
             posters,
             taker,
+            ledger,
+            root,
             room,
         })
     }
@@ -184,8 +197,11 @@ where
     U::Outcome: Send,
     R: Threads + Wait + Clock + RandomSource + AllocGlobal + Sync,
     requires inbox { (parts.inbox.id ≡ I.inbox) × (parts.inbox.capacity ≡ I.capacity) }
-    requires posters { AreOf I.inbox parts.posters.items × (vec_len parts.posters ≡ I.posters) }
+    requires posters { AreFrom I.inbox 1 parts.posters.items × (vec_len parts.posters ≡ I.posters) }
+    requires some { 0 < I.posters }
     requires new { AreNew parts.posters.items }
+    requires ledger { (parts.ledger.id ≡ I.ledger) × (parts.ledger.places ≡ I.posters) }
+    requires root { parts.root ≡ record { ledger = I.ledger; places = numbers_from 1 I.posters; made = []; paid = [] } }
     requires taker { parts.taker ≡ record { inbox = I.inbox; posters = I.posters; taken = [] } }
     requires ends { I.may_end ≡ B.may_end behaviour.now }
     requires empty { (parts.room.posters.items ≡ []) × (parts.room.waiting.items ≡ []) × (parts.room.left.items ≡ []) × (parts.room.held.items ≡ []) }
@@ -193,12 +209,15 @@ where
     ensures driven { IfOk result (λ r. are_driven r.driver.calls ≡ true) }
     ensures counted { IfOk result (λ r. r.exits ≡ length (exits_among r.driver.calls)) }
     ensures endings { let may_end = B.may_end behaviour.now in IfOk result (λ r. AreExitsEnding may_end (exits_among r.driver.calls) × AreEndings may_end (r.held.items ++ r.left.items) × All (λ list. AreExitEndings may_end list.items) r.unposted.items) }
+    ensures account { IfOk result (λ r. IsToldOf N.template r.door r.driver r.held.items r.left.items (children_in (λ list. children_of list.items) r.unposted.items) r.made r.owed) }
     ensures patrons { IfOk result (λ r. vec_len r.patrons ≡ vec_len programs.patrons) }
 {
     let Parts {
         inbox,
         posters,
         taker,
+        ledger,
+        root,
         room,
     } = parts;
     let hub: Hub<I, B::Message, &R> = match Hub::new(
@@ -206,6 +225,8 @@ where
         alloc,
         inbox,
         posters,
+        ledger,
+        root,
         plan.workers as u64,
     ) {
         Ok(hub) => hub,
@@ -247,6 +268,7 @@ fn report<N: Name, I: Office, M: Drop, P: Wait + Drop, T: Drop, U: Drop, R: Wait
     ensures driven { are_driven result.driver.calls ≡ true }
     ensures counted { result.exits ≡ length (exits_among result.driver.calls) }
     ensures endings { AreExitsEnding I.may_end (exits_among result.driver.calls) × AreEndings I.may_end (result.held.items ++ result.left.items) × All (λ list. AreExitEndings I.may_end list.items) result.unposted.items }
+    ensures account { IsToldOf N.template result.door result.driver result.held.items result.left.items (children_in (λ list. children_of list.items) result.unposted.items) result.made result.owed }
     ensures patrons { vec_len result.patrons ≡ vec_len joined.patrons }
 {
     let Joined {
@@ -254,11 +276,19 @@ fn report<N: Name, I: Office, M: Drop, P: Wait + Drop, T: Drop, U: Drop, R: Wait
         door,
         outcome,
         patrons,
+        witness,
+        of: _,
     } = joined;
-    let (made, lost) = (hub.counts().made(), hub.counts().lost());
-    let (caller, drain, exits, tally, fault) = driven.parts();
+    let (caller, drain, exits, tally, fault, restarted) = driven.parts();
+    let mut witness = witness;
+    hub.show(&mut witness, restarted);
     let (taker, kept) = drain.end();
-    let (inbox, posters, unposted) = hub.end(room.posters, room.waiting);
+    let Ended {
+        inbox,
+        posters,
+        waiting,
+        totals,
+    } = hub.end(room.posters, room.waiting, witness);
     let Ok(settled) = settle(rt, posters, taker, inbox, room.left) else {
         unreachable!()
     };
@@ -267,13 +297,13 @@ fn report<N: Name, I: Office, M: Drop, P: Wait + Drop, T: Drop, U: Drop, R: Wait
         driver: caller,
         door,
         patrons,
-        made,
+        made: totals.made,
         exits,
         tally,
         held: list_held(kept, room.held),
         left: settled.left,
-        unposted,
-        lost,
+        unposted: waiting,
+        owed: totals.owed,
         fault,
     }
 }
@@ -288,6 +318,10 @@ fn report<N: Name, I: Office, M: Drop, P: Wait + Drop, T: Drop, U: Drop, R: Wait
 ///
 /// Each exit that the driver entered has a reason for which the behaviour's children may end, or one of the crew's own: `killed` of
 /// a child that was let go, `not_run` of one that could not be run. So has each exit that the report says was held, left or not posted.
+///
+/// Each child that was made has one exit: the driver entered it, or the report has it as held, left or not posted, or counts it
+/// among those that are owed; and there is no other exit. Each child that the program's first door started, and each that was
+/// restarted by the driver's calls, is one of the children that were made.
 ///
 /// Two handles of the desk are used: the driver's, and that of the program's first door. Both come back, for an audit. After a
 /// fault nothing was entered, and the program was not run.
@@ -315,6 +349,7 @@ where
     ensures driven { IfOk result (λ r. are_driven r.driver.calls ≡ true) }
     ensures counted { IfOk result (λ r. r.exits ≡ length (exits_among r.driver.calls)) }
     ensures endings { let may_end = B.may_end behaviour.now in IfOk result (λ r. AreExitsEnding may_end (exits_among r.driver.calls) × AreEndings may_end (r.held.items ++ r.left.items) × All (λ list. AreExitEndings may_end list.items) r.unposted.items) }
+    ensures account { IfOk result (λ r. IsToldOf N.template r.door r.driver r.held.items r.left.items (children_in (λ list. children_of list.items) r.unposted.items) r.made r.owed) }
     ensures patrons { IfOk result (λ r. r.patrons.items ≡ []) }
 {
     let nobody: Vec<Nobody<J>> = Vec::new(alloc);
@@ -355,6 +390,7 @@ where
     ensures driven { IfOk result (λ r. are_driven r.driver.calls ≡ true) }
     ensures counted { IfOk result (λ r. r.exits ≡ length (exits_among r.driver.calls)) }
     ensures endings { let may_end = B.may_end behaviour.now in IfOk result (λ r. AreExitsEnding may_end (exits_among r.driver.calls) × AreEndings may_end (r.held.items ++ r.left.items) × All (λ list. AreExitEndings may_end list.items) r.unposted.items) }
+    ensures account { IfOk result (λ r. IsToldOf N.template r.door r.driver r.held.items r.left.items (children_in (λ list. children_of list.items) r.unposted.items) r.made r.owed) }
     ensures patrons { IfOk result (λ r. vec_len r.patrons ≡ vec_len patrons) }
 {
     let parts = match Parts::new(alloc, plan.workers, plan.inbox) {

@@ -1,11 +1,13 @@
 //! The threads of a run.
 ghost use Rattle.std.specs.Prelude.{◌≡◌, ◌≤◌, [], IfOk, vec_len, vec_capacity};
 ghost use denote.Param.Send.{IsSend};
+ghost use Rattle.sup_door.specs.Starts.{HasStarted};
 
 use crate::patrons::{Attending, Patron, Programs, join_patrons, start_patrons};
 use crate::plan::LiveFault;
 use crate::program::Program;
 use futures::task::Hold;
+use std::marker::PhantomData;
 use std::sync::Wait;
 use std::thread;
 use std::thread::{JoinHandle, Scope, Threads};
@@ -13,7 +15,23 @@ use std::time::Clock;
 use sup_desk::{Caller, Desk, Handle, Journal, Name};
 use sup_door::{Alive, Behaviour, Door, Office, Yard};
 use sup_driver::{Driven, Driver};
+use sup_ledger::Witness;
 use sup_types::Starter;
+
+/// The two ends by which a run uses its desk: the driver, and the handle of the program's first door, which has made no call.
+#[derive(Drop)]
+pub(crate) struct Ends<
+    'd,
+    N: Name,
+    S: Starter + Drop,
+    Q: Wait + Drop,
+    I: Office,
+    J: Journal + Drop,
+> {
+    pub(crate) driver: Driver<'d, N, S, Q, I, J>,
+    pub(crate) door: Handle<'d, N, S, Q, J>,
+    ghost fresh: { door.calls ≡ [] },
+}
 
 /// What is left once all threads were joined.
 #[derive(Drop)]
@@ -22,6 +40,11 @@ pub(crate) struct Joined<N: Name, I: Office, T: Drop, U: Drop> {
     pub(crate) door: Caller<N>,
     pub(crate) outcome: T,
     pub(crate) patrons: Vec<Patron<N, U>>,
+    /// Shows the children that the door started.
+    pub(crate) witness: Witness,
+    pub(crate) of: PhantomData<I>,
+    ghost of_ledger: { witness.ledger ≡ I.ledger },
+    ghost started: { HasStarted N.template door witness.shown },
 }
 
 /// Starts the workers. Those that could not be started have gone.
@@ -127,8 +150,7 @@ fn run_program<'s, 'h: 's, 'd: 's, E, N, S, Q, J, I, B, P, T, U, R>(
     rt: &'s R,
     desk: &'d Desk<N, S, Q, J>,
     yard: &'s Yard<'h, I, B, P, Alive<'h, I, B, P>>,
-    driver: Driver<'d, N, S, Q, I, J>,
-    handle: Handle<'d, N, S, Q, J>,
+    ends: Ends<'d, N, S, Q, I, J>,
     programs: Programs<T, U>,
     workers: usize,
 ) -> Result<Joined<N, I, T::Outcome, U::Outcome>, LiveFault>
@@ -152,6 +174,7 @@ where
         Ok(staffed) => staffed,
         Err(fault) => return Err(fault),
     };
+    let Ends { driver, door } = ends;
     let driving = match start_driver(scope, rt, yard, driver) {
         Ok(driving) => driving,
         Err(fault) => return Err(fault),
@@ -163,17 +186,20 @@ where
     } = staffed;
     let Programs { program, patrons } = programs;
     let threads = start_patrons(scope, rt, desk, yard, patrons, threads);
-    let mut door = Door::new(desk, handle, yard);
+    let mut door = Door::new(desk, door, yard);
     let outcome = program.run(rt, &mut door);
     let patrons = join_patrons(rt, threads, room);
     door.close();
     let driven = driving.join(rt);
     drop(holds);
+    let (door, witness) = door.parts();
     Ok(Joined {
         driven,
-        door: door.end(),
+        door,
         outcome,
         patrons,
+        witness,
+        of: PhantomData,
     })
 }
 
@@ -182,8 +208,7 @@ pub(crate) fn run_threads<'h, 'd, N, S, Q, J, I, B, P, T, U, R>(
     rt: &R,
     desk: &'d Desk<N, S, Q, J>,
     yard: &Yard<'h, I, B, P, Alive<'h, I, B, P>>,
-    driver: Driver<'d, N, S, Q, I, J>,
-    handle: Handle<'d, N, S, Q, J>,
+    ends: Ends<'d, N, S, Q, I, J>,
     programs: Programs<T, U>,
     workers: usize,
 ) -> Result<Joined<N, I, T::Outcome, U::Outcome>, LiveFault>
@@ -211,6 +236,6 @@ where
             requires children { IsSend B.Message.row × IsSend B.Child.row }
             requires patrons { IsSend U.row × IsSend U.Outcome.row }
             ensures { IfOk result (λ j. vec_len j.patrons ≡ vec_len programs.patrons) }
-        { run_program(scope, rt, desk, yard, driver, handle, programs, workers) },
+        { run_program(scope, rt, desk, yard, ends, programs, workers) },
     )
 }

@@ -107,9 +107,9 @@ fn first_of(
     }
 }
 
-/// How many exits were not posted: those in these lists, and those that were lost.
-fn lost_of(unposted: &[VecDeque<InboxFull>], lost: u64) -> u64 {
-    let mut count = lost;
+/// How many exits were not posted: those in these lists, and those that are owed.
+fn lost_of(unposted: &[VecDeque<InboxFull>], owed: u64) -> u64 {
+    let mut count = owed;
     for list in unposted {
         count = count.saturating_add(list.len() as u64);
     }
@@ -146,7 +146,7 @@ pub(crate) fn sums_of<N: Name>(
         given_up: report.tally.given_up,
         left: report.left.len(),
         held: report.held.len(),
-        lost: lost_of(report.unposted.as_slice(), report.lost),
+        lost: lost_of(report.unposted.as_slice(), report.owed),
         messages,
         reads: answers.reads,
         rates,

@@ -1,5 +1,5 @@
 -- A pool's report is that of its run.
-use Rattle.std.proofs.Common.{◌≡◌, ℕ, ◌+◌, ◌≤◌, Bool, true, false, cond, arith, List, [], ◌∷◌, length, drop, Option, Some, None, refl, ap, sym, ◌∙◌, ◌++◌, append-nil, subst, Result, IfOk}
+use Rattle.std.proofs.Common.{◌≡◌, ℕ, ◌+◌, ◌≤◌, Bool, true, false, cond, arith, List, [], length, drop, Option, Some, None, refl, ap, sym, ◌∙◌, ◌++◌, append-nil, subst, Result, IfOk}
 use Rattle.std.specs.Prelude.{IfNone, count_by}
 use Rattle.sup_desk.specs.declared.faults.UpdateFault.{UpdateFault}
 use Rattle.sup_pool.specs.declared.fault.PoolFault.{PoolFault}

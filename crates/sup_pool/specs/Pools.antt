@@ -6,7 +6,7 @@ use Rattle.sup_types.specs.declared.reason.Reason.{Reason}
 use Rattle.sup_types.specs.declared.history.Entry.{Entry}
 use Rattle.sup_types.specs.declared.template.Template.{Template}
 use Rattle.sup_core.specs.Account.{account}
-use Rattle.sup_crew.specs.Calls.{Call, calls_of, starts_in, AreDriven}
+use Rattle.sup_crew.specs.Calls.{calls_of, starts_in, AreDriven}
 use Rattle.sup_crew.specs.Reports.{AreNamed}
 use Rattle.sup_crew.specs.Tallies.{tally_of}
 use Rattle.sup_pool.specs.declared.pool.PoolReport.{PoolReport}

@@ -1,5 +1,7 @@
 use Rattle.std.proofs.Common.{refl}
 use Rattle.sup_types.specs.declared.history.Operation.TheVariants.{Stop}
+use Rattle.sup_door.specs.ReplyLaws.{called_else}
+use Rattle.sup_driver.specs.Restarts.{number_restarted}
 use Rattle.sup_driver.proofs.Led.{exits_called, driven_called}
 use Rattle.sup_driver.proofs.lead.Lead.stop.Goals as goal
 
@@ -8,6 +10,8 @@ invariant_of-self g c =
     let was = c.args.self.now in
     let e = c.stop.ensures.result in
     record {
+      of_ledger = was.of_ledger;
+      restarted = called_else number_restarted g.S.Starter.may_answer g.N.Name.template g.N.Name.press was.handle _ Stop _ c.stop.new.self c.stop.result (λ _. refl) was.restarted e;
       of_inbox = was.of_inbox;
       all = was.all;
       entered = exits_called g.S.Starter.may_answer g.N.Name.template g.N.Name.press _ _ Stop _ c.stop.result _ refl e was.entered;

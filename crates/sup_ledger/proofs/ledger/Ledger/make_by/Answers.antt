@@ -1,4 +1,4 @@
-use Rattle.std.proofs.Common.{rules, ap, ◌∙◌, arith, length}
+use Rattle.std.proofs.Common.{rules, ap, arith, length}
 use Rattle.sup_ledger.proofs.Balancing.{makes, shows}
 use Rattle.sup_ledger.proofs.ledger.Ledger.make_by.Goals as goal
 

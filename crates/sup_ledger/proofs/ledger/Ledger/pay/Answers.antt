@@ -1,4 +1,4 @@
-use Rattle.std.proofs.Common.{rules, ap, ◌∙◌, arith, length, sym, subst}
+use Rattle.std.proofs.Common.{rules, ap, arith, length}
 use Rattle.sup_ledger.proofs.Balancing.{pays_as}
 use Rattle.sup_ledger.proofs.ledger.Ledger.pay.Goals as goal
 

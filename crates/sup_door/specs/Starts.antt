@@ -1,0 +1,43 @@
+-- Which children a handle started, by the replies to its calls.
+use Rattle.std.specs.Prelude.{◌≡◌, ℕ, ◌==◌, cond, List, [], ◌∷◌, ◌++◌}
+use mathlib.Core.List.{IsPrefix}
+use Rattle.sup_types.specs.declared.template.Template.{Template}
+use Rattle.sup_types.specs.declared.history.Operation.{Operation}
+use Rattle.sup_types.specs.declared.history.Operation.TheVariants.{Start}
+use Rattle.sup_types.specs.declared.history.Entry.{Entry}
+use Rattle.sup_types.specs.declared.history.Reply.{Reply}
+use Rattle.sup_types.specs.declared.history.Reply.TheVariants.{Started}
+use Rattle.sup_core.specs.Account.{Item, account}
+use Rattle.sup_desk.specs.Knowledge.{Knowledge, entries_of}
+use Rattle.sup_ledger.specs.declared.child.Child.{Child}
+
+-- the child that a start with this reply made, under the number that it was told
+abbrev pub started_as : Reply → List ℕ
+started_as (Started number) = number ∷ []
+started_as _ = []
+
+abbrev pub with_arg : List ℕ → Operation → List Child
+with_arg [] _ = []
+with_arg (number ∷ rest) (Start arg) = record { number = number; arg = arg } ∷ []
+with_arg (number ∷ rest) _ = []
+
+abbrev pub child_started : Operation → Reply → List Child
+child_started operation reply = with_arg (started_as reply) operation
+
+-- what f makes of the operations of this handle and of their replies, in an account of the history
+abbrev pub replies_in : {X : Type 0} → (Operation → Reply → List X) → List Item → ℕ → List X
+replies_in f [] handle = []
+replies_in f (i ∷ is) handle = cond (i.entry.handle == handle) (f i.entry.operation i.reply) [] ++ replies_in f is handle
+
+abbrev pub replies_to : {X : Type 0} → (Operation → Reply → List X) → Template → List Entry → ℕ → List X
+replies_to f template front handle = replies_in f (account template front) handle
+
+-- This is what f makes of the handle's calls, each with the reply to it: in whatever front begins with the handle's and has its calls, and
+-- no others under its number
+abbrev pub HasReplies : {X : Type 0} → (Operation → Reply → List X) → Template → Knowledge → List X → Type 0
+HasReplies f template handle replies =
+    (front : List Entry) → IsPrefix handle.front front → entries_of front handle.number ≡ handle.calls → replies ≡ replies_to f template front handle.number
+
+-- these are the children that the handle started
+abbrev pub HasStarted : Template → Knowledge → List Child → Type 0
+HasStarted template handle children = HasReplies child_started template handle children
