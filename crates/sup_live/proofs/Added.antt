@@ -1,5 +1,5 @@
 -- The children that a crew made are those whose exits were told.
-use Rattle.std.proofs.Common.{◌≡◌, ℕ, zero, suc, ◌+◌, ◌<◌, ◌≤◌, List, [], ◌∷◌, ◌++◌, map, length, refl, ap, sym, ◌∙◌, subst, arith}
+use Rattle.std.proofs.Common.{◌≡◌, ℕ, zero, suc, ◌+◌, ◌<◌, ◌≤◌, List, [], ◌∷◌, ◌++◌, map, length, refl, ap, ◌∙◌, subst, arith}
 use Rattle.std.specs.Prelude.{All}
 use native.Mathlib.Decide.{ℕ_discrete}
 use mathlib.Core.Logic.{dite}
@@ -18,7 +18,8 @@ use Rattle.sup_door.specs.Starts.{HasReplies, HasStarted}
 use Rattle.sup_door.specs.Totals.{children_posted, IsAccounted}
 use Rattle.sup_driver.specs.Leads.{exits_among}
 use Rattle.sup_driver.specs.Restarts.{number_restarted, numbers_of}
-use Rattle.sup_live.specs.Accounts.{IsToldOf}
+use Rattle.sup_live.specs.Accounts.{AreStartedBy, IsToldOf}
+use Rattle.sup_live.specs.declared.patrons.Patron.{Patron}
 
 noted-append : (xs ys : List Note) → children_noted (xs ++ ys) ≡ children_noted xs ++ children_noted ys
 noted-append [] ys = refl
@@ -84,10 +85,10 @@ module _ (h : Child → ℕ) where
       by-posters notes ps each ∙ numbers (by notes) ∙ ap (λ n. span notes 1 n) (length-numbers ps) ∙ span-all (length ps) notes by_one
 
 -- the account of a crew whose inbox was settled
-pub told_of : (template : Template) (door : Knowledge) (count : ℕ) (ps : List Posting) (waiting shown started restarted : List Child) (made owed : ℕ) (driver : Knowledge) (entered held taken left kept : List Note) → IsAccounted ps waiting shown made owed
+pub told_of : {N T : Type 0} (patrons : List (Patron N T)) (template : Template) (door : Knowledge) (count : ℕ) (ps : List Posting) (waiting shown started attended restarted : List Child) (made owed : ℕ) (driver : Knowledge) (entered held taken left kept : List Note) → IsAccounted ps waiting shown made owed
     → taken ≡ entered ++ held → All (λ (p : Posting). from (taken ++ left) p.number ≡ p.posted) ps → count ≡ length ps → All (IsBy count) (taken ++ left) → exits_among driver.calls ≡ exits entered → kept ≡ held
-    → HasStarted template door started → HasReplies number_restarted template driver (numbers_of restarted) → shown ≡ started ++ restarted → IsToldOf template door driver kept left waiting made owed
-told_of template door count ps waiting shown started restarted made owed driver entered held taken left kept account took each all by_one are same door_started driver_restarted all_shown =
+    → HasStarted template door started → AreStartedBy template patrons attended → HasReplies number_restarted template driver (numbers_of restarted) → shown ≡ started ++ attended ++ restarted → IsToldOf template door driver patrons kept left waiting made owed
+told_of patrons template door count ps waiting shown started attended restarted made owed driver entered held taken left kept account took each all by_one are same door_started patrons_started driver_restarted all_shown =
     record {
       children = account.children;
       entered = entered;
@@ -104,6 +105,8 @@ told_of template door count ps waiting shown started restarted made owed driver 
           omega (arith, a, b, d, e, f);
       started = started;
       door_started = door_started;
+      attended = attended;
+      patrons_started = patrons_started;
       restarted = restarted;
       driver_restarted = driver_restarted;
       among = subst (λ l. AreAmong l account.children) all_shown account.among;

@@ -23,8 +23,8 @@
 //! these, and each exit that the report tells, has a reason for which the behaviour's children may end ([`Behaviour`],
 //! `may_end`), or one of the crew's own: `killed` of a child that was let go, `not_run` of one that could not be run. The
 //! report says of each patron what became of it. Each child that was made has one exit: it was entered, or is in one of the
-//! report's lists, or the report counts it among those that are owed; and there is no other exit. Each child that the program's
-//! first door started, and each that was restarted by the driver's calls, is one of these.
+//! report's lists, or the report counts it among those that are owed; and there is no other exit. Each child that the first door
+//! of the program or of a patron started, and each that was restarted by the driver's calls, is one of these.
 //!
 //! That a child is polled, that a message comes, that a thread wakes, and that a crew closes is promised by no contract: the
 //! kit's executor and channels are trusted for it, and tests show it. So no contract says that a child ends:

@@ -1,5 +1,6 @@
 //! Patrons: programs in threads of their own, with a door each.
 ghost use Rattle.std.specs.Prelude.{◌≡◌, ◌≤◌, [], vec_len, vec_capacity};
+ghost use Rattle.sup_live.specs.Accounts.{IsStartedBy, AreStartedBy};
 
 use crate::program::Program;
 use std::marker::PhantomData;
@@ -7,7 +8,8 @@ use std::sync::Wait;
 use std::thread::{JoinHandle, Scope, Threads};
 use std::time::Clock;
 use sup_desk::{Caller, Desk, HandleFault, Journal, Name};
-use sup_door::{Alive, Behaviour, Door, Office, Yard};
+use sup_door::{Alive, Behaviour, Door, Hub, Office, Yard};
+use sup_ledger::Witness;
 use sup_types::Starter;
 
 /// What became of a patron: of a program that was to run in a thread of its own.
@@ -24,6 +26,17 @@ pub enum Patron<N: Name, T: Drop> {
     NoDoor(HandleFault),
     /// It did not run: no thread could be started for it. It has made no handle.
     NoThread,
+}
+
+/// What a patron leaves in its thread, with a witness of the crew's ledger.
+#[derive(Drop)]
+pub(crate) struct Attended<N: Name, I: Office, T: Drop> {
+    patron: Patron<N, T>,
+    /// Shows the children that its door started.
+    witness: Witness,
+    of: PhantomData<I>,
+    ghost of_ledger: { witness.ledger ≡ I.ledger },
+    ghost started: { IsStartedBy N.template patron witness.shown },
 }
 
 /// The programs of a crew: one for the thread that runs it, and those of the patrons.
@@ -63,12 +76,13 @@ impl<N: Name, B: Behaviour, J: Journal + Drop> Program<N, B> for Nobody<J> {
 }
 
 /// Runs a patron by a door of its own.
+#[tactic(auto, using(crate::proofs::Attended::by_door, crate::proofs::Attended::by_nobody))]
 fn attend<'t, 'h, 'd, N, S, Q, J, I, B, P, U, R>(
     rt: &R,
     desk: &'d Desk<N, S, Q, J>,
     yard: &'t Yard<'h, I, B, P, Alive<'h, I, B, P>>,
     patron: U,
-) -> Patron<N, U::Outcome>
+) -> Attended<N, I, U::Outcome>
 where
     N: Name + Send + Sync,
     S: Starter + Drop + Send + Sync,
@@ -86,12 +100,18 @@ where
         Ok(handle) => {
             let mut door = Door::new(desk, handle, yard);
             let outcome = patron.run(rt, &mut door);
-            Patron::Ran {
-                outcome,
-                door: door.end(),
+            let (door, witness) = door.parts();
+            Attended {
+                patron: Patron::Ran { outcome, door },
+                witness,
+                of: PhantomData,
             }
         }
-        Err(fault) => Patron::NoDoor(fault),
+        Err(fault) => Attended {
+            patron: Patron::NoDoor(fault),
+            witness: yard.hub().witness(),
+            of: PhantomData,
+        },
     }
 }
 
@@ -105,8 +125,8 @@ pub(crate) fn start_patrons<'s, 'h: 's, 'd: 's, E, N, S, Q, J, I, B, P, U, R>(
     desk: &'d Desk<N, S, Q, J>,
     yard: &'s Yard<'h, I, B, P, Alive<'h, I, B, P>>,
     patrons: Vec<U>,
-    room: Attending<Patron<N, U::Outcome>>,
-) -> Attending<Patron<N, U::Outcome>>
+    room: Attending<Attended<N, I, U::Outcome>>,
+) -> Attending<Attended<N, I, U::Outcome>>
 where
     N: Name + Send + Sync + 's,
     S: Starter + Drop + Send + Sync + 's,
@@ -135,21 +155,46 @@ where
     threads
 }
 
-/// Waits for the patrons, and says what became of each, in a list that has room for them.
-pub(crate) fn join_patrons<N: Name, T: Drop, R: Threads + Wait>(
+/// Waits for a patron's thread, where there is one.
+#[tactic(auto, using(crate::proofs::Attended::by_nobody))]
+fn join_patron<N: Name, I: Office, M: Drop, P: Wait + Drop, T: Drop, R: Threads + Wait>(
     rt: &R,
-    threads: Attending<Patron<N, T>>,
+    hub: &Hub<I, M, P>,
+    thread: Option<JoinHandle<Attended<N, I, T>>>,
+) -> Attended<N, I, T> {
+    match thread {
+        Some(thread) => thread.join(rt),
+        None => Attended {
+            patron: Patron::NoThread,
+            witness: hub.witness(),
+            of: PhantomData,
+        },
+    }
+}
+
+/// Waits for the patrons, and says what became of each, in a list that has room for them. The witness shows the children that
+/// they started.
+pub(crate) fn join_patrons<N: Name, I: Office, M: Drop, P: Wait + Drop, T: Drop, R: Threads + Wait>(
+    rt: &R,
+    hub: &Hub<I, M, P>,
+    threads: Attending<Attended<N, I, T>>,
     room: Vec<Patron<N, T>>,
-) -> Vec<Patron<N, T>>
+) -> (Vec<Patron<N, T>>, Witness)
     requires { (room.items ≡ []) × (vec_len threads ≤ vec_capacity room) }
-    ensures { vec_len result ≡ vec_len threads }
+    ensures len { vec_len result.0 ≡ vec_len threads }
+    ensures ledger { result.1.ledger ≡ I.ledger }
+    ensures started { AreStartedBy N.template result.0.items result.1.shown }
 {
     let mut patrons = room;
+    let mut witness = hub.witness();
     for thread in threads {
-        patrons.push_reserved(match thread {
-            Some(thread) => thread.join(rt),
-            None => Patron::NoThread,
-        });
+        let Attended {
+            patron,
+            witness: theirs,
+            of: _,
+        } = join_patron(rt, hub, thread);
+        hub.show(&mut witness, theirs);
+        patrons.push_reserved(patron);
     }
-    patrons
+    (patrons, witness)
 }

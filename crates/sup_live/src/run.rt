@@ -5,7 +5,7 @@ ghost use Rattle.sup_door.specs.Endings.{AreEndings, AreExitEndings};
 ghost use Rattle.sup_inbox.specs.Ends.{AreFrom, AreNew};
 ghost use Rattle.sup_ledger.specs.Holdings.{numbers_from};
 ghost use Rattle.sup_door.specs.Outboxes.{children_in, children_of};
-ghost use Rattle.sup_live.specs.Accounts.{IsToldOf};
+ghost use Rattle.sup_live.specs.Accounts.{AreStartedBy, IsToldOf};
 
 use crate::patrons::{Nobody, Programs};
 use crate::plan::{LiveFault, Plan};
@@ -88,7 +88,7 @@ where
     R: Threads + Wait + Clock + RandomSource + AllocGlobal + Sync,
     requires taker { taker ≡ record { inbox = I.inbox; posters = I.posters; taken = [] } }
     requires ends { I.may_end ≡ B.may_end behaviour.now }
-    ensures { IfOk result (λ j. vec_len j.patrons ≡ vec_len programs.patrons) }
+    ensures { IfOk result (λ j. (vec_len j.patrons ≡ vec_len programs.patrons) × AreStartedBy N.template j.patrons.items j.others.shown) }
 {
     let witness = hub.witness();
     let ends: Ends<'d, N, S, Q, I, J> = match ends_of(
@@ -209,7 +209,7 @@ where
     ensures driven { IfOk result (λ r. are_driven r.driver.calls ≡ true) }
     ensures counted { IfOk result (λ r. r.exits ≡ length (exits_among r.driver.calls)) }
     ensures endings { let may_end = B.may_end behaviour.now in IfOk result (λ r. AreExitsEnding may_end (exits_among r.driver.calls) × AreEndings may_end (r.held.items ++ r.left.items) × All (λ list. AreExitEndings may_end list.items) r.unposted.items) }
-    ensures account { IfOk result (λ r. IsToldOf N.template r.door r.driver r.held.items r.left.items (children_in (λ list. children_of list.items) r.unposted.items) r.made r.owed) }
+    ensures account { IfOk result (λ r. IsToldOf N.template r.door r.driver r.patrons.items r.held.items r.left.items (children_in (λ list. children_of list.items) r.unposted.items) r.made r.owed) }
     ensures patrons { IfOk result (λ r. vec_len r.patrons ≡ vec_len programs.patrons) }
 {
     let Parts {
@@ -263,12 +263,13 @@ fn report<N: Name, I: Office, M: Drop, P: Wait + Drop, T: Drop, U: Drop, R: Wait
     joined: Joined<N, I, T, U>,
     room: Room,
 ) -> Report<N, T, U>
+    requires attended { AreStartedBy N.template joined.patrons.items joined.others.shown }
     requires empty { (room.posters.items ≡ []) × (room.waiting.items ≡ []) × (room.left.items ≡ []) × (room.held.items ≡ []) }
     requires room { (I.posters ≤ vec_capacity room.posters) × (I.posters ≤ vec_capacity room.waiting) × (I.capacity ≤ vec_capacity room.left) × (64 ≤ vec_capacity room.held) }
     ensures driven { are_driven result.driver.calls ≡ true }
     ensures counted { result.exits ≡ length (exits_among result.driver.calls) }
     ensures endings { AreExitsEnding I.may_end (exits_among result.driver.calls) × AreEndings I.may_end (result.held.items ++ result.left.items) × All (λ list. AreExitEndings I.may_end list.items) result.unposted.items }
-    ensures account { IsToldOf N.template result.door result.driver result.held.items result.left.items (children_in (λ list. children_of list.items) result.unposted.items) result.made result.owed }
+    ensures account { IsToldOf N.template result.door result.driver result.patrons.items result.held.items result.left.items (children_in (λ list. children_of list.items) result.unposted.items) result.made result.owed }
     ensures patrons { vec_len result.patrons ≡ vec_len joined.patrons }
 {
     let Joined {
@@ -277,10 +278,12 @@ fn report<N: Name, I: Office, M: Drop, P: Wait + Drop, T: Drop, U: Drop, R: Wait
         outcome,
         patrons,
         witness,
+        others,
         of: _,
     } = joined;
     let (caller, drain, exits, tally, fault, restarted) = driven.parts();
     let mut witness = witness;
+    hub.show(&mut witness, others);
     hub.show(&mut witness, restarted);
     let (taker, kept) = drain.end();
     let Ended {
@@ -349,7 +352,7 @@ where
     ensures driven { IfOk result (λ r. are_driven r.driver.calls ≡ true) }
     ensures counted { IfOk result (λ r. r.exits ≡ length (exits_among r.driver.calls)) }
     ensures endings { let may_end = B.may_end behaviour.now in IfOk result (λ r. AreExitsEnding may_end (exits_among r.driver.calls) × AreEndings may_end (r.held.items ++ r.left.items) × All (λ list. AreExitEndings may_end list.items) r.unposted.items) }
-    ensures account { IfOk result (λ r. IsToldOf N.template r.door r.driver r.held.items r.left.items (children_in (λ list. children_of list.items) r.unposted.items) r.made r.owed) }
+    ensures account { IfOk result (λ r. IsToldOf N.template r.door r.driver r.patrons.items r.held.items r.left.items (children_in (λ list. children_of list.items) r.unposted.items) r.made r.owed) }
     ensures patrons { IfOk result (λ r. r.patrons.items ≡ []) }
 {
     let nobody: Vec<Nobody<J>> = Vec::new(alloc);
@@ -358,8 +361,8 @@ where
 
 /// Runs a crew as [`run_live`] does, and beside the program each of the patrons, in a thread of its own by a door of its own.
 /// The crew closes once the program and all patrons have returned. The report says of each patron, in their order, what became
-/// of it: its outcome and the handle of its door, for an audit, or why it did not run. After a fault nothing was entered, and
-/// neither the program nor a patron was run.
+/// of it: its outcome and the handle of its door, for an audit, or why it did not run. Each child that the door of a patron
+/// started is one of those that were made, too. After a fault nothing was entered, and neither the program nor a patron was run.
 ///
 /// Each patron that runs takes a handle of the desk more, once its thread has begun. So their handles' numbers, from 3 on, are
 /// in the order in which the threads began.
@@ -390,7 +393,7 @@ where
     ensures driven { IfOk result (λ r. are_driven r.driver.calls ≡ true) }
     ensures counted { IfOk result (λ r. r.exits ≡ length (exits_among r.driver.calls)) }
     ensures endings { let may_end = B.may_end behaviour.now in IfOk result (λ r. AreExitsEnding may_end (exits_among r.driver.calls) × AreEndings may_end (r.held.items ++ r.left.items) × All (λ list. AreExitEndings may_end list.items) r.unposted.items) }
-    ensures account { IfOk result (λ r. IsToldOf N.template r.door r.driver r.held.items r.left.items (children_in (λ list. children_of list.items) r.unposted.items) r.made r.owed) }
+    ensures account { IfOk result (λ r. IsToldOf N.template r.door r.driver r.patrons.items r.held.items r.left.items (children_in (λ list. children_of list.items) r.unposted.items) r.made r.owed) }
     ensures patrons { IfOk result (λ r. vec_len r.patrons ≡ vec_len patrons) }
 {
     let parts = match Parts::new(alloc, plan.workers, plan.inbox) {

@@ -2,8 +2,9 @@
 ghost use Rattle.std.specs.Prelude.{◌≡◌, ◌≤◌, [], IfOk, vec_len, vec_capacity};
 ghost use denote.Param.Send.{IsSend};
 ghost use Rattle.sup_door.specs.Starts.{HasStarted};
+ghost use Rattle.sup_live.specs.Accounts.{AreStartedBy};
 
-use crate::patrons::{Attending, Patron, Programs, join_patrons, start_patrons};
+use crate::patrons::{Attended, Attending, Patron, Programs, join_patrons, start_patrons};
 use crate::plan::LiveFault;
 use crate::program::Program;
 use futures::task::Hold;
@@ -42,8 +43,10 @@ pub(crate) struct Joined<N: Name, I: Office, T: Drop, U: Drop> {
     pub(crate) patrons: Vec<Patron<N, U>>,
     /// Shows the children that the door started.
     pub(crate) witness: Witness,
+    /// Shows the children that the patrons' doors started.
+    pub(crate) others: Witness,
     pub(crate) of: PhantomData<I>,
-    ghost of_ledger: { witness.ledger ≡ I.ledger },
+    ghost of_ledger: { (witness.ledger ≡ I.ledger) × (others.ledger ≡ I.ledger) },
     ghost started: { HasStarted N.template door witness.shown },
 }
 
@@ -71,21 +74,22 @@ where
 
 /// A run whose workers were started: room for its patrons and for their threads, and what keeps the yard open.
 #[derive(Drop)]
-struct Staffed<'s, T: Drop> {
-    threads: Attending<T>,
-    room: Vec<T>,
+struct Staffed<'s, N: Name, I: Office, T: Drop> {
+    threads: Attending<Attended<N, I, T>>,
+    room: Vec<Patron<N, T>>,
     holds: Vec<Hold<'s>>,
 }
 
 /// Makes room for so many patrons, and starts the workers.
-fn staff<'s, 'h: 's, E, I, B, P, T, R>(
+fn staff<'s, 'h: 's, E, N, I, B, P, T, R>(
     scope: &Scope<'s, E>,
     rt: &'s R,
     yard: &'s Yard<'h, I, B, P, Alive<'h, I, B, P>>,
     workers: usize,
     patrons: usize,
-) -> Result<Staffed<'s, T>, LiveFault>
+) -> Result<Staffed<'s, N, I, T>, LiveFault>
 where
+    N: Name,
     I: Office + Send + Sync + 's,
     B: Behaviour + Sync + 's,
     B::Message: Send + 's,
@@ -168,7 +172,7 @@ where
     U: Program<N, B, Journal = J> + Drop + Send + 's,
     U::Outcome: Send + 's,
     R: Threads + Wait + Clock + Sync,
-    ensures { IfOk result (λ j. vec_len j.patrons ≡ vec_len programs.patrons) }
+    ensures { IfOk result (λ j. (vec_len j.patrons ≡ vec_len programs.patrons) × AreStartedBy N.template j.patrons.items j.others.shown) }
 {
     let staffed = match staff(scope, rt, yard, workers, programs.patrons.len()) {
         Ok(staffed) => staffed,
@@ -188,7 +192,7 @@ where
     let threads = start_patrons(scope, rt, desk, yard, patrons, threads);
     let mut door = Door::new(desk, door, yard);
     let outcome = program.run(rt, &mut door);
-    let patrons = join_patrons(rt, threads, room);
+    let (patrons, others) = join_patrons(rt, yard.hub(), threads, room);
     door.close();
     let driven = driving.join(rt);
     drop(holds);
@@ -199,6 +203,7 @@ where
         outcome,
         patrons,
         witness,
+        others,
         of: PhantomData,
     })
 }
@@ -226,7 +231,7 @@ where
     U: Program<N, B, Journal = J> + Drop + Send,
     U::Outcome: Send,
     R: Threads + Wait + Clock + Sync,
-    ensures { IfOk result (λ j. vec_len j.patrons ≡ vec_len programs.patrons) }
+    ensures { IfOk result (λ j. (vec_len j.patrons ≡ vec_len programs.patrons) × AreStartedBy N.template j.patrons.items j.others.shown) }
 {
     thread::scope(
         thread::scope_env(),
@@ -235,7 +240,7 @@ where
             requires threads { IsSend N.row × IsSend S.row × IsSend Q.row × IsSend J.row × IsSend I.row × IsSend P.row }
             requires children { IsSend B.Message.row × IsSend B.Child.row }
             requires patrons { IsSend U.row × IsSend U.Outcome.row }
-            ensures { IfOk result (λ j. vec_len j.patrons ≡ vec_len programs.patrons) }
+            ensures { IfOk result (λ j. (vec_len j.patrons ≡ vec_len programs.patrons) × AreStartedBy N.template j.patrons.items j.others.shown) }
         { run_program(scope, rt, desk, yard, ends, programs, workers) },
     )
 }
