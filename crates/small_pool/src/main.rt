@@ -1,9 +1,9 @@
-//! The smallest pool: a child for each name, in two threads. One that crashes is started again.
+//! The smallest pool: a child for each name, in two threads. One that crashes is started again, at most five times.
 #![tactic(auto)]
 
 use anyhow::Result;
-use sup_pool::{Work, run_pool};
-use sup_types::{Kind, Reason, Restart, Template, Text};
+use sup_pool::{Pool, Work};
+use sup_types::{Reason, Text};
 
 struct Upload;
 
@@ -14,7 +14,6 @@ impl Work for Upload {
 }
 
 fn main(rt: HostRuntime) -> Result<()> {
-    let template = Template::new(Restart::Transient, Kind::Worker, 5, 10, 1000, 1 << 62)?;
-    let report = run_pool(&rt, rt.alloc(), template, 2, &["ann", "bob"], &Upload)?;
+    let report = Pool::new(2, 5)?.run(&rt, &["ann", "bob"], &Upload)?;
     Ok(println!(rt; "{report:?}")?)
 }

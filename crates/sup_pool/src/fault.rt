@@ -17,6 +17,9 @@ pub enum PoolFault {
     /// There are no workers, or more than 64.
     #[error("a pool has 1 to 64 workers")]
     BadWorkers,
+    /// More than 1000 restarts are not counted.
+    #[error("a pool bears 0 to 1000 restarts")]
+    BadRestarts,
     /// The argument at this place of the list, from 0 on, is no text of 1 to 40 visible characters.
     #[error("argument {0} is no text of 1 to 40 visible characters")]
     BadArgument(usize),

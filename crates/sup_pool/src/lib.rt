@@ -1,8 +1,7 @@
 //! The shortest way in: a pool of children, each of which does its work to the end and is started again if it crashed.
 //!
 //! ```text
-//! let template = Template::standard(1000, 1 << 62)?;
-//! let report = run_pool(&rt, rt.alloc(), template, 2, &["a.png", "b.png"], &Upload)?;
+//! let report = Pool::new(2, 5)?.run(&rt, &["a.png", "b.png"], &Upload)?;
 //! ```
 //!
 //! A pool is a run of a crew (`sup_crew::run_crew`) over a desk of its own.
@@ -12,4 +11,4 @@ mod fault;
 mod pool;
 
 pub use fault::PoolFault;
-pub use pool::{PoolReport, Work, run_pool};
+pub use pool::{Pool, PoolReport, Work};

@@ -1,26 +1,35 @@
 //! A pool: a crew over a desk of its own.
-ghost use Rattle.std.specs.Prelude.{◌≡◌, ◌+◌, ◌≤◌, ◌^◌, ◌⊎◌, ◌↔◌, ℕ, List, IfOk, IfErr, Err, map, ⊤};
+ghost use Rattle.std.specs.Prelude.{◌≡◌, ◌+◌, ◌<◌, ◌≤◌, ◌^◌, ◌⊎◌, ◌↔◌, ℕ, List, IsOk, IfOk, IfErr, Err, map, ⊤};
 ghost use Rattle.sup_desk.specs.declared.faults.UpdateFault.{UpdateFault as AFault};
 ghost use Rattle.sup_pool.specs.Pools.{IsPooled, IsNoText};
-ghost use Rattle.sup_pool.specs.declared.fault.PoolFault.TheVariants.{OutOfMemory, BadWorkers, BadArgument, Stopped};
+ghost use Rattle.sup_pool.specs.declared.fault.PoolFault.TheVariants.{OutOfMemory, BadWorkers, BadRestarts, BadArgument, Stopped};
 ghost use Rattle.sup_types.specs.declared.reason.Reason.{Reason as AReason};
 ghost use Rattle.sup_types.specs.declared.text.Text.{Text as AText};
 
 use crate::fault::PoolFault;
-use std::alloc::Global;
+use std::alloc::{AllocGlobal, Global};
 use std::convert::AsStr;
 use std::marker::Brand;
 use std::sync::Wait;
 use std::thread::Threads;
 use sup_crew::{Body, Job, Plan, Report, run_crew};
 use sup_desk::{Asker, Desk, Ground, Name};
-use sup_types::{AlwaysRunning, Reason, Template, Text};
+use sup_types::{AlwaysRunning, Kind, Reason, Restart, Template, Text};
 
 /// The notes that the inbox of a pool holds at most.
 const INBOX: usize = 1024;
 
 /// How often a post is tried, and how often the driver finds nothing before it gives up.
 const TURNS: u64 = 1 << 62;
+
+/// The period of the restart intensity, in seconds: OTP's default. A run is one moment, so any would do.
+const PERIOD: u64 = 5;
+
+/// How many children there are at most at once.
+const CHILDREN: u64 = 65_536;
+
+/// How many entries the history of a run has at most.
+const ENTRIES: u64 = 1 << 62;
 
 /// What became of a pool's children.
 #[derive(Clone, Copy, Debug, PartialEq, Eq)]
@@ -62,40 +71,68 @@ impl<'w, T: Work> Body for Working<'w, T> {
     }
 }
 
-/// Starts a child for each of the arguments, and does the work of each in one of so many threads, 1 to 64. One that crashed is
-/// started again under a new number, as the template says, whose restart intensity counts over the whole run: it is one
-/// moment. It returns when all have ended, or when the supervisor gave up.
-///
-/// BadWorkers and BadArgument come before anything is run.
-pub fn run_pool<R, T, S>(
-    rt: &R,
-    alloc: Global,
-    template: Template,
-    workers: usize,
-    arguments: &[S],
-    work: &T,
-) -> Result<PoolReport, PoolFault>
-where
-    R: Threads + Wait + Sync,
-    T: Work + Sync,
-    S: AsStr,
-    ensures pool { IfOk result (λ r. IsPooled (λ number arg reason. T.may_end work.now arg reason) template (map S.text arguments.now) r) }
-    ensures workers { (result ≡ Err BadWorkers) ↔ ¬ ((1 ≤ workers) × (workers ≤ 64)) }
-    ensures argument { (place : ℕ) → result ≡ Err (BadArgument place) → IsNoText (map S.text arguments.now) place }
-{
-    if !(1..=64).contains(&workers) {
-        return Err(PoolFault::BadWorkers);
+/// A pool: in how many threads its children are run, and from which template they are.
+#[derive(Clone, Copy, Debug)]
+pub struct Pool {
+    /// The threads: 1 to 64.
+    pub workers: usize,
+    /// The template. Its restart intensity counts over a whole run, which is one moment.
+    pub template: Template,
+    ghost some: { (1 ≤ workers) × (workers ≤ 64) },
+}
+
+impl Pool {
+    /// A pool of so many threads, 1 to 64. A child that crashed is started again, so many times in a run at most, 0 to 1000: at the
+    /// next crash the pool gives up. There are at most 65,536 children at once.
+    pub fn new(workers: usize, restarts: u64) -> Result<Pool, PoolFault>
+        ensures pool { IfOk result (λ p. (p.workers ≡ workers) × (p.template.restart ≡ Restart.Transient) × (p.template.kind ≡ Kind.Worker)
+            × (p.template.intensity ≡ restarts) × (p.template.max ≡ 65536) × (p.template.entries ≡ 2 ^ 62)) }
+        ensures restarts { (result ≡ Err BadRestarts) ↔ (1000 < restarts) }
+        ensures workers { IfErr result (λ f. (f ≡ BadRestarts) ⊎ ((f ≡ BadWorkers) × ¬ ((1 ≤ workers) × (workers ≤ 64)))) }
+    {
+        let (kind, restart) = (Kind::Worker, Restart::Transient);
+        match Template::new(restart, kind, restarts, PERIOD, CHILDREN, ENTRIES) {
+            Ok(template) => Pool::with_template(workers, template),
+            Err(_) => Err(PoolFault::BadRestarts),
+        }
     }
-    let plan = Plan {
-        children: read_arguments(alloc, arguments)?,
-        workers,
-        inbox: INBOX,
-        turns: TURNS,
-        moment: 0,
-    };
-    // The driver has a handle, and each worker a lens.
-    let ground = Ground::new(alloc, rt, template, workers as u64 + 1)?;
-    run_named::<Brand, R, T>(rt, alloc, ground, plan, work)
+
+    /// A pool of so many threads, 1 to 64, whose children are from this template. Permanent children are started again after each end,
+    /// until the pool gives up.
+    pub fn with_template(workers: usize, template: Template) -> Result<Pool, PoolFault>
+        ensures pool { IfOk result (λ p. (p.workers ≡ workers) × (p.template ≡ template)) }
+        ensures workers { IfErr result (λ f. f ≡ BadWorkers) × (IsOk result ↔ ((1 ≤ workers) × (workers ≤ 64))) }
+    {
+        if !(1..=64).contains(&workers) {
+            return Err(PoolFault::BadWorkers);
+        }
+        Ok(Pool { workers, template })
+    }
+
+    /// Starts a child for each of the arguments, and does the work of each in one of the threads. It returns when all have ended,
+    /// or when the supervisor gave up.
+    ///
+    /// BadArgument comes before anything is run.
+    pub fn run<R, T, S>(&self, rt: &R, arguments: &[S], work: &T) -> Result<PoolReport, PoolFault>
+    where
+        R: Threads + Wait + AllocGlobal + Sync,
+        T: Work + Sync,
+        S: AsStr,
+        ensures pool { IfOk result (λ r. IsPooled (λ number arg reason. T.may_end work.now arg reason) self.now.template (map S.text arguments.now) r) }
+        ensures fault { IfErr result (λ f. (f ≡ OutOfMemory) ⊎ ((why : AFault) × (f ≡ Stopped why)) ⊎ ((place : ℕ) × (f ≡ BadArgument place) × IsNoText (map S.text arguments.now) place)) }
+    {
+        let alloc = rt.alloc();
+        let plan = Plan {
+            children: read_arguments(alloc, arguments)?,
+            workers: self.workers,
+            inbox: INBOX,
+            turns: TURNS,
+            moment: 0,
+        };
+        // The driver has a handle, and each worker a lens.
+        let ground = Ground::new(alloc, rt, self.template, self.workers as u64 + 1)?;
+        run_named::<Brand, R, T>(rt, alloc, ground, plan, work)
+    }
 }
 
 /// The arguments as texts.
