@@ -15,3 +15,6 @@ invariant_of-self-2 g c = (
   c.self.invariant.0,
   called_else child_started g.S.Starter.may_answer g.N.Name.template g.N.Name.press c.self.inside.handle _ Stop _ c.stop.new.self c.stop.result stops c.self.invariant.1 c.stop.ensures.result,
 )
+
+pub returns-clause-result : goal.returns-clause-result
+returns-clause-result g c = (_, rw (c.self.view_is) at c.in_ok-done.ensures.result)

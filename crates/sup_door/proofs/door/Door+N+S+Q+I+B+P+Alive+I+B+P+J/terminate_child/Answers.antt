@@ -15,3 +15,6 @@ invariant_of-self-2 g c = (
   c.self.invariant.0,
   called_else child_started g.S.Starter.may_answer g.N.Name.template g.N.Name.press c.self.inside.handle _ (Terminate c.args.number) _ c.terminate_child.new.self c.terminate_child.result (terminates c.args.number) c.self.invariant.1 c.terminate_child.ensures.result,
 )
+
+pub returns-clause-result : goal.returns-clause-result
+returns-clause-result g c = (_, rw (c.self.view_is) at c.in_ok-done.ensures.result)
