@@ -40,6 +40,8 @@ pub struct LiveRun<N: Name> {
 /// Runs a live load over this desk, whose handles are the driver's, the program's and one for each reader. It waits until all
 /// its children are gone.
 ///
+/// The sums add up: of the children that were made each has an exit that was entered, was left in the inbox, is held, or is lost.
+///
 /// A fault is one that comes before there is a report: want of memory, or a crew that could not run. Then nothing was entered.
 /// What stopped the run later is in the sums.
 pub fn run_live_load<N, J, R>(
@@ -93,7 +95,7 @@ where
         readers,
     )?;
     let answers = answers_of(report.patrons.as_slice());
-    let sums = sums_of(&report, gate.heard(), answers);
+    let sums = sums_of(&report, report.made, gate.heard(), answers);
     Ok(LiveRun {
         driver: report.driver,
         sums,

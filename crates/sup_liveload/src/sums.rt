@@ -1,7 +1,9 @@
 //! What a live load came to.
 
-ghost use Rattle.std.specs.Prelude.{◌≡◌, true, length, vec_len};
+ghost use Rattle.std.specs.Prelude.{◌≡◌, ◌+◌, ◌-◌, ◌^◌, true, length, min, vec_len};
+ghost use Rattle.sup_door.specs.Outboxes.{children_in, children_of};
 ghost use Rattle.sup_driver.specs.Leads.{are_driven, exits_among};
+ghost use Rattle.sup_live.specs.Accounts.{IsToldOf};
 ghost use Rattle.sup_liveload.specs.Counts.{AreLiveCounts, first_fault, rate_of};
 
 use crate::fault::LiveLoadFault;
@@ -42,7 +44,7 @@ pub struct LiveSums {
     pub left: usize,
     /// How many exits were taken and not entered.
     pub held: usize,
-    /// How many exits were not posted.
+    /// How many exits were not posted, and how many are owed.
     pub lost: u64,
     /// How many messages were read.
     pub messages: u64,
@@ -108,28 +110,35 @@ fn first_of(
 }
 
 /// How many exits were not posted: those in these lists, and those that are owed.
-fn lost_of(unposted: &[VecDeque<InboxFull>], owed: u64) -> u64 {
+fn lost_of(unposted: &[VecDeque<InboxFull>], owed: u64) -> u64
+    ensures { result ≡ min (owed + length (children_in (λ list. children_of list.items) unposted.now)) (2 ^ 64 - 1) }
+{
     let mut count = owed;
-    for list in unposted {
+    let mut rest = unposted;
+    while let Some((list, others)) = rest.split_first() {
         count = count.saturating_add(list.len() as u64);
+        rest = others;
     }
     count
 }
 
-/// What the report says, with the messages that were read and the readers' answers.
+/// What the report says of a crew that made so many children, with the messages that were read and the readers' answers.
 pub(crate) fn sums_of<N: Name>(
     report: &Report<N, Course, Result<Asked, Gone>>,
+    made: u64,
     messages: u64,
     answers: Answers,
 ) -> LiveSums
-    ensures made { (result.made ≡ report.now.made) × (result.exits ≡ report.now.exits) }
+    ensures made { (result.made ≡ made) × (result.exits ≡ report.now.exits) }
     ensures replies { (result.strays ≡ report.now.tally.strays) × (result.restarts ≡ report.now.tally.restarts) × (result.given_up ≡ report.now.tally.given_up) }
     ensures kept { (result.left ≡ vec_len report.now.left) × (result.held ≡ vec_len report.now.held) }
     ensures heard { (result.messages ≡ messages) × (result.reads ≡ answers.reads) }
     ensures starts { (result.rates.starts ≡ rate_of report.now.outcome.started report.now.outcome.starting) × (result.rates.messages ≡ rate_of messages report.now.outcome.sending) }
     ensures rates { (result.rates.restarts ≡ rate_of report.now.tally.restarts report.now.outcome.restarting) × (result.rates.reads ≡ rate_of answers.reads answers.asking) }
     ensures fault { result.fault ≡ first_fault report.now.fault report.now.outcome.fault answers.fault }
-    ensures counts { are_driven report.now.driver.calls ≡ true → report.now.exits ≡ length (exits_among report.now.driver.calls) → AreLiveCounts report.now.driver.calls result }
+    ensures counts { are_driven report.now.driver.calls ≡ true → report.now.exits ≡ length (exits_among report.now.driver.calls)
+        → IsToldOf N.template report.now.door report.now.driver report.now.patrons.items report.now.held.items report.now.left.items (children_in (λ list. children_of list.items) report.now.unposted.items) made report.now.owed
+        → AreLiveCounts report.now.driver.calls result }
 {
     let course = report.outcome;
     let rates = Rates {
@@ -139,7 +148,7 @@ pub(crate) fn sums_of<N: Name>(
         reads: rate(answers.reads, answers.asking),
     };
     LiveSums {
-        made: report.made,
+        made,
         exits: report.exits,
         strays: report.tally.strays,
         restarts: report.tally.restarts,
