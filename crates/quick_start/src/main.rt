@@ -49,7 +49,8 @@ fn crash<N: Name, R: Wait + Print>(
 }
 
 fn main(rt: HostRuntime) -> Result<()> {
-    // Children are started again after a crash, at most 5 times within 10 seconds, and there are at most 1,000 of them.
+    // Children are started again after a crash, at most 5 times within 10 seconds, and there are at most 1,000 of them. The
+    // history has at most 2^62 entries.
     let template = Template::new(Restart::Transient, Kind::Worker, 5, 10, 1000, 1 << 62)?;
     // Two handles can be made.
     on_desk(&rt, rt.alloc(), template, 2, AlwaysRunning, Server)?

@@ -20,8 +20,8 @@ pub enum PoolFault {
     /// More than 1000 restarts are not counted.
     #[error("a pool bears 0 to 1000 restarts")]
     BadRestarts,
-    /// The argument at this place of the list, from 0 on, is no text of 1 to 40 visible characters.
-    #[error("argument {0} is no text of 1 to 40 visible characters")]
+    /// The argument at this place of the list, from 0 on, is no text of 1 to 40 visible ASCII characters: a space is none.
+    #[error("argument {0}, counted from 0, is no text of 1 to 40 visible ASCII characters")]
     BadArgument(usize),
     /// The run was stopped by an update that was refused: the history is full, say.
     #[error("{0}")]
