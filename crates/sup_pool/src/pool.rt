@@ -1,5 +1,5 @@
 //! A pool: a crew over a desk of its own.
-ghost use Rattle.std.specs.Prelude.{◌≡◌, ◌+◌, ◌<◌, ◌≤◌, ◌^◌, ◌⊎◌, ◌↔◌, ℕ, List, IsOk, IfOk, IfErr, Err, map, ⊤};
+ghost use Rattle.std.specs.Prelude.{◌≡◌, ◌+◌, ◌<◌, ◌≤◌, ◌^◌, ◌⊎◌, ◌↔◌, ℕ, List, IsOk, IfOk, IfErr, Err, false, map, ⊤};
 ghost use Rattle.sup_desk.specs.declared.faults.UpdateFault.{UpdateFault as AFault};
 ghost use Rattle.sup_pool.specs.Pools.{IsPooled, IsNoText};
 ghost use Rattle.sup_pool.specs.declared.fault.PoolFault.TheVariants.{OutOfMemory, BadWorkers, BadRestarts, BadArgument, Stopped};
@@ -14,7 +14,7 @@ use std::sync::Wait;
 use std::thread::Threads;
 use sup_crew::{Body, Job, Plan, Report, run_crew};
 use sup_desk::{Asker, Desk, Ground, Name};
-use sup_types::{AlwaysRunning, Kind, Reason, Restart, Template, Text};
+use sup_types::{AlwaysRunning, AutoShutdown, Kind, Reason, Restart, Template, Text};
 
 /// The notes that the inbox of a pool holds at most.
 const INBOX: usize = 1024;
@@ -86,7 +86,8 @@ impl Pool {
     /// next crash the pool gives up. There are at most 65,536 children at once.
     pub fn new(workers: usize, restarts: u64) -> Result<Pool, PoolFault>
         ensures pool { IfOk result (λ p. (p.workers ≡ workers) × (p.template.restart ≡ Restart.Transient) × (p.template.kind ≡ Kind.Worker)
-            × (p.template.intensity ≡ restarts) × (p.template.max ≡ 65536) × (p.template.entries ≡ 2 ^ 62)) }
+            × (p.template.intensity ≡ restarts) × (p.template.period ≡ 5) × (p.template.max ≡ 65536) × (p.template.entries ≡ 2 ^ 62)
+            × (p.template.significant ≡ false) × (p.template.auto_shutdown ≡ AutoShutdown.Never)) }
         ensures restarts { (result ≡ Err BadRestarts) ↔ (1000 < restarts) }
         ensures workers { IfErr result (λ f. (f ≡ BadRestarts) ⊎ ((f ≡ BadWorkers) × ¬ ((1 ≤ workers) × (workers ≤ 64)))) }
     {
