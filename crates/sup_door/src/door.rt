@@ -8,12 +8,8 @@ ghost use Rattle.sup_desk.specs.Asking.{IsAnswered};
 ghost use Rattle.sup_desk.specs.Knowledge.{IsUpdated, entries_of};
 ghost use Rattle.sup_desk.specs.declared.journal.JournalFault.{JournalFault};
 ghost use Rattle.sup_desk.specs.Results.{IsUpdateResult};
-ghost use Rattle.sup_door.specs.Starts.{HasStarted};
+ghost use Rattle.sup_yard.specs.Starts.{HasStarted};
 
-use crate::alive::Alive;
-use crate::behaviour::Behaviour;
-use crate::outbox::Office;
-use crate::yard::Yard;
 use futures::Future;
 use std::marker::Model;
 use std::sync::Wait;
@@ -24,6 +20,7 @@ use sup_desk::{
 use sup_ledger::Witness;
 use sup_log::{Gone, Ticket, View};
 use sup_types::{Counts, Operation, Reply, Row, Seen, Starter, Text};
+use sup_yard::{Alive, Behaviour, Office, Yard};
 
 /// A handle of the desk, with the right to run children. The desk has the journal `J`, which is none if it is left out. The
 /// door may be moved to one thread. It does not give its handle out: an exit that was entered past the crew would be a second
@@ -64,7 +61,7 @@ impl<
 > Model for Door<'t, 'h, 'd, N, S, Q, I, B, P, F, J> {
     ghost use Rattle.std.specs.Prelude.{◌≡◌};
     ghost use Rattle.sup_desk.specs.Knowledge.{Knowledge};
-    ghost use Rattle.sup_door.specs.Starts.{HasStarted};
+    ghost use Rattle.sup_yard.specs.Starts.{HasStarted};
 
     ghost Value = { Knowledge };
 
@@ -100,7 +97,7 @@ impl<
             desk,
             handle,
             yard,
-            witness: yard.hub.witness(),
+            witness: yard.hub().witness(),
         }
     }
 
@@ -115,7 +112,7 @@ impl<
         ensures full { IfErr result (λ e. e ≡ UpdateFault.HistoryFull → (length self.new.front ≡ N.template.entries) × (entries_of self.new.front self.new.number ≡ self.new.calls)) }
         ensures journal { IfErr result (λ e. (f : JournalFault) → e ≡ UpdateFault.Journal f → J.may_fail f) }
     {
-        let Ok(place) = self.yard.hub.make_room() else {
+        let Ok(place) = self.yard.hub().make_room() else {
             return Err(UpdateFault::OutOfMemory);
         };
         let moment = self.yard.now(rt);
@@ -132,7 +129,7 @@ impl<
                 Ok(done)
             }
             Err(fault) => {
-                self.yard.hub.free_room(place);
+                self.yard.hub().free_room(place);
                 Err(fault)
             }
         }
@@ -191,8 +188,7 @@ impl<
     /// Sends to the child with this number. The message comes back where no such child is alive, where it was told to end, or
     /// for want of memory.
     pub fn send(&self, number: u64, message: B::Message) -> Result<(), B::Message> {
-        let hub = self.yard.hub;
-        hub.rooms.send(&hub.rt, number, message)
+        self.yard.send(number, message)
     }
 
     /// Another door of the crew, with a handle of its own.
@@ -206,8 +202,7 @@ impl<
 
     /// Lets the crew close: the driver stops the supervisor, and all children end.
     pub fn close(&self) {
-        self.yard.hub.counts.close();
-        self.yard.hub.ring();
+        self.yard.close();
     }
 
     /// Its handle, for an audit once the crew has closed.
@@ -263,7 +258,7 @@ impl<
     }
 
     /// How many children there are at one front, which begins with all that the door had seen, learnt or done.
-    #[tactic(auto, using(crate::specs::ReplyLaws::seen_more))]
+    #[tactic(auto, using(sup_yard::specs::ReplyLaws::seen_more))]
     pub fn count_children(&mut self) -> Result<Seen<Counts>, Gone>
         ensures front { IsPrefix self.old.front self.new.front }
         ensures editions { IsPrefix self.old.editions self.new.editions }
@@ -274,7 +269,7 @@ impl<
     }
 
     /// The listed child with this number at such a front.
-    #[tactic(auto, using(crate::specs::ReplyLaws::seen_more))]
+    #[tactic(auto, using(sup_yard::specs::ReplyLaws::seen_more))]
     pub fn child(&mut self, number: u64) -> Result<Seen<Option<Row>>, Gone>
         ensures front { IsPrefix self.old.front self.new.front }
         ensures editions { IsPrefix self.old.editions self.new.editions }
@@ -285,7 +280,7 @@ impl<
     }
 
     /// The listed children at such a front, by ascending numbers.
-    #[tactic(auto, using(crate::specs::ReplyLaws::seen_more))]
+    #[tactic(auto, using(sup_yard::specs::ReplyLaws::seen_more))]
     pub fn which_children(&mut self) -> Result<Seen<Vec<Row>>, QueryFault>
         ensures front { IsPrefix self.old.front self.new.front }
         ensures editions { IsPrefix self.old.editions self.new.editions }
@@ -297,7 +292,7 @@ impl<
 
     /// Calls `f` once on a view at such a front, and not at all where the supervisor is down. `f` may make no update,
     /// which would wait for this look.
-    #[tactic(auto, using(crate::specs::ReplyLaws::seen_more))]
+    #[tactic(auto, using(sup_yard::specs::ReplyLaws::seen_more))]
     pub fn inspect<T, G: FnOnce(&View) -> T>(&mut self, f: G) -> Result<Seen<T>, Gone>
         requires { G.IsAlwaysCallable f }
         ensures front { IsPrefix self.old.front self.new.front }
@@ -310,7 +305,7 @@ impl<
     }
 
     /// From now on its front begins with the ticket's, which is of the same desk. It enters nothing and always succeeds.
-    #[tactic(auto, using(crate::specs::ReplyLaws::seen_more))]
+    #[tactic(auto, using(sup_yard::specs::ReplyLaws::seen_more))]
     pub fn learn(&mut self, ticket: &Ticket) -> Result<(), Gone>
         requires { ticket.now.press ≡ N.press }
         ensures answered { IsOk result }

@@ -1,13 +1,8 @@
-//! Children that are alive, and the doors by which a program reaches them.
+//! Doors: by which a program starts the children of a live crew, sends to them, ends them and asks about them.
 //!
-//! A [`Behaviour`] makes a child: a future of the kit's `futures`, which reads its [`Mailbox`] and is ready with the reason of
-//! its end. A [`Door`] starts children, sends to them, ends them, asks by every query of a handle, and makes other doors. The
-//! children of one crew run in a [`Yard`]. What its threads share lies in a [`Hub`]: the inbox of exits with its posters, the
-//! ledger of the children that were made, and where each child is reached. This crate runs nothing by itself: `sup_live` has the threads, and the driver that enters
-//! exits.
+//! A [`Door`] has a handle of the desk, and reaches the children in their yard (`sup_yard`). It makes other doors.
 //!
 //! ```text
-//! let yard = Yard::new(&rt, rt.alloc(), &hub, &behaviour, Moments::Monotonic, 5, 4)?;
 //! let mut door = Door::new(&desk, desk.handle(&rt)?, &yard);
 //! let done = door.start_child(&rt, arg)?;
 //! // in another thread, which runs the child
@@ -15,32 +10,12 @@
 //! ```
 //!
 //! What the layer above may rely on: an update by a door has the contract of a handle's, and a query that of an asker's. The
-//! exit of a child is a value that can be neither copied nor let go, so a child that ends, however it does, has paid it once.
-//! Each child that was made has one exit, which was posted or waits in an outbox, or the ledger says that it owes it. Its reason is one for which the behaviour's children
-//! may end, or one of the crew's own: `killed` of a child that was let go, `not_run` of one that could not be run.
+//! children that a door started are shown by its witness of the crew's ledger.
 //!
 //! That a child is polled, that a message comes and that a thread wakes is promised by no contract: the kit's executor and
 //! channels are trusted for it, and tests show it.
 #![tactic(auto)]
 
-mod alive;
-mod behaviour;
-mod clock;
-mod counts;
 mod door;
-mod due;
-mod hub;
-mod mailbox;
-mod outbox;
-mod rooms;
-mod yard;
 
-pub use alive::Alive;
-pub use behaviour::Behaviour;
-pub use clock::Moments;
-pub use counts::CrewCounts;
 pub use door::Door;
-pub use hub::{Ended, Hub};
-pub use mailbox::Mailbox;
-pub use outbox::Office;
-pub use yard::Yard;

@@ -23,8 +23,8 @@ use Rattle.sup_drain.specs.declared.drain.Drained.{Drained}
 use Rattle.sup_drain.specs.declared.drain.DrainFault.{DrainFault}
 use mathlib.Core.List.{IsPrefix}
 use Rattle.sup_ledger.specs.declared.child.Child.{Child}
-use Rattle.sup_door.specs.Starts.{HasReplies}
-use Rattle.sup_door.specs.ReplyLaws.{each_of, seen_more, applied}
+use Rattle.sup_yard.specs.Starts.{HasReplies}
+use Rattle.sup_yard.specs.ReplyLaws.{each_of, seen_more, applied}
 use Rattle.sup_driver.specs.Restarts.{restarted_as, number_restarted, restarted_among, numbers_of}
 use Rattle.sup_driver.specs.Leads.{exits_among, is_driven, are_driven}
 

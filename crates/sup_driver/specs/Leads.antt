@@ -5,7 +5,7 @@ use Rattle.sup_types.specs.declared.history.Operation.{Operation}
 use Rattle.sup_types.specs.declared.history.Operation.TheVariants.{Start, Terminate, Exit}
 use Rattle.sup_types.specs.declared.history.Entry.{Entry}
 use Rattle.sup_drain.specs.Exits.{exit_of}
-use Rattle.sup_door.specs.Endings.{is_ending}
+use Rattle.sup_yard.specs.Endings.{is_ending}
 
 -- the exits among the entries
 abbrev pub exits_among : List Entry → List Operation

@@ -2,18 +2,18 @@
 ghost use Rattle.std.specs.Prelude.{◌≡◌, ◌+◌, ◌≤◌, [], ◌++◌, true, length, MatchResult, vec_len};
 ghost use mathlib.Core.List.{IsPrefix};
 ghost use Rattle.sup_drain.specs.Exits.{exits};
-ghost use Rattle.sup_door.specs.Starts.{HasReplies};
+ghost use Rattle.sup_yard.specs.Starts.{HasReplies};
 ghost use Rattle.sup_driver.specs.Leads.{exits_among, are_driven};
 ghost use Rattle.sup_driver.specs.Restarts.{restarted_as, number_restarted, restarted_among, numbers_of};
 
 use std::marker::PhantomData;
 use std::sync::Wait;
 use sup_desk::{Caller, Handle, Journal, Name, UpdateFault};
-use sup_door::{Alive, Behaviour, Office, Yard};
 use sup_drain::{Drain, DrainFault, Drained};
 use sup_inbox::{Note, Taker};
 use sup_ledger::{Child, Witness};
 use sup_types::{Reply, Starter, Text};
+use sup_yard::{Alive, Behaviour, Office, Yard};
 
 /// The handle of a driver, and its drain. By its type, the handle's calls are exits, later tries and the stop, and its exits
 /// are those of the notes that the drain entered, in order and each once. Each child that was restarted by these calls was made.

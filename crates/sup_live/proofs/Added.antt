@@ -13,13 +13,14 @@ use Rattle.sup_drain.specs.Exits.{exits}
 use Rattle.sup_ledger.specs.declared.child.Child.{Child}
 use Rattle.sup_ledger.specs.Holdings.{weigh, numbers_from, AreAmong, AreAllNumbers}
 use Rattle.sup_ledger.specs.WeighLaws.{weigh-append}
-use Rattle.sup_door.specs.Outboxes.{children_noted}
-use Rattle.sup_door.specs.Starts.{HasReplies, HasStarted}
-use Rattle.sup_door.specs.Totals.{children_posted, IsAccounted}
+use Rattle.sup_yard.specs.Outboxes.{children_noted}
+use Rattle.sup_yard.specs.Starts.{HasReplies, HasStarted}
+use Rattle.sup_yard.specs.Totals.{children_posted, IsAccounted}
 use Rattle.sup_driver.specs.Leads.{exits_among}
 use Rattle.sup_driver.specs.Restarts.{number_restarted, numbers_of}
-use Rattle.sup_live.specs.Accounts.{AreStartedBy, IsToldOf}
-use Rattle.sup_live.specs.declared.patrons.Patron.{Patron}
+use Rattle.sup_live.specs.Accounts.{IsToldOf}
+use Rattle.sup_threads.specs.Patrons.{AreStartedBy}
+use Rattle.sup_threads.specs.declared.patrons.Patron.{Patron}
 
 noted-append : (xs ys : List Note) → children_noted (xs ++ ys) ≡ children_noted xs ++ children_noted ys
 noted-append [] ys = refl

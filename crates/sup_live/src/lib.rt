@@ -2,7 +2,7 @@
 //!
 //! A [`Behaviour`] makes a child: a future of the kit's `futures`, which reads its [`Mailbox`] and is ready with the reason of
 //! its end. A [`Program`] has a [`Door`]: it starts children, sends to them, ends them, asks by every query of a handle, and
-//! makes other doors (these stand in `sup_door`, and are passed on here). [`run_live`] runs the program in the calling thread.
+//! makes other doors (these stand in `sup_yard`, `sup_door` and `sup_threads`, and are passed on here). [`run_live`] runs the program in the calling thread.
 //! [`run_live_with_patrons`] also runs others, each in a thread of its own by a door of its own. Beside them a driver enters
 //! the exits, runs children that were restarted at once under their new number, and tries failed restarts again. Few worker
 //! threads poll all children.
@@ -31,17 +31,12 @@
 //! [`Report::adds_up`] is whether no exit is owed.
 #![tactic(auto)]
 
-mod patrons;
-mod plan;
-mod program;
 mod report;
 mod run;
-mod threads;
 
-pub use patrons::Patron;
-pub use plan::{LiveFault, Plan};
-pub use program::Program;
 pub use report::Report;
 pub use run::{run_live, run_live_with_patrons};
-pub use sup_door::{Alive, Behaviour, Door, Hub, Mailbox, Moments, Office, Yard};
+pub use sup_door::Door;
 pub use sup_driver::Tally;
+pub use sup_threads::{LiveFault, Patron, Plan, Program};
+pub use sup_yard::{Alive, Behaviour, Hub, Mailbox, Moments, Office, Yard};

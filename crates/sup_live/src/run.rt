@@ -1,17 +1,14 @@
 //! Runs.
 ghost use Rattle.std.specs.Prelude.{◌≡◌, ◌<◌, ◌≤◌, [], ◌++◌, true, length, All, IfOk, vec_len, vec_capacity};
 ghost use Rattle.sup_driver.specs.Leads.{exits_among, are_driven, AreExitsEnding};
-ghost use Rattle.sup_door.specs.Endings.{AreEndings, AreExitEndings};
+ghost use Rattle.sup_yard.specs.Endings.{AreEndings, AreExitEndings};
 ghost use Rattle.sup_inbox.specs.Ends.{AreFrom, AreNew};
 ghost use Rattle.sup_ledger.specs.Holdings.{numbers_from};
-ghost use Rattle.sup_door.specs.Outboxes.{children_in, children_of};
-ghost use Rattle.sup_live.specs.Accounts.{AreStartedBy, IsToldOf};
+ghost use Rattle.sup_yard.specs.Outboxes.{children_in, children_of};
+ghost use Rattle.sup_live.specs.Accounts.{IsToldOf};
+ghost use Rattle.sup_threads.specs.Patrons.{AreStartedBy};
 
-use crate::patrons::{Nobody, Programs};
-use crate::plan::{LiveFault, Plan};
-use crate::program::Program;
 use crate::report::Report;
-use crate::threads::{Ends, Joined, run_threads};
 use arrayvec::ArrayVec;
 use futures::Future;
 use std::alloc::{AllocGlobal, Global};
@@ -22,12 +19,13 @@ use std::sync::Wait;
 use std::thread::Threads;
 use std::time::Clock;
 use sup_desk::{Desk, Journal, Name};
-use sup_door::{Behaviour, Ended, Hub, Moments, Office, Yard};
 use sup_drain::HELD;
 use sup_driver::Driver;
 use sup_inbox::{Inbox, InboxFull, Note, Poster, Taker, settle};
 use sup_ledger::{Account, Ledger, Witness};
+use sup_threads::{Ends, Joined, LiveFault, Nobody, Plan, Program, Programs, run_threads};
 use sup_types::{OutOfMemory, Starter};
+use sup_yard::{Behaviour, Ended, Hub, Moments, Office, Yard};
 
 /// Ends a yard. It stands apart, over any future, since the borrow checker of this kit sees no lifetime of a yard's children
 /// outlive the function that made it.

@@ -1,7 +1,7 @@
 -- The numbers of a live load's faults, which are the same wherever a fault is answered.
 use Rattle.std.specs.Prelude.{ℕ}
 use Rattle.sup_desk.specs.Faults.{handle_fault_number, update_fault_number}
-use Rattle.sup_live.specs.declared.plan.LiveFault.TheVariants as live
+use Rattle.sup_threads.specs.declared.plan.LiveFault.TheVariants as live
 use Rattle.sup_liveload.specs.declared.fault.LiveLoadFault.{LiveLoadFault}
 use Rattle.sup_liveload.specs.declared.fault.LiveLoadFault.TheVariants as fault
 

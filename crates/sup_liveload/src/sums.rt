@@ -1,7 +1,7 @@
 //! What a live load came to.
 
 ghost use Rattle.std.specs.Prelude.{◌≡◌, ◌+◌, ◌-◌, ◌^◌, true, length, min, vec_len};
-ghost use Rattle.sup_door.specs.Outboxes.{children_in, children_of};
+ghost use Rattle.sup_yard.specs.Outboxes.{children_in, children_of};
 ghost use Rattle.sup_driver.specs.Leads.{are_driven, exits_among};
 ghost use Rattle.sup_live.specs.Accounts.{IsToldOf};
 ghost use Rattle.sup_liveload.specs.Counts.{AreLiveCounts, first_fault, rate_of};

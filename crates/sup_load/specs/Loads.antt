@@ -5,8 +5,8 @@ use Rattle.sup_desk.specs.declared.faults.UpdateFault.{UpdateFault}
 use Rattle.sup_desk.specs.declared.faults.UpdateFault.TheVariants as update
 use Rattle.sup_desk.specs.declared.faults.HandleFault.{HandleFault}
 use Rattle.sup_desk.specs.declared.faults.HandleFault.TheVariants as handle
-use Rattle.sup_live.specs.declared.plan.LiveFault.{LiveFault}
-use Rattle.sup_live.specs.declared.plan.LiveFault.TheVariants as crew
+use Rattle.sup_threads.specs.declared.plan.LiveFault.{LiveFault}
+use Rattle.sup_threads.specs.declared.plan.LiveFault.TheVariants as crew
 use Rattle.sup_liveload.specs.declared.fault.LiveLoadFault.{LiveLoadFault}
 use Rattle.sup_liveload.specs.declared.fault.LiveLoadFault.TheVariants as live
 use Rattle.sup_load.specs.declared.fault.LoadFault.{LoadFault}

@@ -1,6 +1,6 @@
 -- The numbers of a server's faults.
 use Rattle.std.specs.Prelude.{ℕ}
-use Rattle.sup_live.specs.declared.plan.LiveFault.TheVariants as live
+use Rattle.sup_threads.specs.declared.plan.LiveFault.TheVariants as live
 use Rattle.sup_serve.specs.declared.fault.ServeFault.{ServeFault}
 use Rattle.sup_serve.specs.declared.fault.ServeFault.TheVariants as fault
 

@@ -1,6 +1,6 @@
 -- One list more was counted, and in the end all.
 use Rattle.std.proofs.Common.{◌-◌, ◌^◌, rules, sym, ◌∙◌}
-use Rattle.sup_door.specs.Outboxes.{children_of}
+use Rattle.sup_yard.specs.Outboxes.{children_of}
 use Rattle.sup_liveload.proofs.Adding.{length-of, one_list_more, all_counted}
 use Rattle.sup_liveload.proofs.sums.lost_of.Goals as goal
 

@@ -1,7 +1,7 @@
 -- What was counted, with what is left to count.
 use Rattle.std.proofs.Common.{◌≡◌, ◌+◌, ◌-◌, ◌≤◌, ◌^◌, length}
 use Rattle.std.specs.Prelude.{min}
-use Rattle.sup_door.specs.Outboxes.{children_in, children_of}
+use Rattle.sup_yard.specs.Outboxes.{children_in, children_of}
 use Rattle.sup_liveload.proofs.sums.lost_of.Given as goal
 
 abbrev pub invariant-loop-list : goal.invariant-loop-list

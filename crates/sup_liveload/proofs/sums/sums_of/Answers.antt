@@ -1,7 +1,7 @@
 -- The sums have the report's exits, which are those of the driver's updates, and its account adds up.
 use Rattle.std.proofs.Common.{◌+◌, ◌-◌, ◌^◌, length, ap, ◌∙◌, arith}
 use Rattle.std.specs.Prelude.{min}
-use Rattle.sup_door.specs.Outboxes.{children_in, children_of}
+use Rattle.sup_yard.specs.Outboxes.{children_in, children_of}
 use Rattle.sup_liveload.proofs.Adding.{all_told, adds_up}
 use Rattle.sup_liveload.proofs.sums.sums_of.Goals as goal
 

@@ -1,7 +1,7 @@
 -- It has started nothing.
 use Rattle.std.proofs.Common.{ap, sym, subst}
-use Rattle.sup_door.specs.Starts.{child_started, HasStarted}
-use Rattle.sup_door.specs.ReplyLaws.{none_yet}
+use Rattle.sup_yard.specs.Starts.{child_started, HasStarted}
+use Rattle.sup_yard.specs.ReplyLaws.{none_yet}
 use Rattle.sup_door.proofs.door.Door+N+S+Q+I+B+P+Alive+I+B+P+J.new.Goals as goal
 
 pub invariant_of-result : goal.invariant_of-result

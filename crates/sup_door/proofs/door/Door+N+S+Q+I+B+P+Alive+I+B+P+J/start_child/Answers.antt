@@ -1,8 +1,8 @@
 -- The witness shows the child that was started.
 use Rattle.std.proofs.Common.{ap, sym, subst}
 use Rattle.sup_types.specs.declared.history.Operation.TheVariants.{Start}
-use Rattle.sup_door.specs.Starts.{child_started, HasStarted}
-use Rattle.sup_door.specs.ReplyLaws.{one_more, seen_more}
+use Rattle.sup_yard.specs.Starts.{child_started, HasStarted}
+use Rattle.sup_yard.specs.ReplyLaws.{one_more, seen_more}
 use Rattle.sup_door.proofs.door.Door+N+S+Q+I+B+P+Alive+I+B+P+J.start_child.Goals as goal
 
 pub invariant_of-self : goal.invariant_of-self

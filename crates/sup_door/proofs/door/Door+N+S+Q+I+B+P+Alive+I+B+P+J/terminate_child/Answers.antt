@@ -1,7 +1,7 @@
 -- A call that starts nothing.
 use Rattle.sup_types.specs.declared.history.Operation.TheVariants.{Terminate}
-use Rattle.sup_door.specs.Starts.{child_started}
-use Rattle.sup_door.specs.ReplyLaws.{called_else, terminates}
+use Rattle.sup_yard.specs.Starts.{child_started}
+use Rattle.sup_yard.specs.ReplyLaws.{called_else, terminates}
 use Rattle.sup_door.proofs.door.Door+N+S+Q+I+B+P+Alive+I+B+P+J.terminate_child.Goals as goal
 
 pub invariant_of-self : goal.invariant_of-self

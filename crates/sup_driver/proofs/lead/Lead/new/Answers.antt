@@ -1,7 +1,7 @@
 -- It has restarted no child.
 use Rattle.std.proofs.Common.{ap, sym, subst}
-use Rattle.sup_door.specs.Starts.{HasReplies}
-use Rattle.sup_door.specs.ReplyLaws.{none_yet}
+use Rattle.sup_yard.specs.Starts.{HasReplies}
+use Rattle.sup_yard.specs.ReplyLaws.{none_yet}
 use Rattle.sup_driver.specs.Restarts.{number_restarted, numbers_of}
 use Rattle.sup_driver.proofs.lead.Lead.new.Goals as goal
 

@@ -1,6 +1,6 @@
 use Rattle.std.proofs.Common.{ap, refl, ◌∙◌}
 use Rattle.sup_types.specs.declared.history.Operation.TheVariants.{Retry}
-use Rattle.sup_door.specs.ReplyLaws.{one_more, seen_more}
+use Rattle.sup_yard.specs.ReplyLaws.{one_more, seen_more}
 use Rattle.sup_driver.specs.Leads.{exits_among, are_driven}
 use Rattle.sup_driver.specs.Restarts.{number_restarted}
 use Rattle.sup_driver.proofs.Led.{exits_called, driven_called, restarted_shown}

@@ -1,6 +1,6 @@
 use Rattle.std.proofs.Common.{refl}
 use Rattle.sup_types.specs.declared.history.Operation.TheVariants.{Stop}
-use Rattle.sup_door.specs.ReplyLaws.{called_else}
+use Rattle.sup_yard.specs.ReplyLaws.{called_else}
 use Rattle.sup_driver.specs.Restarts.{number_restarted}
 use Rattle.sup_driver.proofs.Led.{exits_called, driven_called}
 use Rattle.sup_driver.proofs.lead.Lead.stop.Goals as goal

@@ -1,0 +1,6 @@
+-- The search is bound to what is named, so that a mutant is refused soon.
+use Rattle.std.proofs.Common.{rules}
+use Rattle.sup_yard.proofs.yard.Yard+I+B+P+Alive+I+B+P.spawn.Goals as goal
+
+pub pay-requires : goal.pay-requires
+pay-requires g c = search rules
