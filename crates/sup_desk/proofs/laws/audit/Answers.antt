@@ -1,4 +1,4 @@
-use Rattle.std.proofs.Common.{◌<◌, length, ◌∙◌, arith, subst}
+use Rattle.std.proofs.Common.{rules, ◌<◌, length, ◌∙◌, arith, subst}
 use Rattle.sup_desk.specs.Audits.{HasSeenAll}
 use Rattle.sup_desk.specs.Books.{Kept}
 use Rattle.sup_desk.proofs.Audited.{grown_set, seen_set}
@@ -15,3 +15,9 @@ loop-handle-preserved g c =
       seen = seen_set c.args.book.now.history c.loop-handle.handles c.loop-handle.handle-index c.see_all.new.self
           old.seen within (subst (λ (k : Kept). HasSeenAll k.history c.see_all.new.self) old.book c.see_all.ensures.seen);
     }
+
+pub returns-then-handles-made-clause-split : goal.returns-then-handles-made-clause-split
+returns-then-handles-made-clause-split g c = search rules
+
+pub returns-clause-split : goal.returns-clause-split
+returns-clause-split g c = search rules

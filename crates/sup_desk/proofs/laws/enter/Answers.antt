@@ -1,4 +1,4 @@
-use Rattle.std.proofs.Common.{IfErr, sym, ◌∙◌, ap, subst}
+use Rattle.std.proofs.Common.{rules, IfErr, sym, ◌∙◌, ap, subst}
 use Rattle.sup_desk.specs.Books.{Kept, IsLeft}
 use Rattle.sup_desk.proofs.Results.{HasMet, update_result}
 use Rattle.sup_desk.proofs.laws.enter.Goals as goal
@@ -22,3 +22,9 @@ returns-clause-result g c =
 pub returns-clause-left : goal.returns-clause-left
 returns-clause-left g c =
     subst (λ (k : Kept). IfErr c.enter_one.result (λ e. IsLeft g.J.Journal.may_fail k e c.enter_one.new.book)) c.give_ticket.ensures.same c.enter_one.ensures.left
+
+pub enter_one-requires-clause-going : goal.enter_one-requires-clause-going
+enter_one-requires-clause-going g c = search rules
+
+pub returns-clause-broken : goal.returns-clause-broken
+returns-clause-broken g c = search rules

@@ -1,4 +1,4 @@
-use Rattle.std.proofs.Common.{◌≡◌, ℕ, List, ◌++◌, [], length, take, ap, sym, ◌∙◌, subst, Option, None}
+use Rattle.std.proofs.Common.{rules, ◌≡◌, ℕ, List, ◌++◌, [], length, take, ap, sym, ◌∙◌, subst, Option, None}
 use Rattle.sup_types.specs.declared.history.Entry.{Entry}
 use Rattle.sup_desk.specs.declared.journal.JournalFault.{JournalFault}
 use Rattle.sup_desk.specs.Books.{Written, Kept, IsClean}
@@ -20,3 +20,12 @@ commit-committed-requires-clause-mine g c =
     let clean : leaf.pending ≡ [] = subst (λ (f : Option JournalFault). IsClean f leaf.pending) none c.book.invariant in
     let pending : c.write_all-fault.new.leaf.pending ≡ entries = ap (λ (w : Written). w.pending) written.2 ∙ ap (λ (l : List Entry). l ++ entries) clean in
     subst (λ (l : List Entry). entries_of l c.args.handle.now.number ≡ l) (sym pending) (subst (λ (n : ℕ). entries_of entries n ≡ entries) (ap (λ (k : Knowledge). k.number) c.handle.view_is) own)
+
+pub returns-clause-rest : goal.returns-clause-rest
+returns-clause-rest g c = search rules
+
+pub returns-clause-kept : goal.returns-clause-kept
+returns-clause-kept g c = search rules
+
+pub invariant_of-book : goal.invariant_of-book
+invariant_of-book g c = search rules

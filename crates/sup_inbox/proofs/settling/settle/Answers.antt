@@ -1,4 +1,4 @@
-use Rattle.std.proofs.Common.{[], ◌++◌, map, sym, ap, ◌∙◌, subst}
+use Rattle.std.proofs.Common.{rules, [], ◌++◌, map, sym, ap, ◌∙◌, subst}
 use Rattle.sup_inbox.specs.Delivery.{taker_view, IsSettled}
 use Rattle.sup_inbox.specs.Ends.{sent_of}
 use Rattle.sup_inbox.specs.PostingLaws.{each_settled, others_settled, every_settled, settled_at}
@@ -23,3 +23,6 @@ returns-clause-every g c =
     let n = ap (λ t. t.posters) c.taker.view_is ∙ sym c.requires.posters.1 in
     let now = settled_at _ _ _ _ _ _ _ e n (ap (λ t. t.taken) c.taker.view_is) c.empty-left.ensures in
     every_settled _ _ (subst (λ m. IsSettled (taker_view m (c.args.taker.taken ++ c.empty-left.result.items) (map sent_of c.args.posters.items)) []) c.args.posters.ok.0 now)
+
+pub returns-then-is_err-clause-room : goal.returns-then-is_err-clause-room
+returns-then-is_err-clause-room g c = search rules

@@ -1,4 +1,5 @@
 -- One look decides.
+use Rattle.std.proofs.lemmas.Grind.{common_steps}
 use Rattle.std.proofs.Common.{◌+◌, ◌≤◌, ◌-◌, ◌∙◌, ap, sym, max, length, arith}
 use Rattle.std.specs.Prelude.{not, slice_get}
 use Rattle.sup_window.specs.Attempts.{greatest, is_borne, counts_at, Recent}
@@ -17,3 +18,6 @@ returns g c =
     ∙ sym (is_borne-oldest w.intensity w.period at w.moments.items c.self.invariant.2 low many most)
     ∙ ap (is_borne w.intensity w.period w.moments.items) c.max-at.ensures
     ∙ ap (λ (s : Recent). is_borne s.intensity s.period s.moments (max s.latest c.args.moment)) c.self.view_is
+
+pub returns-then-kept-self : goal.returns-then-kept-self
+returns-then-kept-self g c = grind (arith, common_steps)

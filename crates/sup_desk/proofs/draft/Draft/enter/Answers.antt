@@ -1,4 +1,4 @@
-use Rattle.std.proofs.Common.{◌≡◌, length, refl, ap, arith}
+use Rattle.std.proofs.Common.{rules, ◌≡◌, length, refl, ap, arith}
 use Rattle.std.proofs.lemmas.Bool.Decides.{nat_tests}
 use Rattle.sup_types.specs.declared.template.Template.{Template}
 use Rattle.sup_desk.specs.Recoveries.{Drafted}
@@ -22,3 +22,6 @@ write-requires-clause-room g c =
     let bound = ap (λ (t : Template). t.entries) (template_is g.N.Name.template d.press.published d.sup c.self.invariant.4) in
     let counted = ap (λ (w : Drafted). length w.history) c.count_to.ensures.same in
     omega (arith, all, steps, bound, counted, c.if-is_spent.ensures.room refl)
+
+pub returns-then-number-eq0-clause-err : goal.returns-then-number-eq0-clause-err
+returns-then-number-eq0-clause-err g c = search rules

@@ -1,4 +1,4 @@
-use Rattle.std.proofs.Common.{IfNone}
+use Rattle.std.proofs.Common.{rules, IfNone}
 use Rattle.std.specs.declared.option.Option.{Option}
 use Rattle.std.specs.declared.option.Option.TheVariants.{None, Some}
 use Rattle.sup_desk.proofs.handle.HandleOf+N+Desk+N+S+R+J.apply_all.Goals as goal
@@ -12,3 +12,6 @@ returns-clause-nothing g c = none_then c.in-Err.field-0.ticket (λ p. (p.0, p.1,
 
 pub returns-clause-journal : goal.returns-clause-journal
 returns-clause-journal g c = λ f is. let told = c.in-Err.ensures.journal f is in (told.0, told.2)
+
+pub returns-in_default-clause-gone : goal.returns-in_default-clause-gone
+returns-in_default-clause-gone g c = search rules

@@ -1,3 +1,4 @@
+use Rattle.std.proofs.Common.{rules}
 use Rattle.sup_format.specs.Writing.Replies.{line_of}
 use Rattle.sup_format.specs.Reading.History.{first_words}
 use Rattle.sup_format.proofs.Reading.HistoryLines.{written_more, all_more, written_all}
@@ -11,3 +12,6 @@ loop-entry-preserved g c = record {
 
 pub returns : goal.returns
 returns g c = written_all c.args.template.now c.args.entries.now c.loop-entry.entry-index c.loop-entry.text.items c.loop-entry-test.false c.loop-entry.invariant.fits c.loop-entry.invariant.text
+
+pub loop-entry-init : goal.loop-entry-init
+loop-entry-init g c = search rules

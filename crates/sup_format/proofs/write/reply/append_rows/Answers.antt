@@ -1,3 +1,5 @@
+use Rattle.std.proofs.Common.{arith}
+use Rattle.std.proofs.lemmas.Grind.{common_steps}
 use Rattle.std.proofs.lemmas.Result.{err_from_is_err_and}
 use Rattle.sup_format.proofs.Writing.Written.{Grows-more, grows_on_err}
 use Rattle.sup_format.proofs.write.reply.append_rows.Goals as goal
@@ -9,3 +11,6 @@ returns-in_err-append_row-clause-err g c =
 
 pub returns-clause-err : goal.returns-clause-err
 returns-clause-err g c = grows_on_err c.append_numbered.result c.args.out.now.items c.loop-row.out.items c.append_numbered.new.out.items _ c.loop-row.invariant c.append_numbered.ensures.err
+
+pub returns-clause-ok : goal.returns-clause-ok
+returns-clause-ok g c = grind (arith, common_steps)

@@ -1,0 +1,9 @@
+-- The search is bound to what is named, so that a mutant is refused soon.
+use Rattle.std.proofs.Common.{rules}
+use Rattle.sup_core.proofs.supervisor.Sup.copied.Goals as goal
+
+pub returns-clause-value : goal.returns-clause-value
+returns-clause-value g c = search rules
+
+pub returns-clause-seen : goal.returns-clause-seen
+returns-clause-seen g c = search rules
