@@ -131,7 +131,7 @@ pub enum DeskFault {
     #[error("out of memory")]
     OutOfMemory,
     /// The number of handles is not from 1 to 1024.
-    #[error("the number of handles is out of range")]
+    #[error("a desk has 1 to 1024 handles")]
     BadTemplate,
 }
 

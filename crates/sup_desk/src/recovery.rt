@@ -28,7 +28,7 @@ pub enum RecoverFault {
     #[error("an entry is of a handle that the desk has no place for")]
     NoHandle,
     /// The number of handles is not from 1 to 1024.
-    #[error("the number of handles is out of range")]
+    #[error("a desk has 1 to 1024 handles")]
     BadTemplate,
 }
 

@@ -13,7 +13,7 @@ pub enum CrewFault {
     #[error("out of memory")]
     OutOfMemory,
     /// The desk has not enough handles left.
-    #[error("all handles were made")]
+    #[error("the desk has not enough handles left for a crew")]
     NoHandle,
     /// The press has no place for a lens, or no memory for one.
     #[error("no place for a lens is left")]
