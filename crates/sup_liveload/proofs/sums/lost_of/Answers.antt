@@ -13,3 +13,6 @@ loop-list-preserved c = record {
 
 pub returns : goal.returns
 returns c = all_counted (λ list. children_of list.items) c.loop-list.rest.now c.loop-list.count _ (2 ^ 64 - 1) c.in_default.ensures.cases c.loop-list.invariant.fits c.loop-list.invariant.sum
+
+pub loop-list-init : goal.loop-list-init
+loop-list-init c = search rules
