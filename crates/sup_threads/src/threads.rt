@@ -143,66 +143,6 @@ where
 }
 
 /// Starts the threads, runs the program, and joins the patrons and the driver.
-fn run_program<'s, 'h: 's, 'd: 's, E, N, S, Q, J, I, B, P, T, U, R>(
-    scope: &Scope<'s, E>,
-    rt: &'s R,
-    desk: &'d Desk<N, S, Q, J>,
-    yard: &'s Yard<'h, I, B, P, Alive<'h, I, B, P>>,
-    ends: Ends<'d, N, S, Q, I, J>,
-    programs: Programs<T, U>,
-    workers: usize,
-) -> Result<Joined<N, I, T::Outcome, U::Outcome>, LiveFault>
-where
-    N: Name + Send + Sync + 's,
-    S: Starter + Drop + Send + Sync + 's,
-    Q: Wait + Drop + Send + Sync + 's,
-    J: Journal + Drop + Send + 's,
-    I: Office + Send + Sync + 's,
-    B: Behaviour + Sync + 's,
-    B::Message: Send + 's,
-    B::Child: Send + 's,
-    P: Wait + Drop + Send + Sync + 's,
-    T: Program<N, B, Journal = J> + Drop,
-    U: Program<N, B, Journal = J> + Drop + Send + 's,
-    U::Outcome: Send + 's,
-    R: Threads + Wait + Clock + Sync,
-    ensures { IfOk result (λ j. (vec_len j.patrons ≡ vec_len programs.patrons) × AreStartedBy N.template j.patrons.items j.others.shown) }
-{
-    let staffed = match staff(scope, rt, yard, workers, programs.patrons.len()) {
-        Ok(staffed) => staffed,
-        Err(fault) => return Err(fault),
-    };
-    let Ends { driver, door } = ends;
-    let driving = match start_driver(scope, rt, yard, driver) {
-        Ok(driving) => driving,
-        Err(fault) => return Err(fault),
-    };
-    let Staffed {
-        threads,
-        room,
-        holds,
-    } = staffed;
-    let Programs { program, patrons } = programs;
-    let threads = start_patrons(scope, rt, desk, yard, patrons, threads);
-    let mut door = Door::new(desk, door, yard);
-    let outcome = program.run(rt, &mut door);
-    let (patrons, others) = join_patrons(rt, yard.hub(), threads, room);
-    door.close();
-    let driven = driving.join(rt);
-    drop(holds);
-    let (door, witness) = door.parts();
-    Ok(Joined {
-        driven,
-        door,
-        outcome,
-        patrons,
-        witness,
-        others,
-        of: PhantomData,
-    })
-}
-
-/// Opens the scope of the threads.
 pub fn run_threads<'h, 'd, N, S, Q, J, I, B, P, T, U, R>(
     rt: &R,
     desk: &'d Desk<N, S, Q, J>,
@@ -235,6 +175,41 @@ where
             requires children { IsSend B.Message.row × IsSend B.Child.row }
             requires patrons { IsSend U.row × IsSend U.Outcome.row }
             ensures { IfOk result (λ j. (vec_len j.patrons ≡ vec_len programs.patrons) × AreStartedBy N.template j.patrons.items j.others.shown) }
-        { run_program(scope, rt, desk, yard, ends, programs, workers) },
+        {
+            let staffed = match staff(scope, rt, yard, workers, programs.patrons.len()) {
+                Ok(staffed) => staffed,
+                Err(fault) => return Err(fault),
+            };
+            // The whole of it is moved in, with what it says of the door.
+            let ends = ends;
+            let Ends { driver, door } = ends;
+            let driving = match start_driver(scope, rt, yard, driver) {
+                Ok(driving) => driving,
+                Err(fault) => return Err(fault),
+            };
+            let Staffed {
+                threads,
+                room,
+                holds,
+            } = staffed;
+            let Programs { program, patrons } = programs;
+            let threads = start_patrons(scope, rt, desk, yard, patrons, threads);
+            let mut door = Door::new(desk, door, yard);
+            let outcome = program.run(rt, &mut door);
+            let (patrons, others) = join_patrons(rt, yard.hub(), threads, room);
+            door.close();
+            let driven = driving.join(rt);
+            drop(holds);
+            let (door, witness) = door.parts();
+            Ok(Joined {
+                driven,
+                door,
+                outcome,
+                patrons,
+                witness,
+                others,
+                of: PhantomData,
+            })
+        },
     )
 }
