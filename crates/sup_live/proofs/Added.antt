@@ -19,8 +19,8 @@ use Rattle.sup_yard.specs.Totals.{children_posted, IsAccounted}
 use Rattle.sup_driver.specs.Leads.{exits_among}
 use Rattle.sup_driver.specs.Restarts.{number_restarted, numbers_of}
 use Rattle.sup_live.specs.Accounts.{IsToldOf}
-use Rattle.sup_threads.specs.Patrons.{AreStartedBy}
-use Rattle.sup_threads.specs.declared.patrons.Patron.{Patron}
+use Rattle.sup_patrons.specs.Patrons.{AreStartedBy}
+use Rattle.sup_patrons.specs.declared.patrons.Patron.{Patron}
 
 noted-append : (xs ys : List Note) → children_noted (xs ++ ys) ≡ children_noted xs ++ children_noted ys
 noted-append [] ys = refl

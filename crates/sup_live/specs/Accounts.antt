@@ -10,8 +10,8 @@ use Rattle.sup_yard.specs.Outboxes.{children_noted}
 use Rattle.sup_yard.specs.Starts.{HasReplies, HasStarted}
 use Rattle.sup_driver.specs.Leads.{exits_among}
 use Rattle.sup_driver.specs.Restarts.{number_restarted, numbers_of}
-use Rattle.sup_threads.specs.declared.patrons.Patron.{Patron}
-use Rattle.sup_threads.specs.Patrons.{AreStartedBy}
+use Rattle.sup_patrons.specs.declared.patrons.Patron.{Patron}
+use Rattle.sup_patrons.specs.Patrons.{AreStartedBy}
 
 -- The account of a crew. As many children were made, and as many of them owe an exit. Each of the others has one exit, which was entered
 -- among the driver's calls, or is held, or left, or not posted; and there is no other exit. Each child that the program's first door

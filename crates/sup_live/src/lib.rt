@@ -2,10 +2,10 @@
 //!
 //! A [`Behaviour`] makes a child: a future of the kit's `futures`, which reads its [`Mailbox`] and is ready with the reason of
 //! its end. A [`Program`] has a [`Door`]: it starts children, sends to them, ends them, asks by every query of a handle, and
-//! makes other doors (these stand in `sup_yard`, `sup_door` and `sup_threads`, and are passed on here). [`run_live`] runs the program in the calling thread.
-//! [`run_live_with_patrons`] also runs others, each in a thread of its own by a door of its own. Beside them a driver enters
-//! the exits, runs children that were restarted at once under their new number, and tries failed restarts again. Few worker
-//! threads poll all children.
+//! makes other doors. What a program needs of `sup_yard`, `sup_door`, `sup_patrons` and `sup_threads` is passed on here.
+//! [`run_live`] runs the program in the calling thread. [`run_live_with_patrons`] also runs others, each in a thread of its own
+//! by a door of its own. Beside them a driver enters the exits, runs children that were restarted at once under their new
+//! number, and tries failed restarts again. Few worker threads poll all children.
 //!
 //! ```text
 //! let plan = Plan { workers: 4, inbox: 4096, retry_after: 1, grace: 5 };
@@ -38,5 +38,6 @@ pub use report::Report;
 pub use run::{run_live, run_live_with_patrons};
 pub use sup_door::Door;
 pub use sup_driver::Tally;
-pub use sup_threads::{LiveFault, Patron, Plan, Program};
+pub use sup_patrons::{Patron, Program};
+pub use sup_threads::{LiveFault, Plan};
 pub use sup_yard::{Alive, Behaviour, Hub, Mailbox, Moments, Office, Yard};

@@ -5,7 +5,7 @@ use std::collections::VecDeque;
 use sup_desk::{Caller, Name, UpdateFault};
 use sup_driver::Tally;
 use sup_inbox::{InboxFull, Note};
-use sup_threads::Patron;
+use sup_patrons::Patron;
 
 /// What a crew did, once all its threads were joined. Each child that it made has one exit, which was entered or is in one of the
 /// lists, or is among those that are owed.

@@ -6,7 +6,7 @@ ghost use Rattle.sup_inbox.specs.Ends.{AreFrom, AreNew};
 ghost use Rattle.sup_ledger.specs.Holdings.{numbers_from};
 ghost use Rattle.sup_yard.specs.Outboxes.{children_in, children_of};
 ghost use Rattle.sup_live.specs.Accounts.{IsToldOf};
-ghost use Rattle.sup_threads.specs.Patrons.{AreStartedBy};
+ghost use Rattle.sup_patrons.specs.Patrons.{AreStartedBy};
 
 use crate::report::Report;
 use arrayvec::ArrayVec;
@@ -23,7 +23,8 @@ use sup_drain::HELD;
 use sup_driver::Driver;
 use sup_inbox::{Inbox, InboxFull, Note, Poster, Taker, settle};
 use sup_ledger::{Account, Ledger, Witness};
-use sup_threads::{Ends, Joined, LiveFault, Nobody, Plan, Program, Programs, run_threads};
+use sup_patrons::{Nobody, Program, Programs};
+use sup_threads::{Ends, Joined, LiveFault, Plan, run_threads};
 use sup_types::{OutOfMemory, Starter};
 use sup_yard::{Behaviour, Ended, Hub, Moments, Office, Yard};
 

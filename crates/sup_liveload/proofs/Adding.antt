@@ -11,7 +11,7 @@ use Rattle.sup_ledger.specs.WeighLaws.{weigh-one}
 use Rattle.sup_yard.specs.Outboxes.{children_in, children_of, children_noted}
 use Rattle.sup_driver.specs.Leads.{exits_among}
 use Rattle.sup_live.specs.Accounts.{IsToldOf}
-use Rattle.sup_threads.specs.declared.patrons.Patron.{Patron}
+use Rattle.sup_patrons.specs.declared.patrons.Patron.{Patron}
 
 pub length-of : (exits : List InboxFull) → length (children_of exits) ≡ length exits
 length-of [] = refl

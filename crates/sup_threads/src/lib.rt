@@ -1,9 +1,8 @@
-//! The threads of a live crew: its workers, its driver, the program and its patrons.
+//! The threads of a live crew: its workers, its driver, and those of its programs.
 //!
-//! A [`Program`] has a door: it starts children, sends to them, ends them, asks by every query of a handle, and makes other
-//! doors. [`run_threads`] runs the program in the calling thread, and each patron in a thread of its own by a door of its own.
-//! Beside them few worker threads poll all children, and a driver enters the exits. `sup_live` makes what they need, and says in
-//! a report what became of them.
+//! [`run_threads`] runs the program in the calling thread, and each patron in a thread of its own by a door of its own. Beside
+//! them few worker threads poll all children, and a driver enters the exits. `sup_live` makes what they need, and says in a
+//! report what became of them.
 //!
 //! ```text
 //! let joined = run_threads(rt, desk, &yard, Ends { driver, door }, Programs { program, patrons }, workers)?;
@@ -15,12 +14,8 @@
 //! That a thread runs is promised by no contract: tests show it.
 #![tactic(auto)]
 
-mod patrons;
 mod plan;
-mod program;
 mod threads;
 
-pub use patrons::{Nobody, Patron, Programs};
 pub use plan::{LiveFault, Plan};
-pub use program::Program;
 pub use threads::{Ends, Joined, run_threads};

@@ -2,11 +2,9 @@
 ghost use Rattle.std.specs.Prelude.{◌≡◌, ◌≤◌, [], IfOk, vec_len, vec_capacity};
 ghost use denote.Param.Send.{IsSend};
 ghost use Rattle.sup_yard.specs.Starts.{HasStarted};
-ghost use Rattle.sup_threads.specs.Patrons.{AreStartedBy};
+ghost use Rattle.sup_patrons.specs.Patrons.{AreStartedBy};
 
-use crate::patrons::{Attended, Attending, Patron, Programs, join_patrons, start_patrons};
 use crate::plan::LiveFault;
-use crate::program::Program;
 use futures::task::Hold;
 use std::marker::PhantomData;
 use std::sync::Wait;
@@ -17,13 +15,16 @@ use sup_desk::{Caller, Desk, Handle, Journal, Name};
 use sup_door::Door;
 use sup_driver::{Driven, Driver};
 use sup_ledger::Witness;
+use sup_patrons::{Attended, Attending, Patron, Program, Programs, join_patrons, start_patrons};
 use sup_types::Starter;
 use sup_yard::{Alive, Behaviour, Office, Yard};
 
 /// The two ends by which a run uses its desk: the driver, and the handle of the program's first door, which has made no call.
 #[derive(Drop)]
 pub struct Ends<'d, N: Name, S: Starter + Drop, Q: Wait + Drop, I: Office, J: Journal + Drop> {
+    /// Enters the exits of the crew's children.
     pub driver: Driver<'d, N, S, Q, I, J>,
+    /// The handle by which the program's first door makes its updates.
     pub door: Handle<'d, N, S, Q, J>,
     ghost fresh: { door.calls ≡ [] },
 }
@@ -31,14 +32,19 @@ pub struct Ends<'d, N: Name, S: Starter + Drop, Q: Wait + Drop, I: Office, J: Jo
 /// What is left once all threads were joined.
 #[derive(Drop)]
 pub struct Joined<N: Name, I: Office, T: Drop, U: Drop> {
+    /// What the driver did.
     pub driven: Driven<N, I>,
+    /// The handle of the program's first door, with the calls that it made.
     pub door: Caller<N>,
+    /// What came of the program.
     pub outcome: T,
+    /// What became of each patron, in their order.
     pub patrons: Vec<Patron<N, U>>,
     /// Shows the children that the door started.
     pub witness: Witness,
     /// Shows the children that the patrons' doors started.
     pub others: Witness,
+    /// Names the crew's inbox.
     pub of: PhantomData<I>,
     ghost of_ledger: { (witness.ledger ≡ I.ledger) × (others.ledger ≡ I.ledger) },
     ghost started: { HasStarted N.template door witness.shown },

@@ -2,7 +2,7 @@ use Rattle.std.proofs.Common.{◌≡◌, ◌+◌, ◌≤◌}
 use Rattle.std.specs.Prelude.{vec_len}
 use Rattle.std.specs.Vec.{vec_capacity}
 use Rattle.std.specs.Vec.Iter.{into_iter_len}
-use Rattle.sup_threads.proofs.patrons.start_patrons.Given as goal
+use Rattle.sup_patrons.proofs.patrons.start_patrons.Given as goal
 
 abbrev pub invariant-loop-patron : goal.invariant-loop-patron
 invariant-loop-patron g l = record {

@@ -4,8 +4,8 @@ use Rattle.sup_types.specs.declared.template.Template.{Template}
 use Rattle.sup_desk.specs.Knowledge.{Knowledge}
 use Rattle.sup_ledger.specs.declared.child.Child.{Child}
 use Rattle.sup_yard.specs.Starts.{HasStarted}
-use Rattle.sup_threads.specs.declared.patrons.Patron.{Patron}
-use Rattle.sup_threads.specs.declared.patrons.Patron.TheVariants.{Ran, NoDoor, NoThread}
+use Rattle.sup_patrons.specs.declared.patrons.Patron.{Patron}
+use Rattle.sup_patrons.specs.declared.patrons.Patron.TheVariants.{Ran, NoDoor, NoThread}
 
 module _ {N T : Type 0} where
   -- the handle of a patron's first door, where the patron ran

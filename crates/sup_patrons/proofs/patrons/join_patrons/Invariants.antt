@@ -2,8 +2,8 @@ use Rattle.std.proofs.Common.{◌≡◌, ◌+◌, ◌≤◌}
 use Rattle.std.specs.Prelude.{vec_len}
 use Rattle.std.specs.Vec.{vec_capacity}
 use Rattle.std.specs.Vec.Iter.{into_iter_len}
-use Rattle.sup_threads.specs.Patrons.{AreStartedBy}
-use Rattle.sup_threads.proofs.patrons.join_patrons.Given as goal
+use Rattle.sup_patrons.specs.Patrons.{AreStartedBy}
+use Rattle.sup_patrons.proofs.patrons.join_patrons.Given as goal
 
 abbrev pub invariant-loop-thread : goal.invariant-loop-thread
 invariant-loop-thread g l = record {

@@ -1,6 +1,6 @@
 //! Patrons: programs in threads of their own, with a door each.
 ghost use Rattle.std.specs.Prelude.{◌≡◌, ◌≤◌, [], vec_len, vec_capacity};
-ghost use Rattle.sup_threads.specs.Patrons.{IsStartedBy, AreStartedBy};
+ghost use Rattle.sup_patrons.specs.Patrons.{IsStartedBy, AreStartedBy};
 
 use crate::program::Program;
 use std::marker::PhantomData;
@@ -31,7 +31,7 @@ pub enum Patron<N: Name, T: Drop> {
 
 /// What a patron leaves in its thread, with a witness of the crew's ledger.
 #[derive(Drop)]
-pub(crate) struct Attended<N: Name, I: Office, T: Drop> {
+pub struct Attended<N: Name, I: Office, T: Drop> {
     patron: Patron<N, T>,
     /// Shows the children that its door started.
     witness: Witness,
@@ -43,7 +43,9 @@ pub(crate) struct Attended<N: Name, I: Office, T: Drop> {
 /// The programs of a crew: one for the thread that runs it, and those of the patrons.
 #[derive(Drop)]
 pub struct Programs<T: Drop, U: Drop> {
+    /// Runs in the thread that runs the crew.
     pub program: T,
+    /// Run in threads of their own, each by a door of its own.
     pub patrons: Vec<U>,
 }
 
@@ -77,7 +79,7 @@ impl<N: Name, B: Behaviour, J: Journal + Drop> Program<N, B> for Nobody<J> {
 }
 
 /// Runs a patron by a door of its own.
-#[tactic(auto, using(crate::proofs::Attended::by_door, crate::proofs::Attended::by_nobody))]
+#[tactic(auto, using(crate::proofs::Joining::by_door, crate::proofs::Joining::by_nobody))]
 fn attend<'t, 'h, 'd, N, S, Q, J, I, B, P, U, R>(
     rt: &R,
     desk: &'d Desk<N, S, Q, J>,
@@ -117,10 +119,10 @@ where
 }
 
 /// The threads of the patrons, in their order. In the place of one that could not be started there is none.
-pub(crate) type Attending<T> = Vec<Option<JoinHandle<T>>>;
+pub type Attending<T> = Vec<Option<JoinHandle<T>>>;
 
 /// Starts a thread for each patron, and lists them where there is room for them.
-pub(crate) fn start_patrons<'s, 'h: 's, 'd: 's, E, N, S, Q, J, I, B, P, U, R>(
+pub fn start_patrons<'s, 'h: 's, 'd: 's, E, N, S, Q, J, I, B, P, U, R>(
     scope: &Scope<'s, E>,
     rt: &'s R,
     desk: &'d Desk<N, S, Q, J>,
@@ -157,7 +159,7 @@ where
 }
 
 /// Waits for a patron's thread, where there is one.
-#[tactic(auto, using(crate::proofs::Attended::by_nobody))]
+#[tactic(auto, using(crate::proofs::Joining::by_nobody))]
 fn join_patron<N: Name, I: Office, M: Drop, P: Wait + Drop, T: Drop, R: Threads + Wait>(
     rt: &R,
     hub: &Hub<I, M, P>,
@@ -175,7 +177,7 @@ fn join_patron<N: Name, I: Office, M: Drop, P: Wait + Drop, T: Drop, R: Threads 
 
 /// Waits for the patrons, and says what became of each, in a list that has room for them. The witness shows the children that
 /// they started.
-pub(crate) fn join_patrons<N: Name, I: Office, M: Drop, P: Wait + Drop, T: Drop, R: Threads + Wait>(
+pub fn join_patrons<N: Name, I: Office, M: Drop, P: Wait + Drop, T: Drop, R: Threads + Wait>(
     rt: &R,
     hub: &Hub<I, M, P>,
     threads: Attending<Attended<N, I, T>>,

@@ -1,8 +1,8 @@
 -- One patron more, with the children that it started.
 use Rattle.std.proofs.Common.{rules, ap, sym, subst, [], ◌∷◌, ◌++◌}
-use Rattle.sup_threads.specs.Patrons.{AreStartedBy}
-use Rattle.sup_threads.proofs.Attended.{one_patron_more}
-use Rattle.sup_threads.proofs.patrons.join_patrons.Goals as goal
+use Rattle.sup_patrons.specs.Patrons.{AreStartedBy}
+use Rattle.sup_patrons.proofs.Joining.{one_patron_more}
+use Rattle.sup_patrons.proofs.patrons.join_patrons.Goals as goal
 
 pub loop-thread-preserved : goal.loop-thread-preserved
 loop-thread-preserved g c =

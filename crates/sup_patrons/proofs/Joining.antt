@@ -5,8 +5,8 @@ use Rattle.sup_types.specs.declared.template.Template.{Template}
 use Rattle.sup_desk.specs.Knowledge.{Knowledge}
 use Rattle.sup_ledger.specs.declared.child.Child.{Child}
 use Rattle.sup_yard.specs.Starts.{HasStarted}
-use Rattle.sup_threads.specs.Patrons.{door_of, IsStartedBy, AreStartedBy}
-use Rattle.sup_threads.specs.declared.patrons.Patron.{Patron}
+use Rattle.sup_patrons.specs.Patrons.{door_of, IsStartedBy, AreStartedBy}
+use Rattle.sup_patrons.specs.declared.patrons.Patron.{Patron}
 
 -- a patron that ran, and one that did not
 pub by_door : {N T : Type 0} (template : Template) (patron : Patron N T) (door : Knowledge) (children : List Child) → door_of patron ≡ Some door → HasStarted template door children → IsStartedBy template patron children

@@ -1,6 +1,6 @@
 -- What `attend` asks to be sent is what the bounds of the closure say.
 use denote.Param.Send.{sendable}
-use Rattle.sup_threads.proofs.patrons.fn.start_patrons.spawn.Goals as goal
+use Rattle.sup_patrons.proofs.patrons.fn.start_patrons.spawn.Goals as goal
 
 pub attend-requires-send-N : goal.attend-requires-send-N
 attend-requires-send-N g c _ _ = search sendable
