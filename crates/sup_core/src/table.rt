@@ -5,7 +5,7 @@
 //! half of them are empty, the listed children move to the front in their order, and the places behind them are given back.
 //! That needs no memory.
 //!
-//! A number is looked for where it stands if none in front of it is missing, or it is among the last, and only then by halves.
+//! A number is looked for where it stands if none in front of it, or none behind it, is missing, and only then by halves.
 ghost use Rattle.std.specs.Prelude.{true, false, ◌≡◌, ◌≤◌, ◌<◌, ◌+◌, ◌-◌, ◌*◌, ◌^◌, ℕ, List, [], ◌∷◌, ◌++◌, IfOk, IfErr, None, Some, map, length, nat_eq, is_some, slice_index_or, MatchBool, MatchOption, IsOk, IsSome, IfSome, IfNone, slice_get, if◌then◌else◌};
 ghost use Rattle.std.specs.List.{list_any, cons_option};
 ghost use Rattle.std.specs.Option.{option_copied, option_map};
@@ -236,7 +236,7 @@ fn child_of(place: &Place) -> Option<&Child>
 }
 
 /// The index of this number's place, if it has one. It is looked for where it stands if no number in front of it is
-/// missing, and in the last place; and then by halves.
+/// missing, in the last place, and where it stands if none behind it is missing; and then by halves.
 fn index_of<A: Allocator>(places: &Places<A>, number: u64, place: usize) -> Option<usize>
     requires { (high : ℕ) × Rises 0 places.now.items high }
     ensures absent { IfNone result (lookup (nat_eq number) places.now.items ≡ None) }
@@ -249,6 +249,10 @@ fn index_of<A: Allocator>(places: &Places<A>, number: u64, place: usize) -> Opti
     let likely = likely_index(places, number);
     if stands_at(places, number, likely) {
         return Some(likely);
+    }
+    let from_last = index_from_last(places, number);
+    if stands_at(places, number, from_last) {
+        return Some(from_last);
     }
     match searched(places, number) {
         Ok(index) => Some(index),
@@ -267,6 +271,14 @@ fn stands_at<A: Allocator>(places: &Places<A>, number: u64, index: usize) -> boo
 fn likely_index<A: Allocator>(places: &Places<A>, number: u64) -> usize {
     match places.first() {
         Some((first, _)) => (number.saturating_sub(*first) as usize).min(places.len() - 1),
+        None => 0,
+    }
+}
+
+/// Where this number stands if none behind it is missing, as of those that were listed since places were last closed up.
+fn index_from_last<A: Allocator>(places: &Places<A>, number: u64) -> usize {
+    match places.last() {
+        Some((last, _)) => (places.len() - 1).saturating_sub(last.saturating_sub(number) as usize),
         None => 0,
     }
 }
