@@ -13,7 +13,7 @@ use crate::ticket::Ticket;
 use crate::view::View;
 use core::mem::replace_with;
 use left_right::writer::Writer;
-use std::alloc::Global;
+use std::alloc::{AllocError, Global};
 use std::marker::Model;
 use std::sync::Wait;
 use sup_types::{OutOfMemory, Template};
@@ -52,15 +52,24 @@ fn queue<R: Wait>(rt: &R, writer: &mut Ends, batch: Batch)
     }
 }
 
-/// Shows the copy that has absorbed what is queued.
-fn turn<R: Wait>(rt: &R, writer: Ends) -> Ends
-    requires { Follows writer.desk.shown.value (fold absorbed writer.desk.shown.value (drop writer.behind writer.log.items)) }
-    ensures known { view result.desk.place ≡ known result.desk.shown.value }
-    ensures shown { result.desk.shown.value ≡ fold absorbed writer.desk.shown.value (drop writer.behind writer.log.items) }
-    ensures none { drop result.behind result.log.items ≡ [] }
+/// Shows the copy that has absorbed what is queued. The one call of `publish_as` stands here, and the writer is handed over by
+/// reference, so that it is turned where it stands and never moved.
+fn turn<R: Wait>(rt: &R, writer: &mut Ends)
+    requires { Follows writer.old.desk.shown.value (fold absorbed writer.old.desk.shown.value (drop writer.old.behind writer.old.log.items)) }
+    ensures known { view writer.new.desk.place ≡ known writer.new.desk.shown.value }
+    ensures shown { writer.new.desk.shown.value ≡ fold absorbed writer.old.desk.shown.value (drop writer.old.behind writer.old.log.items) }
+    ensures none { drop writer.new.behind writer.new.log.items ≡ [] }
 {
-    let (writer, _absorbed) = writer.publish_as::<Sees, R>(rt);
-    writer
+    let _absorbed = replace_with(
+        writer,
+        rt,
+        |writer: Ends, rt: &R| -> (Ends, Result<(), AllocError>)
+            requires { Follows writer.desk.shown.value (fold absorbed writer.desk.shown.value (drop writer.behind writer.log.items)) }
+            ensures known { view result.0.desk.place ≡ known result.0.desk.shown.value }
+            ensures shown { result.0.desk.shown.value ≡ fold absorbed writer.desk.shown.value (drop writer.behind writer.log.items) }
+            ensures none { drop result.0.behind result.0.log.items ≡ [] }
+        { writer.publish_as::<Sees, R>(rt) },
+    );
 }
 
 /// Publishes a batch that changes nothing.
@@ -80,7 +89,8 @@ fn stir<R: Wait>(alloc: Global, rt: &R, writer: Ends, front: &Ticket) -> Result<
         drop(writer.take(rt));
         return Err(OutOfMemory);
     }
-    Ok(turn(rt, writer))
+    turn(rt, &mut writer);
+    Ok(writer)
 }
 
 /// A writer of two supervisors of this template after no entry, for so many lenses at a time.
@@ -140,7 +150,7 @@ impl Copies {
         ensures { self.new ≡ absorbed self.old batch }
     {
         queue(rt, &mut self.writer, batch);
-        replace_with(&mut self.writer, rt, |writer, rt| (turn(rt, writer), ()))
+        turn(rt, &mut self.writer);
     }
 
     /// Ends them. It waits for the lenses that look.
