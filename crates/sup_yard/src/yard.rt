@@ -23,6 +23,9 @@ use sup_desk::{Handle, Journal, Name};
 use sup_ledger::{Child, Witness};
 use sup_types::{Operation, OutOfMemory, Reply, Seen, Starter, Text};
 
+/// So many workers share a queue of the children that are to be polled.
+const WORKERS_OF_A_QUEUE: usize = 4;
+
 /// The tasks of a crew, with what they share. By its type, its children may end for the reasons of which the office may be told.
 #[derive(Drop)]
 pub struct Yard<'h, I: Office, B: Behaviour, P: Wait + Drop, F: Future> {
@@ -125,7 +128,10 @@ impl<'h, I: Office, B: Behaviour, P: Wait + Drop> Yard<'h, I, B, P, Alive<'h, I,
         requires { I.may_end ≡ B.may_end behaviour.now }
         ensures { IfOk result (λ yard. yard.grace ≡ grace) }
     {
-        let Ok(tasks) = TaskSet::new(rt, Doorbell::parking(), workers) else {
+        // A worker takes the next child of its own queue at once. It leaves the only one of another queue to that queue's workers
+        // for a while, though they may all be asleep.
+        let queues = (workers / WORKERS_OF_A_QUEUE).max(1);
+        let Ok(tasks) = TaskSet::new(rt, Doorbell::parking(), queues) else {
             return Err(OutOfMemory);
         };
         Ok(Yard {
