@@ -160,11 +160,20 @@ time_single_exits(Supervisor, Children, Alive) ->
     tell("exit, one at a time", Alive, Took, ?SINGLES, count(Supervisor)),
     Others.
 
+start_timed(Supervisor, Sum) ->
+    Start = now_nanoseconds(),
+    {ok, Child} = supervisor:start_child(Supervisor, []),
+    Took = now_nanoseconds() - Start,
+    receive {began, Child} -> {Child, Sum + Took} end.
+
+%% Until each start returns, and until the child has had its first turn, which is its init.
 time_single_starts(Supervisor, Children, Alive) ->
     Start = now_nanoseconds(),
-    New = [start(Supervisor) || _ <- lists:seq(1, ?SINGLES)],
+    {New, Making} = lists:mapfoldl(fun(_, Sum) -> start_timed(Supervisor, Sum) end, 0, lists:seq(1, ?SINGLES)),
     Took = now_nanoseconds() - Start,
-    tell("start, one at a time", Alive, Took, ?SINGLES, count(Supervisor)),
+    Active = count(Supervisor),
+    tell("start, one at a time", Alive, Making, ?SINGLES, Active),
+    tell("start and first turn, one at a time", Alive, Took, ?SINGLES, Active),
     Children ++ New.
 
 time_exits(Supervisor, Children, Alive) ->

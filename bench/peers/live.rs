@@ -385,13 +385,17 @@ impl Timing<'_> {
     }
 
     fn time_single_starts(&self) {
-        let start = Instant::now();
+        let (all, mut making) = (Instant::now(), Duration::ZERO);
         for _ in 0..SINGLES {
             self.board.began.want(1);
+            let one = Instant::now();
             self.start();
+            making += one.elapsed();
             self.board.began.wait();
         }
-        tell("start, one at a time", self.alive, start.elapsed(), SINGLES, self.count());
+        let (took, active) = (all.elapsed(), self.count());
+        tell("start, one at a time", self.alive, making, SINGLES, active);
+        tell("start and first turn, one at a time", self.alive, took, SINGLES, active);
     }
 
     fn time_exits(&self) {
