@@ -12,6 +12,15 @@ IsLineFault fault.ReadFault = ⊥
 IsLineFault fault.WriteFault = ⊥
 IsLineFault fault.TooLong = ⊥
 
+-- what a history text can have
+abbrev pub IsTextFault : Fault → Type 0
+IsTextFault fault.OutOfMemory = ⊥
+IsTextFault fault.BadTemplate = Unit {0}
+IsTextFault fault.BadLine = Unit {0}
+IsTextFault fault.ReadFault = ⊥
+IsTextFault fault.WriteFault = ⊥
+IsTextFault fault.TooLong = ⊥
+
 -- what the answering of lines can have: a fault of writing only where the writer refused
 abbrev pub HasLineCause : Bool → Fault → Type 0
 HasLineCause has_refused fault.OutOfMemory = Unit {0}

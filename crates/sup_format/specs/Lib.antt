@@ -5,3 +5,4 @@ pub mod Causes
 pub mod LineLaws
 pub mod ReadingLaws
 pub mod HistoryLaws
+pub mod HistorySteps

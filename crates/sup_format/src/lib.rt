@@ -2,8 +2,9 @@
 //!
 //! A script is a header, which gives the template, and a line for each command: `read_header` and `read_line` read them. A
 //! history text is a template and the entries of a history, with what the start function answered to each. `read_history`
-//! reads one, and `write_history` writes one; `append_header` and `append_entry` write one line after line. `write_reply` writes the text of a reply. `sup_script` runs whole texts by
-//! these, and passes on what its callers need.
+//! reads one, and `write_history` writes one. One is read line after line by `begin_history` and `next_entry`, where its entries
+//! need not be kept, and written by `append_header` and `append_entry`. `write_reply` writes the text of a reply. `sup_script`
+//! runs whole texts by these, and passes on what its callers need.
 //!
 //! What the layer above may rely on are what lines mean (`LineMeans`, `Spells`) and the text of each reply
 //! (`Writing.Replies`). The reader and the writer are watched ones, which know what they refused; an [`Outbox`] tells which
@@ -27,7 +28,9 @@ mod write;
 pub use fault::{Fault, ScriptFault};
 pub use read::command::{Command, read_line};
 pub use read::header::read_header;
-pub use read::history::{History, HistoryFault, read_history};
+pub use read::history::{
+    History, HistoryFault, begin_history, check_entries, next_entry, read_history,
+};
 pub use read::input::{MOST_BYTES, PIECE, line_after, read_whole};
 pub use read::lines::{ended_part, first_line};
 pub use read::tokens::read_reason;

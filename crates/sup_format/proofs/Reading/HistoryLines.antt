@@ -36,7 +36,7 @@ use Rattle.sup_format.specs.Reading.Headers.{IsTemplateOf, FitsParts}
 use Rattle.sup_format.specs.Reading.History.{answer_words, entry_words, deed_words, IsAnswer, IsEntry, EntryMeans, AreEntries, first_words, template_parts, SpellsAs}
 use Rattle.sup_format.proofs.Reading.Cuts.{words-split, words-one}
 use Rattle.sup_format.specs.LineLaws.{lines_at, lines-append, full-append, full-both}
-use Rattle.sup_format.proofs.Reading.Histories.{entries_push}
+use Rattle.sup_format.specs.HistorySteps.{entries_push}
 
 -- ---- words with neither a space nor a line feed
 

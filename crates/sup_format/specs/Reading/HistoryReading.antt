@@ -45,6 +45,20 @@ HistoryStops bytes number fault.ReadFault = ⊥
 HistoryStops bytes number fault.WriteFault = ⊥
 HistoryStops bytes number fault.TooLong = ⊥
 
+-- ---- how far the reading came
+
+-- the lines so far, which are all ended, spell the template and the entries, and this is what is left
+pub record IsReadTo (text rest : List ℕ) (template : Template) (entries : List Entry) (line : ℕ) : Type 0 where
+  pub done : List ℕ
+  pub parts : text ≡ done ++ rest
+  pub full : IsFull done
+  pub first : List ℕ
+  pub body : List (List ℕ)
+  pub lines : lines_of done ≡ first ∷ body
+  pub first_is : IsFirst AreFirstWords first template
+  pub entries_are : AreEntries body entries
+  pub number_is : line ≡ length body + 2
+
 -- ---- parts of a line
 
 -- the five words of version 1, and the seven of version 2

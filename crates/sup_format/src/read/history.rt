@@ -1,12 +1,16 @@
 //! History texts: a template, and the entries of a history.
 
-ghost use Rattle.std.specs.Prelude.{◌≡◌, MatchOption, MatchResult};
+ghost use Rattle.std.specs.Prelude.{◌≡◌, ◌+◌, ◌<◌, ◌^◌, ℕ, List, [], length, MatchOption, MatchResult, IfErr};
+ghost use Rattle.sup_types.specs.declared.template.Template.{Template as AnTemplate};
+ghost use Rattle.sup_types.specs.declared.history.Entry.{Entry as AnEntry};
+ghost use Rattle.sup_format.specs.declared.fault.Fault.TheVariants.{BadLine};
+ghost use Rattle.sup_format.specs.Causes.{IsTextFault};
 ghost use Rattle.sup_format.specs.Reading.Words.{words_left};
 ghost use Rattle.sup_format.specs.Reading.Headers.{HasFirst, HasParts};
 ghost use Rattle.sup_format.specs.Reading.History.{AreFirstWords, EntryMeans, MeansNoEntry, Spells};
-ghost use Rattle.sup_format.specs.Reading.HistoryReading.{HistoryStops, HasPlain, HasMarked, HasDeed, HasAnswer, HasFailure, IsNextEntry};
+ghost use Rattle.sup_format.specs.Reading.HistoryReading.{HistoryStops, IsReadTo, HasPlain, HasMarked, HasDeed, HasAnswer, HasFailure, IsNextEntry};
 
-use crate::fault::Fault;
+use crate::fault::{Fault, ScriptFault};
 use crate::read::header::{Parts, next_limits, read_shutdown, template_of};
 use crate::read::tokens::{after_word, next_number, next_operation, read_verb};
 use crate::read::words::{next_word, read_number, split_once};
@@ -44,6 +48,16 @@ impl HistoryFault {
     }
 }
 
+impl From<HistoryFault> for ScriptFault {
+    ghost use Rattle.std.specs.Prelude.{◌≡◌};
+
+    ghost from_gives = { λ e f. (f.fault ≡ e.fault) × (f.line ≡ e.line) };
+
+    fn from(HistoryFault { fault, line }: HistoryFault) -> ScriptFault {
+        ScriptFault { fault, line }
+    }
+}
+
 /// Reads a history text of version 1 or 2. The first fault by line is answered; then nothing is kept.
 ///
 /// A text of version 1 is read as plain and never. A last line without a line feed is a bad line, and so is an empty
@@ -51,17 +65,7 @@ impl HistoryFault {
 pub fn read_history<A: Allocator + Copy>(alloc: A, text: &[u8]) -> Result<History<A>, HistoryFault>
     ensures { MatchResult result (λ history. Spells text.now history.template history.entries.items) (λ e. HistoryStops text.now e.line e.fault) }
 {
-    let (first, after) = match split_once(text, b'\n') {
-        Some(parts) => parts,
-        None => {
-            let fault = Fault::BadLine;
-            return Err(HistoryFault { fault, line: 1 });
-        }
-    };
-    let template = match read_first(first) {
-        Ok(template) => template,
-        Err(fault) => return Err(HistoryFault { fault, line: 1 }),
-    };
+    let (template, after) = begin_history(text)?;
     let mut entries = Vec::new(alloc);
     let mut line = 2;
     let mut rest = after;
@@ -81,6 +85,50 @@ pub fn read_history<A: Allocator + Copy>(alloc: A, text: &[u8]) -> Result<Histor
         rest = after;
     }
     Ok(History { template, entries })
+}
+
+/// The template of a history text's first line, and the text behind it; or what is wrong with that line.
+///
+/// The entries behind it are read by [`next_entry`], one after the other.
+pub fn begin_history(text: &[u8]) -> Result<(Template, &[u8]), HistoryFault>
+    ensures begun { MatchResult result (λ p. IsReadTo text.now p.1.now p.0 [] 2) (λ e. HistoryStops text.now e.line e.fault) }
+    ensures fault { IfErr result (λ e. IsTextFault e.fault) }
+{
+    let (first, after) = match split_once(text, b'\n') {
+        Some(parts) => parts,
+        None => {
+            let fault = Fault::BadLine;
+            return Err(HistoryFault { fault, line: 1 });
+        }
+    };
+    match read_first(first) {
+        Ok(template) => Ok((template, after)),
+        Err(fault) => Err(HistoryFault { fault, line: 1 }),
+    }
+}
+
+/// Whether each line of the rest of a history text spells an entry, and is ended; or the first that is none. `line` is the number
+/// of the next. It takes no memory.
+pub fn check_entries(rest: &[u8], line: u64) -> Result<(), HistoryFault>
+    requires { line + length rest.now < 2 ^ 64 }
+    ensures stops { (text : List ℕ) (template : AnTemplate) (entries : List AnEntry) → IsReadTo text rest.now template entries line →
+        MatchResult result (λ _. (all : List AnEntry) × Spells text template all) (λ e. HistoryStops text e.line e.fault) }
+    ensures fault { IfErr result (λ e. e.fault ≡ BadLine) }
+{
+    let mut line = line;
+    let mut rest = rest;
+    while !rest.is_empty() {
+        let (_, after) = match next_entry(rest) {
+            Some(found) => found,
+            None => {
+                let fault = Fault::BadLine;
+                return Err(HistoryFault { fault, line });
+            }
+        };
+        line += 1;
+        rest = after;
+    }
+    Ok(())
 }
 
 /// The template of a history's first line, or what is wrong with the line.
@@ -127,8 +175,8 @@ fn read_marked(rest: Option<&[u8]>) -> Option<Parts>
     })
 }
 
-/// The entry that the next line spells, and the text after that line.
-fn next_entry(rest: &[u8]) -> Option<(Entry, &[u8])>
+/// The entry that the next line spells, and the text after that line. None where no line is ended, or it spells no entry.
+pub fn next_entry(rest: &[u8]) -> Option<(Entry, &[u8])>
     ensures { IsNextEntry rest.now result }
 {
     let (line, after) = split_once(rest, b'\n')?;

@@ -7,6 +7,7 @@ use Rattle.sup_core.specs.Account.{reply_after}
 use Rattle.sup_format.specs.declared.fault.Fault.{Fault}
 use Rattle.sup_format.specs.declared.fault.Fault.TheVariants as fault
 use Rattle.sup_format.specs.declared.fault.ScriptFault.{ScriptFault}
+use Rattle.sup_format.specs.Causes.{IsTextFault}
 use Rattle.sup_format.specs.Reading.Headers.{IsFirst}
 use Rattle.sup_format.specs.Reading.History.{AreFirstWords, AreEntries, Spells}
 use Rattle.sup_format.specs.Reading.HistoryReading.{HistoryStops}
@@ -43,10 +44,13 @@ ReplyStops lines number written fault.ReadFault = ⊥
 ReplyStops lines number written fault.WriteFault = IsCutShort Replays lines number written
 ReplyStops lines number written fault.TooLong = ⊥
 
--- all replies were written, or it stopped in a line
-abbrev pub RepliesGive : List (List ℕ) → Template → List Entry → Option (List ℕ) → Option (List ℕ) → Result (Unit {0}) ScriptFault → Type 0
-RepliesGive lines template entries old new (Ok u) = Appends old new (entries_text template [] entries)
-RepliesGive lines template entries old new (Err e) = (written : List ℕ) × Appends old new written × ReplyStops lines e.line written e.fault
+-- what came of a text: the replies to its entries were written; or it has a fault, and nothing was written; or it has none, and
+-- the making or the writing of the replies stopped
+abbrev pub TextGives : List ℕ → Option (List ℕ) → Option (List ℕ) → Result (Unit {0}) ScriptFault → Type 0
+TextGives text old new (Ok u) = (template : Template) × (entries : List Entry) × Spells text template entries × Appends old new (entries_text template [] entries)
+TextGives text old new (Err e) =
+    (HistoryStops text e.line e.fault × IsTextFault e.fault × Appends old new [])
+    ⊎ ((template : Template) × (entries : List Entry) × (written : List ℕ) × Spells text template entries × Appends old new written × ReplyStops (lines_of text) e.line written e.fault)
 
 -- ---- a whole replay
 
@@ -66,10 +70,11 @@ pub record HasFaultyInput (left : Option (List ℕ)) (given past written : List 
   pub line_is : e.line ≡ length (lines_of front) + 1
   pub none : written ≡ []
 
--- the input ended, and the text has a fault, or there was no memory for what it spells; nothing was written
+-- the input ended, and the text has a fault; nothing was written
 pub record HasFaultyText (left : Option (List ℕ)) (given past written : List ℕ) (e : ScriptFault) : Type 0 where
   pub ended : EndsReading left given past (Ok tt)
   pub stops : HistoryStops given e.line e.fault
+  pub kind : IsTextFault e.fault
   pub none : written ≡ []
 
 -- the input ended and the text has no fault, but the making or the writing of the replies stopped

@@ -4,9 +4,8 @@ ghost use Rattle.std.specs.Prelude.{◌≡◌, ◌≤◌, ◌<◌, ◌+◌, ◌+
 ghost use Rattle.sup_types.specs.declared.history.Entry.{Entry as AnEntry};
 ghost use Rattle.sup_core.specs.Account.{IsAfter, reply_after};
 ghost use Rattle.sup_format.specs.Causes.{HasCause, HasLineCause};
-ghost use Rattle.sup_format.specs.Reading.Headers.{IsFirst};
-ghost use Rattle.sup_format.specs.Reading.History.{AreFirstWords, AreEntries};
-ghost use Rattle.sup_script.specs.Running.Replays.{IsReplay, RepliesGive};
+ghost use Rattle.sup_format.specs.Reading.HistoryReading.{IsReadTo};
+ghost use Rattle.sup_script.specs.Running.Replays.{IsReplay, TextGives};
 ghost use Rattle.sup_format.specs.Writing.Replies.{reply_text};
 
 use crate::explain::FaultyLine;
@@ -14,10 +13,10 @@ use std::alloc::Allocator;
 use std::io::{Read, Write};
 use sup_core::Sup;
 use sup_format::{
-    Fault, HistoryFault, Outbox, ScriptFault, WatchedReader, WatchedWriter, line_after,
-    read_history, read_whole, write_reply,
+    Fault, Outbox, ScriptFault, WatchedReader, WatchedWriter, begin_history, check_entries,
+    line_after, next_entry, read_whole, write_reply,
 };
-use sup_types::{Entry, OutOfMemory, Template};
+use sup_types::{Entry, OutOfMemory};
 
 /// Reads a history text to its end, and then writes the reply of each entry, one a line, from an empty supervisor.
 ///
@@ -63,15 +62,17 @@ pub fn replay_with_line<A: Allocator + Copy, R: Read, W: Write>(
         let line = line_after(text.as_slice());
         return Err(ScriptFault { fault, line });
     }
-    let history = match read_history(alloc, text.as_slice()) {
-        Ok(history) => history,
-        Err(HistoryFault { fault, line }) => {
-            keep_line(&text, line, faulty);
-            return Err(ScriptFault { fault, line });
-        }
-    };
-    let entries = history.entries.as_slice();
-    answer_entries(alloc, history.template, entries, writer)
+    let outcome = replay_text(alloc, text.as_slice(), writer);
+    if let Err(
+        ScriptFault {
+            fault: Fault::BadTemplate | Fault::BadLine,
+            line,
+        },
+    ) = outcome
+    {
+        keep_line(&text, line, faulty);
+    }
+    outcome
 }
 
 /// Keeps the line of this number, from 1 on.
@@ -84,42 +85,42 @@ fn keep_line<A: Allocator>(text: &Vec<u8, A>, number: u64, faulty: &mut FaultyLi
     }
 }
 
-/// Writes the replies to the entries of a history that begins with a template.
-fn answer_entries<A: Allocator + Copy, W: Write>(
+/// Writes the replies to the entries of a history text, once all of it was read.
+fn replay_text<A: Allocator + Copy, W: Write>(
     alloc: A,
-    template: Template,
-    entries: &[Entry],
+    text: &[u8],
     writer: &mut WatchedWriter<W>,
 ) -> Result<(), ScriptFault>
-    requires { length entries.now ≤ template.entries }
-    ensures given { (first : List ℕ) (body : List (List ℕ)) → IsFirst AreFirstWords first template → AreEntries body entries.now →
-        RepliesGive (first ∷ body) template entries.now (W.contents writer.old.writer) (W.contents writer.new.writer) result }
+    requires { length text.now ≤ 16777216 }
+    ensures given { TextGives text.now (W.contents writer.old.writer) (W.contents writer.new.writer) result }
     ensures cause { IfErr result (λ e. HasLineCause writer.new.has_refused e.fault) }
 {
+    let (template, rest) = begin_history(text)?;
     match Sup::new(alloc, template) {
-        Ok(sup) => answer_by(alloc, sup, entries, writer),
+        Ok(sup) => answer_by(alloc, sup, rest, writer),
         Err(OutOfMemory) => {
+            check_entries(rest, 2)?;
             let fault = Fault::OutOfMemory;
             Err(ScriptFault { fault, line: 1 })
         }
     }
 }
 
-/// Writes the replies to the entries, from a supervisor that none was entered in.
+/// Writes the replies to the entries that the rest of a history text spells, from a supervisor that none was entered in.
 fn answer_by<A: Allocator + Copy, W: Write>(
     alloc: A,
     mut sup: Sup<A>,
-    entries: &[Entry],
+    rest: &[u8],
     writer: &mut WatchedWriter<W>,
 ) -> Result<(), ScriptFault>
     requires empty { IsAfter sup [] }
-    requires room { length entries.now ≤ sup.template.entries }
-    ensures given { (first : List ℕ) (body : List (List ℕ)) → IsFirst AreFirstWords first sup.template → AreEntries body entries.now →
-        RepliesGive (first ∷ body) sup.template entries.now (W.contents writer.old.writer) (W.contents writer.new.writer) result }
+    requires room { length rest.now ≤ sup.template.entries }
+    requires short { length rest.now ≤ 16777216 }
+    ensures given { (text : List ℕ) → IsReadTo text rest.now sup.template [] 2 → TextGives text (W.contents writer.old.writer) (W.contents writer.new.writer) result }
     ensures cause { IfErr result (λ e. HasLineCause writer.new.has_refused e.fault) }
 {
     let mut outbox = Outbox::new(alloc, writer);
-    let outcome = answer_from(&mut sup, &mut outbox, entries);
+    let outcome = answer_from(&mut sup, &mut outbox, rest);
     // Taken apart, the outbox gives the writer back, and with it what is known of it.
     let Outbox {
         bytes,
@@ -130,30 +131,39 @@ fn answer_by<A: Allocator + Copy, W: Write>(
     outcome
 }
 
-/// Writes the replies to the entries, from a supervisor that none was entered in. Nothing waits before.
+/// Answers the entries that the rest of a history text spells, from a supervisor that none was entered in, and writes the replies
+/// once all was read. Nothing waits before.
 fn answer_from<A: Allocator + Copy, W: Write>(
     sup: &mut Sup<A>,
     outbox: &mut Outbox<'_, A, W>,
-    entries: &[Entry],
+    rest: &[u8],
 ) -> Result<(), ScriptFault>
     requires empty { IsAfter sup.old [] }
-    requires room { length entries.now ≤ sup.old.template.entries }
+    requires room { length rest.now ≤ sup.old.template.entries }
+    requires short { length rest.now ≤ 16777216 }
     requires bytes { outbox.old.bytes.items ≡ [] }
     requires ends { outbox.old.ends.items ≡ [] }
-    ensures given { (first : List ℕ) (body : List (List ℕ)) → IsFirst AreFirstWords first sup.old.template → AreEntries body entries.now →
-        RepliesGive (first ∷ body) sup.old.template entries.now (W.contents outbox.old.writer.now.writer) (W.contents outbox.new.writer.now.writer) result }
+    ensures given { (text : List ℕ) → IsReadTo text rest.now sup.old.template [] 2 →
+        TextGives text (W.contents outbox.old.writer.now.writer) (W.contents outbox.new.writer.now.writer) result }
     ensures cause { IfErr result (λ e. HasLineCause outbox.new.writer.now.has_refused e.fault) }
     ensures same { outbox.new.writer.ghost_name ≡ outbox.old.writer.ghost_name }
 {
     let mut next = 2;
-    for entry in entries {
-        if let Err(OutOfMemory) = answer_entry(entry, sup, outbox) {
+    let mut rest = rest;
+    while !rest.is_empty() {
+        let Some((entry, after)) = next_entry(rest) else {
+            let fault = Fault::BadLine;
+            return Err(ScriptFault { fault, line: next });
+        };
+        if let Err(OutOfMemory) = answer_entry(&entry, sup, outbox) {
+            // A fault of the text goes first, so what is left is read before the replies are written.
+            check_entries(after, next + 1)?;
             outbox.flush(next)?;
             let fault = Fault::OutOfMemory;
             return Err(ScriptFault { fault, line: next });
         }
         next += 1;
-        outbox.flush_if_full(next)?;
+        rest = after;
     }
     outbox.flush(next)
 }

@@ -1,5 +1,5 @@
 use Rattle.std.proofs.Common.{◌+◌, ◌≤◌, length}
-use Rattle.sup_format.proofs.Reading.Histories.{IsReadTo}
+use Rattle.sup_format.specs.Reading.HistoryReading.{IsReadTo}
 use Rattle.sup_format.proofs.read.history.read_history.Given as goal
 
 abbrev pub invariant-loop-rest : goal.invariant-loop-rest
