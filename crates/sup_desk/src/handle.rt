@@ -291,11 +291,11 @@ impl<'d, N: Name, D> HandleOf<'d, N, D> {
         told
     }
 
-    /// Has what is pending, all of which is its own, recorded and published. A ticket for all that is published then.
+    /// Has what is pending, all of which is its own, recorded and published.
     pub(crate) fn commit<R: Wait + Drop, J: Journal + Drop>(
         &mut self,
         leaf: &mut Leaf<N, R, J>,
-    ) -> Result<Ticket, JournalFault>
+    ) -> Result<(), JournalFault>
         requires going { leaf.old.fault ≡ None }
         requires front { (self.old.front ≡ leaf.old.published) × (self.old.editions ≡ leaf.old.editions) }
         requires own { entries_of leaf.old.published self.old.number ≡ self.old.calls }
@@ -303,14 +303,13 @@ impl<'d, N: Name, D> HandleOf<'d, N, D> {
         requires mine { entries_of leaf.old.pending self.old.number ≡ leaf.old.pending }
         ensures leaf { OnOk result (leaf.new ≡ record leaf.old { editions = leaf.old.editions ++ in_one_step leaf.old.pending; published = leaf.old.published ++ leaf.old.pending; pending = [] }) }
         ensures handle { OnOk result (self.new ≡ with_entries self.old leaf.old.editions leaf.old.published leaf.old.pending) }
-        ensures ticket { IfOk result (λ t. t ≡ record { press = N.press; editions = self.new.editions; front = self.new.front }) }
         ensures err { IfErr result (λ f. (leaf.new ≡ record leaf.old { fault = Some f }) × J.may_fail f) }
         ensures kept { OnErr result (self.new ≡ self.old) }
     {
         leaf.commit(&mut self.claim)?;
         let ticket = leaf.tell();
         let _ = self.asker.learn(&ticket);
-        Ok(ticket)
+        Ok(())
     }
 
     /// Whether these are handle 1, handle 2, .., in the order of making, as an audit asks for them.

@@ -120,7 +120,12 @@ fn enter_one<N: Name, D, S: Starter, R: Wait + Drop, J: Journal + Drop>(
         operation,
     )?;
     match handle.commit(&mut book.leaf) {
-        Ok(ticket) => Ok(Done { reply, ticket }),
+        // (The ticket is told here, and not handed on by `commit`: what was just written in two pieces is waited for where it is
+        // read as one.)
+        Ok(()) => Ok(Done {
+            reply,
+            ticket: book.leaf.tell(),
+        }),
         Err(fault) => Err(UpdateFault::Journal(fault)),
     }
 }
@@ -231,9 +236,9 @@ fn enter_met<N: Name, D, S: Starter, R: Wait + Drop, J: Journal + Drop, A: Alloc
     );
     let committed = handle.commit(&mut book.leaf);
     match committed {
-        Ok(ticket) => {
+        Ok(()) => {
             drop_first(operations, replies.len());
-            Ok((ticket, fault))
+            Ok((book.leaf.tell(), fault))
         }
         Err(broken) => {
             replies.clear();
