@@ -247,6 +247,8 @@ impl<A: Allocator + Copy> Sup<A> {
         self.advance(entry, asked.place())
     }
 
+    // (Inlined, as `perform` and `terminate` are, so that the reply is not written in pieces and then read as one, which takes time.)
+    #[inline(always)]
     fn advance(&mut self, entry: &Entry, place: usize) -> Reply
         requires { self.old.steps < self.old.template.entries }
         ensures reply { result ≡ reply_to self.old entry.now }
@@ -260,6 +262,7 @@ impl<A: Allocator + Copy> Sup<A> {
     }
 
     /// `place` is where the operation's child may have been found.
+    #[inline(always)]
     fn perform(&mut self, operation: &Operation, answer: Answer, place: usize) -> Reply
         requires up { self.old.down ≡ false }
         requires room { self.old.made < self.old.steps }
@@ -359,6 +362,7 @@ impl<A: Allocator + Copy> Sup<A> {
         }
     }
 
+    #[inline(always)]
     fn terminate(&mut self, number: u64) -> Reply
         requires { self.old.down ≡ false }
         ensures reply { result ≡ if list_any (has_number number) self.old.rows then Reply.Ended else Reply.NotFound }

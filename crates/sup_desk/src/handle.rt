@@ -88,7 +88,7 @@ impl<'d, N: Name, S: Starter + Drop, R: Wait + Drop, J: Journal + Drop> HandleOf
         ensures result { IsUpdateResult S.may_answer N.template N.press self.old (Operation.Start arg) moment self.new result }
         ensures journal { IfErr result (λ e. (f : JournalFault) → e ≡ UpdateFault.Journal f → J.may_fail f) }
     {
-        self.update(rt, moment, Operation::Start(arg))
+        self.update(rt, moment, &Operation::Start(arg))
     }
 
     /// The child with this number ended.
@@ -102,7 +102,7 @@ impl<'d, N: Name, S: Starter + Drop, R: Wait + Drop, J: Journal + Drop> HandleOf
         ensures result { IsUpdateResult S.may_answer N.template N.press self.old (Operation.Exit number reason) moment self.new result }
         ensures journal { IfErr result (λ e. (f : JournalFault) → e ≡ UpdateFault.Journal f → J.may_fail f) }
     {
-        self.update(rt, moment, Operation::Exit(number, reason))
+        self.update(rt, moment, &Operation::Exit(number, reason))
     }
 
     /// Tries the restart of the child with this number again.
@@ -110,7 +110,7 @@ impl<'d, N: Name, S: Starter + Drop, R: Wait + Drop, J: Journal + Drop> HandleOf
         ensures result { IsUpdateResult S.may_answer N.template N.press self.old (Operation.Retry number) moment self.new result }
         ensures journal { IfErr result (λ e. (f : JournalFault) → e ≡ UpdateFault.Journal f → J.may_fail f) }
     {
-        self.update(rt, moment, Operation::Retry(number))
+        self.update(rt, moment, &Operation::Retry(number))
     }
 
     /// Ends the child with this number.
@@ -123,7 +123,7 @@ impl<'d, N: Name, S: Starter + Drop, R: Wait + Drop, J: Journal + Drop> HandleOf
         ensures result { IsUpdateResult S.may_answer N.template N.press self.old (Operation.Terminate number) moment self.new result }
         ensures journal { IfErr result (λ e. (f : JournalFault) → e ≡ UpdateFault.Journal f → J.may_fail f) }
     {
-        self.update(rt, moment, Operation::Terminate(number))
+        self.update(rt, moment, &Operation::Terminate(number))
     }
 
     /// Ends all children, and the supervisor.
@@ -131,7 +131,7 @@ impl<'d, N: Name, S: Starter + Drop, R: Wait + Drop, J: Journal + Drop> HandleOf
         ensures result { IsUpdateResult S.may_answer N.template N.press self.old Operation.Stop moment self.new result }
         ensures journal { IfErr result (λ e. (f : JournalFault) → e ≡ UpdateFault.Journal f → J.may_fail f) }
     {
-        self.update(rt, moment, Operation::Stop)
+        self.update(rt, moment, &Operation::Stop)
     }
 
     /// Enters this operation.
@@ -139,9 +139,9 @@ impl<'d, N: Name, S: Starter + Drop, R: Wait + Drop, J: Journal + Drop> HandleOf
         &mut self,
         rt: &W,
         moment: u64,
-        operation: Operation,
+        operation: &Operation,
     ) -> Result<Done, UpdateFault>
-        ensures result { IsUpdateResult S.may_answer N.template N.press self.old operation moment self.new result }
+        ensures result { IsUpdateResult S.may_answer N.template N.press self.old operation.now moment self.new result }
         ensures journal { IfErr result (λ e. (f : JournalFault) → e ≡ UpdateFault.Journal f → J.may_fail f) }
     {
         let desk = self.desk;

@@ -59,10 +59,10 @@ fn write<N: Name, S: Starter, R: Wait + Drop, J: Journal + Drop>(
     number: u64,
     serial: u64,
     moment: u64,
-    operation: Operation,
+    operation: &Operation,
 ) -> Result<Reply, UpdateFault>
     requires { leaf.old.fault ≡ None }
-    ensures written { IfOk result (λ reply. (entry : Entry) × IsEntryOf S.may_answer N.template (leaf.old.published ++ leaf.old.pending) number serial operation moment entry
+    ensures written { IfOk result (λ reply. (entry : Entry) × IsEntryOf S.may_answer N.template (leaf.old.published ++ leaf.old.pending) number serial operation.now moment entry
         × (reply ≡ reply_after N.template (leaf.old.published ++ leaf.old.pending) entry) × (leaf.new ≡ with_pending leaf.old (entry ∷ []))) }
     ensures kept { OnErr result (leaf.new ≡ leaf.old) }
     ensures full { IfErr result (λ e. e ≡ UpdateFault.HistoryFull → length (leaf.old.published ++ leaf.old.pending) ≡ N.template.entries) }
@@ -71,7 +71,7 @@ fn write<N: Name, S: Starter, R: Wait + Drop, J: Journal + Drop>(
     if leaf.is_full() {
         return Err(UpdateFault::HistoryFull);
     }
-    let asked = leaf.asks(&operation, moment);
+    let asked = leaf.asks(operation, moment);
     let answer = match &asked.arg {
         Some(arg) => starter.start(arg, moment),
         None => Answer::Ignore,
@@ -80,7 +80,7 @@ fn write<N: Name, S: Starter, R: Wait + Drop, J: Journal + Drop>(
         handle: number,
         serial,
         moment,
-        operation,
+        operation: *operation,
         answer,
     };
     match leaf.append(entry, &asked) {
@@ -95,14 +95,14 @@ fn enter_one<N: Name, D, S: Starter, R: Wait + Drop, J: Journal + Drop>(
     starter: &S,
     handle: &mut HandleOf<'_, N, D>,
     moment: u64,
-    operation: Operation,
+    operation: &Operation,
 ) -> Result<Done, UpdateFault>
     requires front { handle.old.front ≡ book.old.history }
     requires editions { handle.old.editions ≡ book.old.editions }
     requires whole { entries_of book.old.history handle.old.number ≡ handle.old.calls }
     requires made { IsMade book.old.made handle.old.number }
     requires going { book.old.fault ≡ None }
-    ensures entered { IfOk result (λ done. (entry : Entry) × IsEntryOf S.may_answer N.template book.old.history handle.old.number (length handle.old.calls) operation moment entry
+    ensures entered { IfOk result (λ done. (entry : Entry) × IsEntryOf S.may_answer N.template book.old.history handle.old.number (length handle.old.calls) operation.now moment entry
         × (done.reply ≡ reply_after N.template book.old.history entry) × (book.new ≡ grown_by book.old (entry ∷ []))
         × (handle.new ≡ with_entries handle.old book.old.editions book.old.history (entry ∷ []))) }
     ensures told { IfOk result (λ done. done.ticket ≡ record { press = N.press; editions = handle.new.editions; front = handle.new.front }) }
@@ -136,12 +136,12 @@ pub fn enter<N: Name, D, S: Starter, R: Wait + Drop, J: Journal + Drop>(
     starter: &S,
     handle: &mut HandleOf<'_, N, D>,
     moment: u64,
-    operation: Operation,
+    operation: &Operation,
 ) -> Result<Done, UpdateFault>
-    ensures result { IsUpdateResult S.may_answer N.template N.press handle.old operation moment handle.new result }
+    ensures result { IsUpdateResult S.may_answer N.template N.press handle.old operation.now moment handle.new result }
 
     // What the book is then.
-    ensures entered { OnOk result ((entry : Entry) × IsEntryOf S.may_answer N.template book.old.history handle.old.number (length handle.old.calls) operation moment entry
+    ensures entered { OnOk result ((entry : Entry) × IsEntryOf S.may_answer N.template book.old.history handle.old.number (length handle.old.calls) operation.now moment entry
         × (book.new ≡ grown_by book.old (entry ∷ []))) }
     ensures seen { OnOk result ((handle.new.front ≡ book.new.history) × (handle.new.editions ≡ book.new.editions)) }
     ensures left { IfErr result (λ e. IsLeft J.may_fail book.old e book.new) }
@@ -179,7 +179,7 @@ fn write_all<N: Name, S: Starter, R: Wait + Drop, J: Journal + Drop, A: Allocato
 {
     'queue: while let Some(operation) = operations.get(replies.len()) {
         let serial = leaf.serial(claim);
-        match write(leaf, starter, claim.number(), serial, moment, *operation) {
+        match write(leaf, starter, claim.number(), serial, moment, operation) {
             Ok(reply) => replies.push_reserved(reply),
             Err(fault) => return Some(fault),
         }
