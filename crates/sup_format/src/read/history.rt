@@ -12,8 +12,9 @@ ghost use Rattle.sup_format.specs.Reading.HistoryReading.{HistoryStops, IsReadTo
 
 use crate::fault::{Fault, ScriptFault};
 use crate::read::header::{Parts, next_limits, read_shutdown, template_of};
+use crate::read::lines::cut_line;
 use crate::read::tokens::{after_word, next_number, next_operation, read_verb};
-use crate::read::words::{next_word, read_number, split_once};
+use crate::read::words::{next_word, read_number};
 use std::alloc::Allocator;
 use sup_types::{Answer, Entry, Operation, Template};
 use thiserror::Error;
@@ -94,7 +95,7 @@ pub fn begin_history(text: &[u8]) -> Result<(Template, &[u8]), HistoryFault>
     ensures begun { MatchResult result (λ p. IsReadTo text.now p.1.now p.0 [] 2) (λ e. HistoryStops text.now e.line e.fault) }
     ensures fault { IfErr result (λ e. IsTextFault e.fault) }
 {
-    let (first, after) = match split_once(text, b'\n') {
+    let (first, after) = match cut_line(text) {
         Some(parts) => parts,
         None => {
             let fault = Fault::BadLine;
@@ -179,7 +180,7 @@ fn read_marked(rest: Option<&[u8]>) -> Option<Parts>
 pub fn next_entry(rest: &[u8]) -> Option<(Entry, &[u8])>
     ensures { IsNextEntry rest.now result }
 {
-    let (line, after) = split_once(rest, b'\n')?;
+    let (line, after) = cut_line(rest)?;
     let entry = read_entry(line)?;
     Some((entry, after))
 }

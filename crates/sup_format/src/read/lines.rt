@@ -1,9 +1,18 @@
 //! The lines of a text.
 
-ghost use Rattle.std.specs.Prelude.{◌≡◌, ◌<◌, ◌∷◌, length};
+ghost use Rattle.std.specs.Prelude.{◌≡◌, ◌<◌, ◌∷◌, length, MatchOption};
 ghost use Rattle.sup_format.specs.Reading.Texts.{lines_of, IsEndedPart};
+ghost use Rattle.sup_format.specs.Reading.Words.{Lacks, IsSplit};
 
-use crate::read::words::split_once;
+use memchr::memchr;
+
+/// What stands before the first line feed of a text, and what stands after it, where there is one.
+pub fn cut_line(text: &[u8]) -> Option<(&[u8], &[u8])>
+    ensures { MatchOption result (Lacks 10 text.now) (λ parts. IsSplit 10 text.now parts.0.now parts.1.now) }
+{
+    let at = memchr(b'\n', text)?;
+    Some((&text[..at], &text[at + 1..]))
+}
 
 /// The first line of a text that is not empty, and the text after it.
 pub fn first_line(text: &[u8]) -> (&[u8], &[u8])
@@ -11,7 +20,7 @@ pub fn first_line(text: &[u8]) -> (&[u8], &[u8])
     ensures lines { lines_of text.now ≡ result.0.now ∷ lines_of result.1.now }
     ensures shorter { length result.1.now < length text.now }
 {
-    match split_once(text, b'\n') {
+    match cut_line(text) {
         Some((line, rest)) => (line, rest),
         None => (text, &[]),
     }

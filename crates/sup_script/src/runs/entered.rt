@@ -14,23 +14,23 @@ use sup_types::{Answer, Entry, FixedStarter, Operation, OutOfMemory, Refusal, Re
 
 /// Carries a command out, and appends the text of its reply.
 pub fn append_answer<S: FixedStarter, A: Allocator + Copy>(
-    command: Command,
+    command: &Command,
     sup: &mut Sup<A>,
     starter: &S,
     out: &mut Vec<u8, A>,
 ) -> Result<(), OutOfMemory>
     requires { sup.old.steps < sup.old.template.entries }
     ensures text { (history : List AnEntry) → IsAfter sup.old history →
-        OnOk result (out.new.items ≡ out.old.items ++ text_of S.answer sup.old.template history command) }
+        OnOk result (out.new.items ≡ out.old.items ++ text_of S.answer sup.old.template history command.now) }
     ensures after { (history : List AnEntry) → IsAfter sup.old history →
-        OnOk result (IsAfter sup.new (history_after S.answer sup.old.template history command)) }
+        OnOk result (IsAfter sup.new (history_after S.answer sup.old.template history command.now)) }
     ensures template { sup.new.template ≡ sup.old.template }
     ensures steps { sup.new.steps ≤ sup.old.steps + 1 }
     ensures err { OnErr result (Grows out.old.items out.new.items) }
 {
     match command {
         Command::Update(moment, operation) => {
-            let reply = enter(moment, operation, sup, starter);
+            let reply = enter(*moment, operation, sup, starter);
             append_reply(&reply, out)?;
         }
         Command::Which => append_which(sup, out)?,
@@ -56,18 +56,18 @@ fn append_which<A: Allocator + Copy>(sup: &Sup<A>, out: &mut Vec<u8, A>) -> Resu
 /// Enters an operation, with what the start function answers where it is asked.
 fn enter<S: FixedStarter, A: Allocator + Copy>(
     moment: u64,
-    operation: Operation,
+    operation: &Operation,
     sup: &mut Sup<A>,
     starter: &S,
 ) -> Reply
     requires { sup.old.steps < sup.old.template.entries }
     ensures history { (history : List AnEntry) → IsAfter sup.old history →
-        (result ≡ reply_after sup.old.template history (entry_of S.answer sup.old.template history 0 (length history) operation moment))
-        × IsAfter sup.new (history ++ entry_of S.answer sup.old.template history 0 (length history) operation moment ∷ []) }
+        (result ≡ reply_after sup.old.template history (entry_of S.answer sup.old.template history 0 (length history) operation.now moment))
+        × IsAfter sup.new (history ++ entry_of S.answer sup.old.template history 0 (length history) operation.now moment ∷ []) }
     ensures template { sup.new.template ≡ sup.old.template }
     ensures steps { sup.new.steps ≡ sup.old.steps + 1 }
 {
-    let asked = sup.asks(&operation, moment);
+    let asked = sup.asks(operation, moment);
     let answer = match &asked.arg {
         Some(arg) => starter.start_fixed(arg, moment),
         None => Answer::Ignore,
@@ -76,7 +76,7 @@ fn enter<S: FixedStarter, A: Allocator + Copy>(
         handle: 0,
         serial: sup.stamp(),
         moment,
-        operation,
+        operation: *operation,
         answer,
     };
     sup.step_asked(&entry, &asked)

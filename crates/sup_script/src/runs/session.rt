@@ -245,6 +245,6 @@ fn answer_command<S: FixedStarter, A: Allocator + Copy>(
         Some(command) => command,
         None => return Err(Fault::BadLine),
     };
-    append_answer(command, sup, starter, out)?;
+    append_answer(&command, sup, starter, out)?;
     Ok(())
 }
