@@ -6,6 +6,8 @@ use supervisor::{template, Answer, Reply, Restart, Supervisor};
 
 const TURNS: u64 = 1_000_000;
 const COUNTS: u64 = 20_000_000;
+/// Where the draws begin (a shift register of 64 bits).
+const SEED: u64 = 88_172_645_463_325_252;
 const SUPERVISORS: u64 = 64;
 const ARG: &str = "session-17";
 
@@ -33,6 +35,24 @@ fn restart(sup: &mut Supervisor, turns: u64) -> u64 {
         if let Some(next) = restart_one(sup, turn, oldest) {
             restarted += 1;
             oldest = next;
+        }
+    }
+    restarted
+}
+
+/// Restarts children that are drawn at random, each under the next number.
+fn restart_drawn(sup: &mut Supervisor, alive: &mut [u64], turns: u64) -> u64 {
+    let rows = alive.len() as u64;
+    let (mut restarted, mut drawn) = (0, SEED);
+    for turn in 0..turns {
+        drawn ^= drawn << 13;
+        drawn ^= drawn >> 7;
+        drawn ^= drawn << 17;
+        let place = (drawn >> 32).wrapping_mul(rows) >> 32;
+        sup.see(turn);
+        if let Reply::Restarted(_, next) = sup.exit(alive[place as usize], true, |_| Answer::Running) {
+            restarted += 1;
+            alive[place as usize] = next;
         }
     }
     restarted
@@ -86,6 +106,9 @@ fn main() {
         let mut sup = filled(rows, rows as usize + 1);
         tell(&format!("restart among {rows} rows"), TURNS, || restart(&mut sup, TURNS));
         tell(&format!("start and termination among {rows} rows"), TURNS, || start_and_terminate(&mut sup, TURNS));
+        let mut sup = filled(rows, rows as usize + 1);
+        let mut alive: Vec<_> = (1..=rows).collect();
+        tell(&format!("restart at random among {rows} rows"), TURNS, || restart_drawn(&mut sup, &mut alive, TURNS));
     }
     let sups: Vec<_> = (1..=SUPERVISORS).map(|rows| filled(rows, 1000)).collect();
     tell("count of 64 supervisors in turn", COUNTS, || count(&sups, COUNTS));

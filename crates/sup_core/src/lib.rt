@@ -22,12 +22,13 @@
 //! let reply = sup.step_asked(&entry, &asked);
 //! ```
 //!
-//! `supervisor` has the supervisor, `asked` what it asks of its caller, `table` its rows by their numbers, and `child` what is
-//! kept of one.
+//! `supervisor` has the supervisor, `asked` what it asks of its caller, `table` its rows by their numbers, `hints` where the
+//! last numbers stand, and `child` what is kept of one.
 #![tactic(auto)]
 
 mod asked;
 mod child;
+mod hints;
 mod supervisor;
 mod table;
 

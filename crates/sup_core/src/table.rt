@@ -5,7 +5,8 @@
 //! half of them are empty, the listed children move to the front in their order, and the places behind them are given back.
 //! That needs no memory.
 //!
-//! A number is looked for where it stands if none in front of it, or none behind it, is missing, and only then by halves.
+//! A number is looked for where it was put, as of the numbers that were made last is noted, then where it stands if none in
+//! front of it is missing, and only then by halves.
 ghost use Rattle.std.specs.Prelude.{true, false, ◌≡◌, ◌≤◌, ◌<◌, ◌+◌, ◌-◌, ◌*◌, ◌^◌, ℕ, List, [], ◌∷◌, ◌++◌, IfOk, IfErr, None, Some, map, length, nat_eq, is_some, slice_index_or, MatchBool, MatchOption, IsOk, IsSome, IfSome, IfNone, slice_get, if◌then◌else◌};
 ghost use Rattle.std.specs.List.{list_any, cons_option};
 ghost use Rattle.std.specs.Option.{option_copied, option_map};
@@ -18,6 +19,7 @@ ghost use Rattle.sup_core.specs.Children.{Listed, Place, Rises, listed, place_of
 
 use crate::asked::{Asked, NO_PLACE};
 use crate::child::Child;
+use crate::hints::Hints;
 use std::alloc::{AllocError, Allocator};
 use std::marker::Model;
 use sup_types::{Row, Status, Text};
@@ -34,6 +36,7 @@ const FEW_PLACES: usize = 64;
 #[derive(Drop)]
 pub(crate) struct Table<A: Allocator> {
     places: Places<A>,
+    hints: Hints<A>,
     max: u64,
     made: u64,
     live: u64,
@@ -63,8 +66,10 @@ impl<A: Allocator + Copy> Table<A> {
         ensures { IfOk result (λ t. (t.rows ≡ []) × (t.made ≡ 0) × (t.max ≡ max)) }
     {
         let places = Vec::with_capacity(alloc, 2 * max as usize)?;
+        let hints = Hints::new(alloc, max)?;
         Ok(Table {
             places,
+            hints,
             max,
             made: 0,
             live: 0,
@@ -91,7 +96,7 @@ impl<A: Allocator + Copy> Table<A> {
     pub(crate) fn row_at(&self, number: u64) -> Option<Row>
         ensures { result ≡ row_at number self.now.rows }
     {
-        match child_at(&self.places, number) {
+        match child_at(&self.places, number, self.hints.of(number)) {
             Some(child) => Some(child.row(number)),
             None => None,
         }
@@ -101,7 +106,7 @@ impl<A: Allocator + Copy> Table<A> {
     pub(crate) fn asked_of(&self, status: Status, number: u64) -> Asked
         ensures { result.arg ≡ if list_any (stands_as status number) self.now.rows then Some (argument_at number self.now.rows) else None }
     {
-        match found_at(&self.places, number) {
+        match found_at(&self.places, number, self.hints.of(number)) {
             Some((place, child)) => Asked::new(child.argument_as(status), place),
             None => Asked::nothing(),
         }
@@ -124,10 +129,16 @@ impl<A: Allocator + Copy> Table<A> {
         ensures number { result ≡ self.old.made + 1 }
         ensures next { self.new ≡ record self.old { rows = self.old.rows ++ running (self.old.made + 1) arg ∷ []; made = self.old.made + 1 } }
     {
-        make_room(&mut self.places, self.max as usize, self.live as usize);
+        make_room(
+            &mut self.places,
+            &mut self.hints,
+            self.max as usize,
+            self.live as usize,
+        );
         self.made += 1;
         self.live += 1;
         self.running += 1;
+        self.hints.note(self.made, self.places.len() as u32);
         put_next(&mut self.places, self.made, arg);
         self.made
     }
@@ -138,7 +149,8 @@ impl<A: Allocator + Copy> Table<A> {
             ((list_any (has_number number) self.old.rows ≡ true) × (self.new ≡ record self.old { rows = without number self.old.rows }))
             ((list_any (has_number number) self.old.rows ≡ false) × (self.new ≡ self.old)) }
     {
-        let Some(child) = take_child(&mut self.places, number) else {
+        let place = self.hints.of(number);
+        let Some(child) = take_child(&mut self.places, number, place) else {
             return false;
         };
         trim(&mut self.places);
@@ -156,6 +168,7 @@ impl<A: Allocator + Copy> Table<A> {
             × (self.new ≡ record self.old { rows = without number self.old.rows })) }
         ensures room { IsSome result → length self.new.rows < self.old.max }
     {
+        let place = self.place_or_hint(number, place);
         let child = take_child_as(&mut self.places, number, status, place)?;
         trim(&mut self.places);
         self.live -= 1;
@@ -170,11 +183,20 @@ impl<A: Allocator + Copy> Table<A> {
             ((list_any (stands_as status number) self.old.rows ≡ true) × (self.new ≡ record self.old { rows = map (waiting_at number) self.old.rows }))
             ((list_any (stands_as status number) self.old.rows ≡ false) × (self.new ≡ self.old)) }
     {
+        let place = self.place_or_hint(number, place);
         if !let_wait(&mut self.places, number, status, place) {
             return false;
         }
         self.running -= one_if(status.is_running());
         true
+    }
+
+    /// Where this number may stand: this place, if there is one, or where it was put.
+    fn place_or_hint(&self, number: u64, place: usize) -> usize {
+        if place == NO_PLACE {
+            return self.hints.of(number);
+        }
+        place
     }
 
     /// Takes all rows out.
@@ -207,22 +229,22 @@ fn put_next<A: Allocator>(places: &mut Places<A>, number: u64, arg: Text)
     let _ = places.push((number, Some(child)));
 }
 
-fn child_at<A: Allocator>(places: &Places<A>, number: u64) -> Option<&Child>
+fn child_at<A: Allocator>(places: &Places<A>, number: u64, place: usize) -> Option<&Child>
     requires { (high : ℕ) × Rises 0 places.now.items high }
     ensures { option_copied result ≡ found (lookup (nat_eq number) places.now.items) }
 {
-    match found_at(places, number) {
+    match found_at(places, number, place) {
         Some((_, child)) => Some(child),
         None => None,
     }
 }
 
 /// The child of this number, and the index of its place.
-fn found_at<A: Allocator>(places: &Places<A>, number: u64) -> Option<(usize, &Child)>
+fn found_at<A: Allocator>(places: &Places<A>, number: u64, place: usize) -> Option<(usize, &Child)>
     requires { (high : ℕ) × Rises 0 places.now.items high }
     ensures { option_map (λ p. p.1.now) result ≡ found (lookup (nat_eq number) places.now.items) }
 {
-    let index = index_of(places, number, NO_PLACE)?;
+    let index = index_of(places, number, place)?;
     match child_of(&places[index]) {
         Some(child) => Some((index, child)),
         None => None,
@@ -235,8 +257,8 @@ fn child_of(place: &Place) -> Option<&Child>
     place.1.as_ref()
 }
 
-/// The index of this number's place, if it has one. It is looked for where it stands if no number in front of it is
-/// missing, in the last place, and where it stands if none behind it is missing; and then by halves.
+/// The index of this number's place, if it has one. It is looked for at `place`, where it stands if no number in front of it
+/// is missing, or in the last place, and then by halves.
 fn index_of<A: Allocator>(places: &Places<A>, number: u64, place: usize) -> Option<usize>
     requires { (high : ℕ) × Rises 0 places.now.items high }
     ensures absent { IfNone result (lookup (nat_eq number) places.now.items ≡ None) }
@@ -249,10 +271,6 @@ fn index_of<A: Allocator>(places: &Places<A>, number: u64, place: usize) -> Opti
     let likely = likely_index(places, number);
     if stands_at(places, number, likely) {
         return Some(likely);
-    }
-    let from_last = index_from_last(places, number);
-    if stands_at(places, number, from_last) {
-        return Some(from_last);
     }
     match searched(places, number) {
         Ok(index) => Some(index),
@@ -275,14 +293,6 @@ fn likely_index<A: Allocator>(places: &Places<A>, number: u64) -> usize {
     }
 }
 
-/// Where this number stands if none behind it is missing, as of those that were listed since places were last closed up.
-fn index_from_last<A: Allocator>(places: &Places<A>, number: u64) -> usize {
-    match places.last() {
-        Some((last, _)) => (places.len() - 1).saturating_sub(last.saturating_sub(number) as usize),
-        None => 0,
-    }
-}
-
 /// The index of this number's place, by halves.
 fn searched<A: Allocator>(places: &Places<A>, number: u64) -> Result<usize, usize>
     requires { (high : ℕ) × Rises 0 places.now.items high }
@@ -293,13 +303,13 @@ fn searched<A: Allocator>(places: &Places<A>, number: u64) -> Result<usize, usiz
 }
 
 /// Empties the place of this number, and answers the child that was there.
-fn take_child<A: Allocator>(places: &mut Places<A>, number: u64) -> Option<Child>
+fn take_child<A: Allocator>(places: &mut Places<A>, number: u64, place: usize) -> Option<Child>
     requires { (high : ℕ) × Rises 0 places.old.items high }
     ensures value { result ≡ found (lookup (nat_eq number) places.old.items) }
     ensures items { places.new.items ≡ set_value (nat_eq number) places.old.items None }
     ensures capacity { vec_capacity places.new ≡ vec_capacity places.old }
 {
-    match index_of(places, number, NO_PLACE) {
+    match index_of(places, number, place) {
         Some(index) => place_empties(&mut places[index]),
         None => None,
     }
@@ -391,7 +401,7 @@ fn push_row<A: Allocator>(copy: &mut Vec<Row, A>, place: &Place)
 
 /// Makes room for one more place. The empty places are given back once they are as many as the listed children and some
 /// more, so that what is read lies close together where the children are few.
-fn make_room<A: Allocator>(places: &mut Places<A>, max: usize, live: usize)
+fn make_room<A: Allocator>(places: &mut Places<A>, hints: &mut Hints<A>, max: usize, live: usize)
     requires live { live ≡ length (listed places.old.items) }
     requires fits { live < max }
     requires places { 2 * max ≤ vec_capacity places.old }
@@ -400,10 +410,11 @@ fn make_room<A: Allocator>(places: &mut Places<A>, max: usize, live: usize)
     ensures rises { (low high : ℕ) → Rises low places.old.items high → Rises low places.new.items high }
     ensures capacity { vec_capacity places.new ≡ vec_capacity places.old }
     ensures room { vec_len places.new < vec_capacity places.new }
+    ensures few { vec_len places.new < 2 * max }
 {
     let most = (2 * live + FEW_PLACES).min(2 * max);
     if places.len() >= most {
-        compact(places);
+        compact(places, hints);
     }
 }
 
@@ -427,12 +438,19 @@ fn ends_empty<A: Allocator>(places: &Places<A>) -> bool
     len > 0 && !is_listed(&places[len - 1])
 }
 
-/// Gives back the empty places.
-fn compact<A: Allocator>(places: &mut Places<A>)
+/// Gives back the empty places, and notes where those that stay stand.
+fn compact<A: Allocator>(places: &mut Places<A>, hints: &mut Hints<A>)
     ensures places { places.new.items ≡ map place_of (listed places.old.items) }
     ensures capacity { vec_capacity places.new ≡ vec_capacity places.old }
 {
-    places.retain(|place| is_listed(place));
+    let mut kept = 0u32;
+    places.retain(|place| {
+        let stays = is_listed(place);
+        // (An empty place is noted, too: that takes less time than a branch which is hard to guess.)
+        hints.note(place.0, kept);
+        kept = kept.wrapping_add(u32::from(stays));
+        stays
+    });
 }
 
 /// Whether a child is listed at this place.
