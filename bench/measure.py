@@ -118,13 +118,14 @@ def check_same_work(ours, theirs, name):
 
 
 def write_table(table, unit=""):
-    """Writes a row for each label, as Markdown; a value is what all runs of ours and of the peer took."""
+    """Writes a row for each label, as Markdown; a value is what all runs of ours and of the peer took. The middle ratio is that of
+    the rounds' ratios: the two runs of a round follow one another, so a machine whose speed changes slows both."""
     print("| what | ratio, middle | ratio, best | ours, middle | ours, best | peer, middle | peer, best |")
     print("|---|---|---|---|---|---|---|")
     for label, (ours, peer) in table.items():
         middles = statistics.median(ours), statistics.median(peer)
         bests = min(ours), min(peer)
-        cells = [ratio(*middles), ratio(*bests)]
+        cells = [shown(statistics.median(map(ratio, ours, peer))), shown(ratio(*bests))]
         for side in (0, 1):
             cells += [told(middles[side]) + unit, told(bests[side]) + unit]
         print(f"| {label} | {' | '.join(cells)} |")
@@ -132,7 +133,10 @@ def write_table(table, unit=""):
 
 
 def ratio(ours, peer):
-    value = ours / peer
+    return ours / peer
+
+
+def shown(value):
     return f"{value:.2f}" if value >= 0.1 else f"{value:.4f}"
 
 
