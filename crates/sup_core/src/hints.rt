@@ -8,7 +8,8 @@ use std::marker::Model;
 /// For each of the numbers that were made last, the place where it was put. An older number shares its entry with a later
 /// one. So who follows a hint looks whether the number stands there, and only speed rests on hints.
 ///
-/// Entries are taken as numbers are made, and none is made beforehand: a supervisor that makes few touches little memory.
+/// There is room for all entries at first, but each is written as its number is made: a supervisor that makes few touches
+/// little memory.
 #[derive(Drop)]
 pub(crate) struct Hints<A: Allocator> {
     places: Vec<u32, A>,
@@ -42,7 +43,7 @@ impl<A: Allocator> Hints<A> {
         })
     }
 
-    /// Where this number may stand.
+    /// Where this number may stand, or `NO_PLACE` where no number of its entry was made.
     pub(crate) fn of(&self, number: u64) -> usize {
         match self.places.get(entry_of(number, self.mask)) {
             Some(place) => *place as usize,

@@ -5,8 +5,8 @@
 //! half of them are empty, the listed children move to the front in their order, and the places behind them are given back.
 //! That needs no memory.
 //!
-//! A number is looked for where it was put, as of the numbers that were made last is noted, then where it stands if none in
-//! front of it is missing, and only then by halves.
+//! A number is looked for where it was put, for which the numbers that were made last have hints; then where it stands if none
+//! in front of it is missing; and only then by halves.
 ghost use Rattle.std.specs.Prelude.{true, false, ◌≡◌, ◌≤◌, ◌<◌, ◌+◌, ◌-◌, ◌*◌, ◌^◌, ℕ, List, [], ◌∷◌, ◌++◌, IfOk, IfErr, None, Some, map, length, nat_eq, is_some, slice_index_or, MatchBool, MatchOption, IsOk, IsSome, IfSome, IfNone, slice_get, if◌then◌else◌};
 ghost use Rattle.std.specs.List.{list_any, cons_option};
 ghost use Rattle.std.specs.Option.{option_copied, option_map};
@@ -191,7 +191,7 @@ impl<A: Allocator + Copy> Table<A> {
         true
     }
 
-    /// Where this number may stand: this place, if there is one, or where it was put.
+    /// Where this number may stand: this place, if a caller had one, or where it was put.
     fn place_or_hint(&self, number: u64, place: usize) -> usize {
         if place == NO_PLACE {
             return self.hints.of(number);
@@ -438,7 +438,7 @@ fn ends_empty<A: Allocator>(places: &Places<A>) -> bool
     len > 0 && !is_listed(&places[len - 1])
 }
 
-/// Gives back the empty places, and notes where those that stay stand.
+/// Gives back the empty places, and writes the hints of those that stay.
 fn compact<A: Allocator>(places: &mut Places<A>, hints: &mut Hints<A>)
     ensures places { places.new.items ≡ map place_of (listed places.old.items) }
     ensures capacity { vec_capacity places.new ≡ vec_capacity places.old }
@@ -446,7 +446,7 @@ fn compact<A: Allocator>(places: &mut Places<A>, hints: &mut Hints<A>)
     let mut kept = 0u32;
     places.retain(|place| {
         let stays = is_listed(place);
-        // (An empty place is noted, too: that takes less time than a branch which is hard to guess.)
+        // (A hint is written of an empty place, too: that takes less time than a branch which is hard to guess.)
         hints.note(place.0, kept);
         kept = kept.wrapping_add(u32::from(stays));
         stays
