@@ -40,22 +40,45 @@ fn restart(sup: &mut Supervisor, turns: u64) -> u64 {
     restarted
 }
 
-/// Restarts children that are drawn at random, each under the next number.
-fn restart_drawn(sup: &mut Supervisor, alive: &mut [u64], turns: u64) -> u64 {
-    let rows = alive.len() as u64;
+/// The next number that is drawn.
+fn draw(mut drawn: u64) -> u64 {
+    drawn ^= drawn << 13;
+    drawn ^= drawn >> 7;
+    drawn ^= drawn << 17;
+    drawn
+}
+
+/// One of so many places.
+fn place_of(drawn: u64, places: usize) -> usize {
+    ((drawn >> 32).wrapping_mul(places as u64) >> 32) as usize
+}
+
+/// Restarts children that are drawn at random, each under the next number. `gone` then has the numbers before.
+fn restart_drawn(sup: &mut Supervisor, alive: &mut [u64], gone: &mut [u64], turns: u64) -> u64 {
     let (mut restarted, mut drawn) = (0, SEED);
     for turn in 0..turns {
-        drawn ^= drawn << 13;
-        drawn ^= drawn >> 7;
-        drawn ^= drawn << 17;
-        let place = (drawn >> 32).wrapping_mul(rows) >> 32;
+        drawn = draw(drawn);
+        let place = place_of(drawn, alive.len());
         sup.see(turn);
-        if let Reply::Restarted(_, next) = sup.exit(alive[place as usize], true, |_| Answer::Running) {
+        if let Reply::Restarted(old, next) = sup.exit(alive[place], true, |_| Answer::Running) {
             restarted += 1;
-            alive[place as usize] = next;
+            alive[place] = next;
+            gone[place] = old;
         }
     }
     restarted
+}
+
+/// Exits of children that are gone, drawn at random.
+fn exit_gone(sup: &mut Supervisor, gone: &[u64], turns: u64) -> u64 {
+    let (mut stray, mut drawn) = (0, SEED);
+    for turn in 0..turns {
+        drawn = draw(drawn);
+        sup.see(turn);
+        let number = gone[place_of(drawn, gone.len())];
+        stray += u64::from(matches!(sup.exit(number, true, |_| Answer::Running), Reply::Stray(_)));
+    }
+    stray
 }
 
 fn start_and_terminate(sup: &mut Supervisor, turns: u64) -> u64 {
@@ -108,7 +131,9 @@ fn main() {
         tell(&format!("start and termination among {rows} rows"), TURNS, || start_and_terminate(&mut sup, TURNS));
         let mut sup = filled(rows, rows as usize + 1);
         let mut alive: Vec<_> = (1..=rows).collect();
-        tell(&format!("restart at random among {rows} rows"), TURNS, || restart_drawn(&mut sup, &mut alive, TURNS));
+        let mut gone = alive.clone();
+        tell(&format!("restart at random among {rows} rows"), TURNS, || restart_drawn(&mut sup, &mut alive, &mut gone, TURNS));
+        tell(&format!("exit of a child that is gone, among {rows} rows"), TURNS, || exit_gone(&mut sup, &gone, TURNS));
     }
     let sups: Vec<_> = (1..=SUPERVISORS).map(|rows| filled(rows, 1000)).collect();
     tell("count of 64 supervisors in turn", COUNTS, || count(&sups, COUNTS));

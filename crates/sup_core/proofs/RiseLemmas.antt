@@ -80,7 +80,7 @@ rises-apart low (place ∷ places) high rises zero (suc j) less within = rises-a
 rises-apart low (place ∷ places) high rises (suc i) (suc j) less within = rises-apart place.0 places high rises.1 i j (omega (arith, less)) (omega (arith, within))
 
 -- a number that stands at no index is not found
-lookup-nowhere : (k : ℕ) (places : List Place) → ((i : ℕ) → i < length places → key_at places i ≢ k) → lookup (nat_eq k) places ≡ None
+pub lookup-nowhere : (k : ℕ) (places : List Place) → ((i : ℕ) → i < length places → key_at places i ≢ k) → lookup (nat_eq k) places ≡ None
 lookup-nowhere k [] nowhere = refl
 lookup-nowhere k ((n, child) ∷ places) nowhere =
     cond-false (k == n) (Some child) (lookup (nat_eq k) places) (ne_eqb k n (λ e. nowhere 0 (omega arith) (sym e)))

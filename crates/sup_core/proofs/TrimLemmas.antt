@@ -1,6 +1,7 @@
 -- The last place goes, which is empty.
-use Rattle.std.proofs.Common.{◌≡◌, ◌-◌, List, [], ◌∷◌, ◌++◌, false, length, get_or, ◌∙◌, sym, refl, ap, arith, length-append}
-use Rattle.std.specs.Prelude.{Option, Some, None, is_some}
+use Rattle.std.proofs.Common.{◌≡◌, ℕ, zero, suc, ◌-◌, List, [], ◌∷◌, ◌++◌, false, length, get_or, ◌∙◌, sym, refl, ap, arith, length-append}
+use Rattle.std.specs.Prelude.{Option, Some, None, is_some, slice_get}
+use Rattle.std.specs.Map.{keys_of}
 use Rattle.std.specs.List.{cons_option}
 use Rattle.std.specs.Option.{option_map, option_to_list}
 use Rattle.std.proofs.Math.Seq.{get_or-append_seam}
@@ -21,3 +22,9 @@ listed-trimmed places rest (Some place) d are empty =
     by : (o : Option Child) → place.1 ≡ o → is_some place.1 ≡ false → listed (place ∷ []) ≡ []
     by None is some = ap (λ (o : Option Child). cons_option (option_map (child_row place.0) o) []) is
     by (Some child) is some = let there = ap is_some is in absurd (cc)
+
+-- what stands at an index of the first places stands there in all of them
+pub keys-front : (places more : List Place) (index number : ℕ) → slice_get (keys_of places) index ≡ Some number → slice_get (keys_of (places ++ more)) index ≡ Some number
+keys-front [] more index number at = absurd (cc)
+keys-front (place ∷ places) more zero number at = at
+keys-front (place ∷ places) more (suc index) number at = keys-front places more index number at

@@ -5,9 +5,9 @@
 //! half of them are empty, the listed children move to the front in their order, and the places behind them are given back.
 //! That needs no memory.
 //!
-//! A number is looked for where it was put, for which the numbers that were made last have hints; then where it stands if none
-//! in front of it is missing; and only then by halves.
-ghost use Rattle.std.specs.Prelude.{true, false, ◌≡◌, ◌≤◌, ◌<◌, ◌+◌, ◌-◌, ◌*◌, ◌^◌, ℕ, List, [], ◌∷◌, ◌++◌, IfOk, IfErr, None, Some, map, length, nat_eq, is_some, slice_index_or, MatchBool, MatchOption, IsOk, IsSome, IfSome, IfNone, slice_get, if◌then◌else◌};
+//! A number is looked for where it was put. For the numbers that were made last there are hints, and one of these that is not where
+//! its hint says stands nowhere. An older one is looked for where it stands if none in front of it is missing, and then by halves.
+ghost use Rattle.std.specs.Prelude.{true, false, ◌≡◌, ◌≢◌, ◌≤◌, ◌<◌, ◌+◌, ◌-◌, ◌*◌, ◌^◌, ℕ, List, [], ◌∷◌, ◌++◌, IfOk, IfErr, None, Some, map, length, nat_eq, is_some, slice_index_or, MatchBool, MatchOption, IsOk, IsSome, IfSome, IfNone, slice_get, if◌then◌else◌};
 ghost use Rattle.std.specs.List.{list_any, cons_option};
 ghost use Rattle.std.specs.Option.{option_copied, option_map};
 ghost use Rattle.std.specs.Map.{keys_of, lookup, set_value};
@@ -16,10 +16,11 @@ ghost use Rattle.std.specs.Vec.{vec_len, vec_capacity};
 ghost use Rattle.sup_core.specs.Rows.{has_number, stands_as, row_at, argument_at, without, waiting_at};
 ghost use Rattle.sup_core.specs.Changes.{running};
 ghost use Rattle.sup_core.specs.Children.{Listed, Place, Rises, listed, place_of, place_row, running_count, one_if, found, taken_of, left_of, waiting_of};
+ghost use Rattle.sup_core.specs.Hints.{Covers, Hinted, IsRight};
 
 use crate::asked::{Asked, NO_PLACE};
 use crate::child::Child;
-use crate::hints::Hints;
+use crate::hints::{Guess, Hints};
 use std::alloc::{AllocError, Allocator};
 use std::marker::Model;
 use sup_types::{Row, Status, Text};
@@ -47,6 +48,7 @@ impl<A: Allocator> Model for Table<A> {
     ghost use Rattle.std.specs.Prelude.{◌≡◌, ◌≤◌, ◌*◌, length};
     ghost use Rattle.std.specs.Vec.{vec_capacity};
     ghost use Rattle.sup_core.specs.Children.{Listed, Rises, listed, running_count};
+    ghost use Rattle.sup_core.specs.Hints.{Covers, Hinted};
 
     ghost Value = { Listed };
 
@@ -56,7 +58,9 @@ impl<A: Allocator> Model for Table<A> {
         × (t.live ≡ length (listed t.places.items)) × (t.live ≤ t.max)
         × (t.running ≡ running_count (listed t.places.items))
         × (2 * t.max ≤ vec_capacity t.places)
-        × (t.max ≤ 65536) };
+        × (t.max ≤ 65536)
+        × (4 * t.max ≤ t.hints.size) × Covers t.made t.hints
+        × Hinted t.places.items t.made t.hints };
 }
 
 impl<A: Allocator + Copy> Table<A> {
@@ -96,7 +100,7 @@ impl<A: Allocator + Copy> Table<A> {
     pub(crate) fn row_at(&self, number: u64) -> Option<Row>
         ensures { result ≡ row_at number self.now.rows }
     {
-        match child_at(&self.places, number, self.hints.of(number)) {
+        match child_at(&self.places, number, self.hints.guess(number, self.made)) {
             Some(child) => Some(child.row(number)),
             None => None,
         }
@@ -106,7 +110,7 @@ impl<A: Allocator + Copy> Table<A> {
     pub(crate) fn asked_of(&self, status: Status, number: u64) -> Asked
         ensures { result.arg ≡ if list_any (stands_as status number) self.now.rows then Some (argument_at number self.now.rows) else None }
     {
-        match found_at(&self.places, number, self.hints.of(number)) {
+        match found_at(&self.places, number, self.hints.guess(number, self.made)) {
             Some((place, child)) => Asked::new(child.argument_as(status), place),
             None => Asked::nothing(),
         }
@@ -149,8 +153,8 @@ impl<A: Allocator + Copy> Table<A> {
             ((list_any (has_number number) self.old.rows ≡ true) × (self.new ≡ record self.old { rows = without number self.old.rows }))
             ((list_any (has_number number) self.old.rows ≡ false) × (self.new ≡ self.old)) }
     {
-        let place = self.hints.of(number);
-        let Some(child) = take_child(&mut self.places, number, place) else {
+        let guess = self.hints.guess(number, self.made);
+        let Some(child) = take_child(&mut self.places, number, guess) else {
             return false;
         };
         trim(&mut self.places);
@@ -168,8 +172,8 @@ impl<A: Allocator + Copy> Table<A> {
             × (self.new ≡ record self.old { rows = without number self.old.rows })) }
         ensures room { IsSome result → length self.new.rows < self.old.max }
     {
-        let place = self.place_or_hint(number, place);
-        let child = take_child_as(&mut self.places, number, status, place)?;
+        let guess = guess_or(place, &self.hints, number, self.made);
+        let child = take_child_as(&mut self.places, number, status, guess)?;
         trim(&mut self.places);
         self.live -= 1;
         self.running -= one_if(child.is_running());
@@ -183,20 +187,12 @@ impl<A: Allocator + Copy> Table<A> {
             ((list_any (stands_as status number) self.old.rows ≡ true) × (self.new ≡ record self.old { rows = map (waiting_at number) self.old.rows }))
             ((list_any (stands_as status number) self.old.rows ≡ false) × (self.new ≡ self.old)) }
     {
-        let place = self.place_or_hint(number, place);
-        if !let_wait(&mut self.places, number, status, place) {
+        let guess = guess_or(place, &self.hints, number, self.made);
+        if !let_wait(&mut self.places, number, status, guess) {
             return false;
         }
         self.running -= one_if(status.is_running());
         true
-    }
-
-    /// Where this number may stand: this place, if a caller had one, or where it was put.
-    fn place_or_hint(&self, number: u64, place: usize) -> usize {
-        if place == NO_PLACE {
-            return self.hints.of(number);
-        }
-        place
     }
 
     /// Takes all rows out.
@@ -206,6 +202,19 @@ impl<A: Allocator + Copy> Table<A> {
         self.places.clear();
         self.live = 0;
         self.running = 0;
+    }
+}
+
+/// Where this number is looked for first, after so many were made: this place, if a caller had one, or where its hint says.
+fn guess_or<A: Allocator>(place: usize, hints: &Hints<A>, number: u64, made: u64) -> Guess
+    ensures { (places : List Place) → Hinted places made hints.now → IsRight result number places }
+{
+    if place == NO_PLACE {
+        return hints.guess(number, made);
+    }
+    Guess {
+        place,
+        is_only: false,
     }
 }
 
@@ -220,6 +229,7 @@ fn put_next<A: Allocator>(places: &mut Places<A>, number: u64, arg: Text)
     requires { vec_len places.old < vec_capacity places.old }
     ensures rows { listed places.new.items ≡ listed places.old.items ++ running number arg ∷ [] }
     ensures rises { (low high : ℕ) → high < number → Rises low places.old.items high → Rises low places.new.items number }
+    ensures keys { keys_of places.new.items ≡ keys_of places.old.items ++ number ∷ [] }
     ensures capacity { vec_capacity places.old ≤ vec_capacity places.new }
 {
     let child = Child {
@@ -229,22 +239,24 @@ fn put_next<A: Allocator>(places: &mut Places<A>, number: u64, arg: Text)
     let _ = places.push((number, Some(child)));
 }
 
-fn child_at<A: Allocator>(places: &Places<A>, number: u64, place: usize) -> Option<&Child>
-    requires { (high : ℕ) × Rises 0 places.now.items high }
+fn child_at<A: Allocator>(places: &Places<A>, number: u64, guess: Guess) -> Option<&Child>
+    requires rises { (high : ℕ) × Rises 0 places.now.items high }
+    requires right { IsRight guess number places.now.items }
     ensures { option_copied result ≡ found (lookup (nat_eq number) places.now.items) }
 {
-    match found_at(places, number, place) {
+    match found_at(places, number, guess) {
         Some((_, child)) => Some(child),
         None => None,
     }
 }
 
 /// The child of this number, and the index of its place.
-fn found_at<A: Allocator>(places: &Places<A>, number: u64, place: usize) -> Option<(usize, &Child)>
-    requires { (high : ℕ) × Rises 0 places.now.items high }
+fn found_at<A: Allocator>(places: &Places<A>, number: u64, guess: Guess) -> Option<(usize, &Child)>
+    requires rises { (high : ℕ) × Rises 0 places.now.items high }
+    requires right { IsRight guess number places.now.items }
     ensures { option_map (λ p. p.1.now) result ≡ found (lookup (nat_eq number) places.now.items) }
 {
-    let index = index_of(places, number, place)?;
+    let index = index_of(places, number, guess)?;
     match child_of(&places[index]) {
         Some(child) => Some((index, child)),
         None => None,
@@ -257,17 +269,31 @@ fn child_of(place: &Place) -> Option<&Child>
     place.1.as_ref()
 }
 
-/// The index of this number's place, if it has one. It is looked for at `place`, where it stands if no number in front of it
-/// is missing, or in the last place, and then by halves.
-fn index_of<A: Allocator>(places: &Places<A>, number: u64, place: usize) -> Option<usize>
+/// The index of this number's place, if it has one.
+fn index_of<A: Allocator>(places: &Places<A>, number: u64, guess: Guess) -> Option<usize>
+    requires rises { (high : ℕ) × Rises 0 places.now.items high }
+    requires right { IsRight guess number places.now.items }
+    ensures absent { IfNone result (lookup (nat_eq number) places.now.items ≡ None) }
+    ensures within { IfSome result (λ i. i < vec_len places.now) }
+    ensures there { IfSome result (λ i. slice_get (keys_of places.now.items) i ≡ Some number) }
+{
+    if stands_at(places, number, guess.place) {
+        return Some(guess.place);
+    }
+    if guess.is_only {
+        return None;
+    }
+    index_of_old(places, number)
+}
+
+/// The same of a number of which its hint says nothing. It is looked for where it stands if no number in front of it is missing, or in
+/// the last place, and then by halves.
+fn index_of_old<A: Allocator>(places: &Places<A>, number: u64) -> Option<usize>
     requires { (high : ℕ) × Rises 0 places.now.items high }
     ensures absent { IfNone result (lookup (nat_eq number) places.now.items ≡ None) }
     ensures within { IfSome result (λ i. i < vec_len places.now) }
     ensures there { IfSome result (λ i. slice_get (keys_of places.now.items) i ≡ Some number) }
 {
-    if stands_at(places, number, place) {
-        return Some(place);
-    }
     let likely = likely_index(places, number);
     if stands_at(places, number, likely) {
         return Some(likely);
@@ -280,7 +306,8 @@ fn index_of<A: Allocator>(places: &Places<A>, number: u64, place: usize) -> Opti
 
 /// Whether this number's place is at this index.
 fn stands_at<A: Allocator>(places: &Places<A>, number: u64, index: usize) -> bool
-    ensures { result ≡ true → (index < vec_len places.now) × (slice_get (keys_of places.now.items) index ≡ Some number) }
+    ensures yes { result ≡ true → (index < vec_len places.now) × (slice_get (keys_of places.now.items) index ≡ Some number) }
+    ensures no { result ≡ false → slice_get (keys_of places.now.items) index ≢ Some number }
 {
     index < places.len() && places[index].0 == number
 }
@@ -303,13 +330,14 @@ fn searched<A: Allocator>(places: &Places<A>, number: u64) -> Result<usize, usiz
 }
 
 /// Empties the place of this number, and answers the child that was there.
-fn take_child<A: Allocator>(places: &mut Places<A>, number: u64, place: usize) -> Option<Child>
-    requires { (high : ℕ) × Rises 0 places.old.items high }
+fn take_child<A: Allocator>(places: &mut Places<A>, number: u64, guess: Guess) -> Option<Child>
+    requires rises { (high : ℕ) × Rises 0 places.old.items high }
+    requires right { IsRight guess number places.old.items }
     ensures value { result ≡ found (lookup (nat_eq number) places.old.items) }
     ensures items { places.new.items ≡ set_value (nat_eq number) places.old.items None }
     ensures capacity { vec_capacity places.new ≡ vec_capacity places.old }
 {
-    match index_of(places, number, place) {
+    match index_of(places, number, guess) {
         Some(index) => place_empties(&mut places[index]),
         None => None,
     }
@@ -327,14 +355,15 @@ fn take_child_as<A: Allocator>(
     places: &mut Places<A>,
     number: u64,
     status: Status,
-    place: usize,
+    guess: Guess,
 ) -> Option<Child>
-    requires { (high : ℕ) × Rises 0 places.old.items high }
+    requires rises { (high : ℕ) × Rises 0 places.old.items high }
+    requires right { IsRight guess number places.old.items }
     ensures value { result ≡ taken_of status (found (lookup (nat_eq number) places.old.items)) }
     ensures items { places.new.items ≡ set_value (nat_eq number) places.old.items (left_of status (found (lookup (nat_eq number) places.old.items))) }
     ensures capacity { vec_capacity places.new ≡ vec_capacity places.old }
 {
-    match index_of(places, number, place) {
+    match index_of(places, number, guess) {
         Some(index) => place_gives(&mut places[index], status),
         None => None,
     }
@@ -351,13 +380,14 @@ fn place_gives(place: &mut Place, status: Status) -> Option<Child>
 }
 
 /// Lets the child of this number wait for another try, if it has this status, and answers whether it has.
-fn let_wait<A: Allocator>(places: &mut Places<A>, number: u64, status: Status, place: usize) -> bool
-    requires { (high : ℕ) × Rises 0 places.old.items high }
+fn let_wait<A: Allocator>(places: &mut Places<A>, number: u64, status: Status, guess: Guess) -> bool
+    requires rises { (high : ℕ) × Rises 0 places.old.items high }
+    requires right { IsRight guess number places.old.items }
     ensures value { result ≡ is_some (taken_of status (found (lookup (nat_eq number) places.old.items))) }
     ensures items { places.new.items ≡ set_value (nat_eq number) places.old.items (waiting_of status (found (lookup (nat_eq number) places.old.items))) }
     ensures capacity { vec_capacity places.new ≡ vec_capacity places.old }
 {
-    match index_of(places, number, place) {
+    match index_of(places, number, guess) {
         Some(index) => place_waits(&mut places[index], status),
         None => false,
     }
@@ -411,6 +441,9 @@ fn make_room<A: Allocator>(places: &mut Places<A>, hints: &mut Hints<A>, max: us
     ensures capacity { vec_capacity places.new ≡ vec_capacity places.old }
     ensures room { vec_len places.new < vec_capacity places.new }
     ensures few { vec_len places.new < 2 * max }
+    ensures size { hints.new.size ≡ hints.old.size }
+    ensures hinted { (made : ℕ) → Rises 0 places.old.items made → Covers made hints.old → Hinted places.old.items made hints.old
+        → Covers made hints.new × Hinted places.new.items made hints.new }
 {
     let most = (2 * live + FEW_PLACES).min(2 * max);
     if places.len() >= most {
@@ -423,6 +456,8 @@ fn make_room<A: Allocator>(places: &mut Places<A>, hints: &mut Hints<A>, max: us
 fn trim<A: Allocator>(places: &mut Places<A>)
     ensures rows { listed places.new.items ≡ listed places.old.items }
     ensures rises { (low high : ℕ) → Rises low places.old.items high → Rises low places.new.items high }
+    ensures last { 0 < vec_len places.new → is_some (slice_index_or places.new.items (vec_len places.new - 1) (0, None)).1 ≡ true }
+    ensures keys { (index number : ℕ) → slice_get (keys_of places.new.items) index ≡ Some number → slice_get (keys_of places.old.items) index ≡ Some number }
     ensures capacity { vec_capacity places.new ≡ vec_capacity places.old }
 {
     'empties: while ends_empty(places) {
@@ -432,25 +467,34 @@ fn trim<A: Allocator>(places: &mut Places<A>)
 
 /// Whether there are places and the last is empty.
 fn ends_empty<A: Allocator>(places: &Places<A>) -> bool
-    ensures { result ≡ true → (0 < vec_len places.now) × (is_some (slice_index_or places.now.items (vec_len places.now - 1) (0, None)).1 ≡ false) }
+    ensures yes { result ≡ true → (0 < vec_len places.now) × (is_some (slice_index_or places.now.items (vec_len places.now - 1) (0, None)).1 ≡ false) }
+    ensures no { result ≡ false → 0 < vec_len places.now → is_some (slice_index_or places.now.items (vec_len places.now - 1) (0, None)).1 ≡ true }
 {
     let len = places.len();
     len > 0 && !is_listed(&places[len - 1])
 }
 
-/// Gives back the empty places, and writes the hints of those that stay.
+/// Gives back the empty places, and notes where those that stay then stand.
 fn compact<A: Allocator>(places: &mut Places<A>, hints: &mut Hints<A>)
+    requires { length (listed places.old.items) ≤ 65536 }
     ensures places { places.new.items ≡ map place_of (listed places.old.items) }
     ensures capacity { vec_capacity places.new ≡ vec_capacity places.old }
+    ensures size { hints.new.size ≡ hints.old.size }
+    ensures hinted { (made : ℕ) → Rises 0 places.new.items made → Covers made hints.old → Covers made hints.new × Hinted places.new.items made hints.new }
 {
-    let mut kept = 0u32;
-    places.retain(|place| {
-        let stays = is_listed(place);
-        // (A hint is written of an empty place, too: that takes less time than a branch which is hard to guess.)
-        hints.note(place.0, kept);
-        kept = kept.wrapping_add(u32::from(stays));
-        stays
-    });
+    places.retain(|place| is_listed(place));
+    note_all(places, hints);
+}
+
+/// Notes where each of these places stands.
+fn note_all<A: Allocator>(places: &Places<A>, hints: &mut Hints<A>)
+    requires { vec_len places.now ≤ 65536 }
+    ensures size { hints.new.size ≡ hints.old.size }
+    ensures hinted { (made : ℕ) → Rises 0 places.now.items made → Covers made hints.old → Covers made hints.new × Hinted places.now.items made hints.new }
+{
+    for index in 0..places.len() {
+        hints.note(places[index].0, index as u32);
+    }
 }
 
 /// Whether a child is listed at this place.

@@ -12,7 +12,7 @@ pub returns-in-Some-clause-value : goal.returns-in-Some-clause-value
 returns-in-Some-clause-value g c =
     let k = c.args.number in
     let places = c.args.places.now.items in
-    let distinct = rises-distinct 0 places c.requires.0 c.requires.1 in
+    let distinct = rises-distinct 0 places c.requires.rises.0 c.requires.rises.1 in
     let within : c.in-Some.index < length places = omega (arith, c.in-Some.ensures.within, c.args.places.now.ok.0) in
     let at = place-index k places c.in-Some.index c.index_mut.result.now distinct within c.in-Some.ensures.there c.index_mut.ensures.value in
     c.place_gives.ensures.value ∙ ap (λ o. taken_of c.args.status o) (sym (ap found at.1))
@@ -21,7 +21,7 @@ pub returns-in-Some-clause-items : goal.returns-in-Some-clause-items
 returns-in-Some-clause-items g c =
     let k = c.args.number in
     let places = c.args.places.now.items in
-    let distinct = rises-distinct 0 places c.requires.0 c.requires.1 in
+    let distinct = rises-distinct 0 places c.requires.rises.0 c.requires.rises.1 in
     let within : c.in-Some.index < length places = omega (arith, c.in-Some.ensures.within, c.args.places.now.ok.0) in
     let at = place-index k places c.in-Some.index c.index_mut.result.now distinct within c.in-Some.ensures.there c.index_mut.ensures.value in
     ap (slice_set places c.in-Some.index)

@@ -10,8 +10,11 @@ use Rattle.sup_core.proofs.PlaceLemmas.{argument-taken}
 use Rattle.sup_core.proofs.RiseLemmas.{rises-distinct}
 use Rattle.sup_core.proofs.table.Table.asked_of.Goals as goal
 
-pub found_at-requires : goal.found_at-requires
-found_at-requires g c = (c.self.inside.made, c.self.invariant.0)
+pub found_at-requires-clause-rises : goal.found_at-requires-clause-rises
+found_at-requires-clause-rises g c = (c.self.inside.made, c.self.invariant.0)
+
+pub found_at-requires-clause-right : goal.found_at-requires-clause-right
+found_at-requires-clause-right g c = c.guess.ensures c.self.inside.places.items c.self.invariant.8
 
 pub returns-in-Some : goal.returns-in-Some
 returns-in-Some g c =

@@ -11,10 +11,14 @@ use Rattle.sup_core.proofs.PlaceLemmas.{live-taken, running-taken, stands-listed
 use Rattle.sup_core.proofs.RowLemmas.{length-filter-lt}
 use Rattle.sup_core.specs.ListingLaws.{list_any-weaker}
 use Rattle.sup_core.proofs.RiseLemmas.{rises-set, rises-distinct}
+use Rattle.sup_core.proofs.HintLemmas.{hinted-set, hinted-first}
 use Rattle.sup_core.proofs.table.Table.take_as.Goals as goal
 
-pub take_child_as-requires : goal.take_child_as-requires
-take_child_as-requires g c = (c.self.inside.made, c.self.invariant.0)
+pub take_child_as-requires-clause-rises : goal.take_child_as-requires-clause-rises
+take_child_as-requires-clause-rises g c = (c.self.inside.made, c.self.invariant.0)
+
+pub take_child_as-requires-clause-right : goal.take_child_as-requires-clause-right
+take_child_as-requires-clause-right g c = c.guess_or-guess.ensures c.self.inside.places.items c.self.invariant.8
 
 pub invariant_of-self : goal.invariant_of-self
 invariant_of-self g c =
@@ -30,6 +34,9 @@ invariant_of-self g c =
       c.self.invariant.3 ∙ sym (ap (λ l. running_count (listed l)) kept),
       omega (arith, c.take_child_as.ensures.capacity, c.self.invariant.4),
       c.self.invariant.5,
+      c.self.invariant.6,
+      c.self.invariant.7,
+      hinted-set k places c.take_child_as.new.places.items (left_of c.args.status (found (lookup (nat_eq k) places))) c.self.inside.made c.self.inside.hints c.take_child_as.ensures.items c.self.invariant.8,
     )
 
 pub returns-in_err-child-clause-taken : goal.returns-in_err-child-clause-taken
@@ -81,6 +88,11 @@ invariant_of-self-2 g c =
       ),
       omega (arith, c.trim.ensures.capacity, c.take_child_as.ensures.capacity, c.self.invariant.4),
       c.self.invariant.5,
+      c.self.invariant.6,
+      c.self.invariant.7,
+      hinted-first c.take_child_as.new.places.items c.trim.new.places.items c.self.inside.made c.self.inside.hints c.trim.ensures.keys (
+          hinted-set k places c.take_child_as.new.places.items (left_of c.args.status (found (lookup (nat_eq k) places))) c.self.inside.made c.self.inside.hints c.take_child_as.ensures.items c.self.invariant.8
+          ),
     )
 
 pub returns-clause-taken : goal.returns-clause-taken

@@ -8,10 +8,14 @@ use Rattle.sup_core.specs.Rows.{stands_as, waiting_at}
 use Rattle.sup_core.specs.Children.{Listed, Rises, listed, running_count, one_if, found, taken_of, waiting_of}
 use Rattle.sup_core.proofs.PlaceLemmas.{live-waited, running-waited, rows-waited, stands-listed, set_value-kept, waiting-kept, waiting-there}
 use Rattle.sup_core.proofs.RiseLemmas.{rises-set, rises-distinct}
+use Rattle.sup_core.proofs.HintLemmas.{hinted-set}
 use Rattle.sup_core.proofs.table.Table.wait_as.Goals as goal
 
-pub let_wait-requires : goal.let_wait-requires
-let_wait-requires g c = (c.self.inside.made, c.self.invariant.0)
+pub let_wait-requires-clause-rises : goal.let_wait-requires-clause-rises
+let_wait-requires-clause-rises g c = (c.self.inside.made, c.self.invariant.0)
+
+pub let_wait-requires-clause-right : goal.let_wait-requires-clause-right
+let_wait-requires-clause-right g c = c.guess_or-guess.ensures c.self.inside.places.items c.self.invariant.8
 
 pub invariant_of-self : goal.invariant_of-self
 invariant_of-self g c =
@@ -27,6 +31,9 @@ invariant_of-self g c =
       c.self.invariant.3 ∙ sym (ap (λ l. running_count (listed l)) kept),
       omega (arith, c.let_wait.ensures.capacity, c.self.invariant.4),
       c.self.invariant.5,
+      c.self.invariant.6,
+      c.self.invariant.7,
+      hinted-set k places c.let_wait.new.places.items (waiting_of c.args.status (found (lookup (nat_eq k) places))) c.self.inside.made c.self.inside.hints c.let_wait.ensures.items c.self.invariant.8,
     )
 
 pub returns-then-not-let_wait : goal.returns-then-not-let_wait
@@ -69,6 +76,9 @@ invariant_of-self-2 g c =
       ),
       omega (arith, c.let_wait.ensures.capacity, c.self.invariant.4),
       c.self.invariant.5,
+      c.self.invariant.6,
+      c.self.invariant.7,
+      hinted-set k places c.let_wait.new.places.items (waiting_of c.args.status (found (lookup (nat_eq k) places))) c.self.inside.made c.self.inside.hints c.let_wait.ensures.items c.self.invariant.8,
     )
 
 pub returns : goal.returns
