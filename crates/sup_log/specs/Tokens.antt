@@ -34,13 +34,6 @@ pub record Sight : Type 0 where
   pub editions : List Publication
   pub front : List Entry
 
--- the entries of one publication, and the front that ends with them
-pub record Edition : Type 0 where
-  pub press : Book
-  pub entries : List Entry
-  pub editions : List Publication
-  pub front : List Entry
-
 -- the press that a lens looks at, the template of that press, and the front that the lens has seen
 pub record Sighted : Type 0 where
   pub press : Book
@@ -67,3 +60,7 @@ sight l = record { press = l.press; standing = standing l.template l.front; edit
 -- the copy is the supervisor after its front
 abbrev pub IsLawful : Sight → Type 0
 IsLawful v = v.standing ≡ standing v.standing.template v.front
+
+-- the copy of a supervisor of this template, by a front of no entry
+abbrev pub IsFresh : Told → Template → Sight → Type 0
+IsFresh t template v = (v.press ≡ t.press) × (v.editions ≡ t.editions) × (v.front ≡ t.front) × (v.standing.template ≡ template) × IsLawful v

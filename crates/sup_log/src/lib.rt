@@ -20,11 +20,11 @@
 //! let (stamp, counts) = lens.look(|view| (view.stamp(), view.counts()))?;
 //! ```
 //!
-//! The log of the entries is that of a `logbook` book and stands in the proofs alone. The copies are `left_right`'s, whose
-//! operation is one publication: its entries, and the front that ends with them.
+//! The log of the entries is that of a `logbook` book and stands in the proofs alone. The copies are `left_right`'s. Its queue of
+//! operations is not used: the press keeps the entries of the last publication, which one copy lacks, and brings that copy up to
+//! date where it is turned. So a publication takes no memory.
 #![tactic(auto)]
 
-mod batch;
 mod copies;
 mod faults;
 mod history;

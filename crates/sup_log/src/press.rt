@@ -4,13 +4,11 @@ ghost use mathlib.Core.List.{IsPrefix};
 ghost use Rattle.sup_types.specs.declared.history.Entry.{Entry};
 ghost use Rattle.sup_log.specs.Tokens.{in_one_step};
 
-use crate::batch::Batch;
 use crate::copies::Copies;
 use crate::faults::NoPlace;
 use crate::history::History;
 use crate::lens::Lens;
 use crate::ticket::Ticket;
-use core::mem::replace;
 use std::alloc::Global;
 use std::marker::Model;
 use std::sync::Wait;
@@ -114,10 +112,8 @@ impl<R: Wait + Drop> Press<R> {
         if self.pending.is_empty() {
             return;
         }
-        let alloc = *self.pending.allocator();
-        let entries = replace(&mut self.pending, Vec::new(alloc));
-        let front = extended(&mut self.history, &self.rt, entries.as_slice());
-        self.copies.show(&self.rt, Batch { entries, front });
+        let front = extended(&mut self.history, &self.rt, self.pending.as_slice());
+        self.copies.show(&self.rt, &mut self.pending, &front);
     }
 
     /// A ticket for all that is published.

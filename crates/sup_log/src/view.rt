@@ -1,12 +1,11 @@
 //! One copy of the supervisor, as a lens sees it.
-ghost use Rattle.std.specs.Prelude.{◌≡◌, [], length, IfOk};
+ghost use Rattle.std.specs.Prelude.{◌≡◌, [], length, fold, IfOk};
 ghost use Rattle.sup_core.specs.Rows.{row_at, counts_of};
 ghost use Rattle.sup_core.specs.Account.{account, is_down, listed_rows};
-ghost use Rattle.sup_log.specs.Absorbing.{taken};
+ghost use Rattle.sup_log.specs.Absorbing.{taken, grown};
 ghost use Rattle.sup_log.specs.Rows.{IsEmptyWhenDown};
 ghost use Rattle.sup_log.specs.Tokens.{IsLawful};
 
-use crate::batch::Batch;
 use crate::ticket::Ticket;
 use left_right::Absorb;
 use std::alloc::{AllocError, Allocator, Global};
@@ -114,6 +113,23 @@ impl<A: Allocator + Copy> View<A> {
         self.sup.is_down()
     }
 
+    /// Takes these entries, in order. It goes on telling the front that it told.
+    pub(crate) fn take_all(&mut self, entries: &[Entry])
+        ensures { self.new ≡ record self.old { standing = fold taken self.old.standing entries.now } }
+    {
+        for entry in entries {
+            take(&mut self.sup, entry);
+        }
+    }
+
+    /// Takes these entries, in order, and tells this front then.
+    pub(crate) fn absorb(&mut self, entries: &[Entry], front: &Ticket)
+        ensures { self.new ≡ grown self.old entries.now front.now }
+    {
+        self.take_all(entries);
+        self.front = front.copied();
+    }
+
     /// The front that it has absorbed.
     pub(crate) fn front(&self) -> &Ticket
         ensures { result.now ≡ record { press = self.now.press; editions = self.now.editions; front = self.now.front } }
@@ -122,22 +138,17 @@ impl<A: Allocator + Copy> View<A> {
     }
 }
 
-impl<A: Allocator + Copy + Drop> Absorb<Batch<A>> for View<A> {
-    ghost use Rattle.sup_log.specs.Absorbing.{absorbed};
+/// `left_right` asks for this. Its queue stays empty, so nothing of it is ever called.
+impl<A: Allocator + Copy + Drop> Absorb<()> for View<A> {
+    type State = ();
 
-    type State = View<A>;
+    ghost state = { λ _. tt };
 
-    ghost state = { λ v. v };
-
-    ghost applied = { absorbed };
+    ghost applied = { λ _ _. tt };
 
     ghost never_fails = { Unit {0} };
 
-    fn absorb_first(&mut self, operation: &Batch<A>, _other: &View<A>) -> Result<(), AllocError> {
-        for entry in operation.entries.as_slice() {
-            take(&mut self.sup, entry);
-        }
-        self.front = operation.front.copied();
+    fn absorb_first(&mut self, _operation: &(), _other: &View<A>) -> Result<(), AllocError> {
         Ok(())
     }
 }
