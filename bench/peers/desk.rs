@@ -13,6 +13,8 @@ const ROWS: u64 = 65_504;
 const COUNTS: u64 = 2_000_000;
 const PAIRS: u64 = 500_000;
 const BATCHES: u64 = 10_000;
+/// Where the draws begin (a shift register of 64 bits).
+const SEED: u64 = 88_172_645_463_325_252;
 const ARG: &str = "connection-4711";
 
 fn count_all(shared: &RwLock<Supervisor>) -> u64 {
@@ -52,6 +54,28 @@ fn time_updates(shared: &RwLock<Supervisor>, handles: u64) {
 }
 
 /// Batches of 32 starts and the terminations of these children, each batch under one lock.
+/// Terminations of children that are drawn at random, and starts of others in their place.
+fn time_drawn(shared: &RwLock<Supervisor>, handles: u64) {
+    let mut alive: Vec<u64> = shared.read().unwrap().rows.keys().copied().collect();
+    alive.sort_unstable();
+    let rows = alive.len() as u64;
+    let (mut drawn, mut done) = (SEED, 0);
+    let start = Instant::now();
+    for _ in 0..PAIRS {
+        drawn ^= drawn << 13;
+        drawn ^= drawn >> 7;
+        drawn ^= drawn << 17;
+        let place = ((drawn >> 32).wrapping_mul(rows) >> 32) as usize;
+        let ended = shared.write().unwrap().terminate(alive[place]) == Reply::Ended;
+        if let Reply::Started(next) = shared.write().unwrap().start(ARG, Answer::Running) {
+            alive[place] = next;
+            done += 2 * u64::from(ended);
+        }
+    }
+    let took = start.elapsed().as_nanos();
+    println!("update at random among {rows} rows, {handles} handles: {took} ns, {} times, answer {done}", 2 * PAIRS);
+}
+
 fn time_batches(shared: &RwLock<Supervisor>, handles: u64) {
     let mut ended = 0u64;
     let start = Instant::now();
@@ -102,6 +126,7 @@ fn main() {
         time_updates(&shared, handles);
         fill(&shared);
         time_updates(&shared, handles);
+        time_drawn(&shared, handles);
         time_batches(&shared, handles);
     }
     let shared = made();
