@@ -1,5 +1,5 @@
 //! Where the numbers that were made last stand.
-ghost use Rattle.std.specs.Prelude.{◌≡◌, ◌≤◌, ◌<◌, ◌+◌, ◌-◌, ◌*◌, ◌%◌, ◌^◌, List, IfOk, MatchOption};
+ghost use Rattle.std.specs.Prelude.{◌≡◌, ◌≤◌, ◌<◌, ◌+◌, ◌-◌, ◌*◌, ◌%◌, ◌^◌, List, IfOk, MatchOption, nat_lt};
 ghost use Rattle.std.specs.Int.{IsPowerOfTwo};
 ghost use Rattle.sup_core.specs.Children.{Place};
 ghost use Rattle.sup_core.specs.Hints.{Noted, Covers, Hinted, IsRight, hint_of, noting};
@@ -60,7 +60,9 @@ impl<A: Allocator> Hints<A> {
     /// Where this number is looked for first, after so many were made. If it is one of those that were made last, it stands there
     /// or nowhere.
     pub(crate) fn guess(&self, number: u64, made: u64) -> Guess
-        ensures { (places : List Place) → Hinted places made self.now → IsRight result number places }
+        ensures place { MatchOption (hint_of number self.now) (result.place ≡ 2 ^ 64 - 1) (λ place. result.place ≡ place) }
+        ensures only { result.is_only ≡ nat_lt made (number + self.now.size) }
+        ensures right { (places : List Place) → Hinted places made self.now → IsRight result number places }
     {
         Guess {
             place: self.of(number),

@@ -178,6 +178,7 @@ impl<A: Allocator + Copy> Sup<A> {
 
     /// What an entry with this operation and moment asks: the argument whose start decides the reply, if there is one. The
     /// entry with the answer is then entered by [`Sup::step_asked`], which does not look for the child again.
+    #[inline(always)]
     pub fn asks(&self, operation: &Operation, moment: u64) -> Asked
         ensures value { result.arg ≡ asked_argument self.now operation.now moment }
         ensures history { (history : List Entry) → IsAfter self.now history
@@ -186,6 +187,7 @@ impl<A: Allocator + Copy> Sup<A> {
         self.asked_argument(operation, moment)
     }
 
+    #[inline(always)]
     fn asked_argument(&self, operation: &Operation, moment: u64) -> Asked
         ensures { result.arg ≡ asked_argument self.now operation.now moment }
     {

@@ -7,7 +7,7 @@
 //!
 //! A number is looked for where it was put. For the numbers that were made last there are hints, and one of these that is not where
 //! its hint says stands nowhere. An older one is looked for where it stands if none in front of it is missing, and then by halves.
-ghost use Rattle.std.specs.Prelude.{true, false, ◌≡◌, ◌≢◌, ◌≤◌, ◌<◌, ◌+◌, ◌-◌, ◌*◌, ◌^◌, ℕ, List, [], ◌∷◌, ◌++◌, IfOk, IfErr, None, Some, map, length, nat_eq, is_some, slice_index_or, MatchBool, MatchOption, IsOk, IsSome, IfSome, IfNone, slice_get, if◌then◌else◌};
+ghost use Rattle.std.specs.Prelude.{true, false, ◌≡◌, ◌≢◌, ◌≤◌, ◌<◌, ◌+◌, ◌-◌, ◌*◌, ◌^◌, ℕ, List, [], ◌∷◌, ◌++◌, IfOk, IfErr, None, Some, map, length, nat_eq, nat_lt, is_some, slice_index_or, MatchBool, MatchOption, IsOk, IsSome, IfSome, IfNone, slice_get, if◌then◌else◌};
 ghost use Rattle.std.specs.List.{list_any, cons_option};
 ghost use Rattle.std.specs.Option.{option_copied, option_map};
 ghost use Rattle.std.specs.Map.{keys_of, lookup, set_value};
@@ -16,7 +16,7 @@ ghost use Rattle.std.specs.Vec.{vec_len, vec_capacity};
 ghost use Rattle.sup_core.specs.Rows.{has_number, stands_as, row_at, argument_at, without, waiting_at};
 ghost use Rattle.sup_core.specs.Changes.{running};
 ghost use Rattle.sup_core.specs.Children.{Listed, Place, Rises, listed, place_of, place_row, running_count, one_if, found, taken_of, left_of, waiting_of};
-ghost use Rattle.sup_core.specs.Hints.{Covers, Hinted, IsRight};
+ghost use Rattle.sup_core.specs.Hints.{Covers, Hinted, IsRight, hint_of};
 
 use crate::asked::{Asked, NO_PLACE};
 use crate::child::Child;
@@ -207,7 +207,9 @@ impl<A: Allocator + Copy> Table<A> {
 
 /// Where this number is looked for first, after so many were made: this place, if a caller had one, or where its hint says.
 fn guess_or<A: Allocator>(place: usize, hints: &Hints<A>, number: u64, made: u64) -> Guess
-    ensures { (places : List Place) → Hinted places made hints.now → IsRight result number places }
+    ensures given { place < 2 ^ 64 - 1 → (result.place ≡ place) × (result.is_only ≡ false) }
+    ensures hinted { place ≡ 2 ^ 64 - 1 → MatchOption (hint_of number hints.now) (result.place ≡ 2 ^ 64 - 1) (λ noted. result.place ≡ noted) × (result.is_only ≡ nat_lt made (number + hints.now.size)) }
+    ensures right { (places : List Place) → Hinted places made hints.now → IsRight result number places }
 {
     if place == NO_PLACE {
         return hints.guess(number, made);

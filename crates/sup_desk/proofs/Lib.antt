@@ -1,5 +1,5 @@
 pub mod Answered
-pub mod After
+pub mod Stepped
 pub mod Counted
 pub mod Enrolling
 pub mod Audited

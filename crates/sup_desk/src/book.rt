@@ -9,9 +9,9 @@ use crate::name::Name;
 use std::marker::Model;
 use std::sync::Wait;
 
-/// What stands under the lock: a supervisor in the state after all that was published, the press with nothing pending, the
-/// journal, which has recorded just what was published, and how many entries each handle has made. It is so whenever the lock
-/// is free, as long as the journal does not break off. What was pending then is never published.
+/// What stands under the lock: the press with nothing pending, the journal, which has recorded just what was published, and how
+/// many entries each handle has made. It is so whenever the lock is free, as long as the journal does not break off. What was
+/// pending then is never published.
 #[derive(Drop)]
 pub struct Book<N: Name, R: Wait + Drop, J: Journal + Drop> {
     pub(crate) leaf: Leaf<N, R, J>,

@@ -1,6 +1,5 @@
 //! Drafts: what a recovery has entered so far.
 ghost use Rattle.std.specs.Prelude.{◌≡◌, ◌<◌, ◌≤◌, ◌+◌, ◌++◌, ◌∷◌, ℕ, [], length, slice_index, vec_len, vec_capacity, IfOk, OnOk, IfErr, None};
-ghost use Rattle.sup_log.specs.Tokens.{standing};
 ghost use Rattle.sup_desk.specs.Audits.{AreNumbered, HaveSeenAll};
 ghost use Rattle.sup_desk.specs.Knowledge.{entries_of};
 ghost use Rattle.sup_desk.specs.Recoveries.{StopsAt};
@@ -15,15 +14,12 @@ use crate::roll::Roll;
 use std::alloc::Global;
 use std::marker::{Model, PhantomData};
 use std::sync::Wait;
-use sup_core::Sup;
 use sup_log::Press;
 use sup_types::{Entry, OutOfMemory};
 
-/// A supervisor in the state after the entries so far, the press, which has published them, and how many of them each handle
-/// of before has made.
+/// The press, which has published the entries so far, and how many of them each handle of before has made.
 #[derive(Drop)]
 pub struct Draft<N: Name, R: Wait + Drop> {
-    sup: Sup,
     press: Press<R>,
     counts: Vec<u64>,
     handles: u64,
@@ -32,7 +28,7 @@ pub struct Draft<N: Name, R: Wait + Drop> {
 
 impl<N: Name, R: Wait + Drop> Model for Draft<N, R> {
     ghost use Rattle.std.specs.Prelude.{◌≡◌, ◌≤◌, [], vec_len, vec_capacity};
-    ghost use Rattle.sup_log.specs.Tokens.{standing, history_of};
+    ghost use Rattle.sup_log.specs.Tokens.{history_of};
     ghost use Rattle.sup_desk.specs.Books.{IsCounted};
     ghost use Rattle.sup_desk.specs.Recoveries.{Drafted};
 
@@ -41,21 +37,19 @@ impl<N: Name, R: Wait + Drop> Model for Draft<N, R> {
     ghost view = { λ d. record { history = d.press.published; made = vec_len d.counts; handles = d.handles } };
 
     ghost invariant = { λ d. (d.press.press ≡ N.press) × (d.press.template ≡ N.template) × (d.press.published ≡ history_of d.press.editions)
-        × (d.press.pending ≡ []) × (d.sup ≡ standing N.template d.press.published)
+        × (d.press.pending ≡ []) × (d.press.stepped ≡ 0)
         × IsCounted (vec_len d.counts) d.counts.items d.press.published
         × (vec_len d.counts ≤ d.handles) × (d.handles ≤ vec_capacity d.counts) × (d.handles ≤ 1024) };
 }
 
 impl<N: Name, R: Wait + Drop> Draft<N, R> {
     /// Nothing is entered.
-    pub(crate) fn begin(press: Press<R>, sup: Sup, counts: Vec<u64>, handles: u64) -> Draft<N, R>
-        requires press { (press.press ≡ N.press) × (press.template ≡ N.template) × (press.pending ≡ []) × (press.published ≡ []) × (press.editions ≡ []) }
-        requires sup { sup ≡ standing N.template [] }
+    pub(crate) fn begin(press: Press<R>, counts: Vec<u64>, handles: u64) -> Draft<N, R>
+        requires press { (press.press ≡ N.press) × (press.template ≡ N.template) × (press.pending ≡ []) × (press.published ≡ []) × (press.editions ≡ []) × (press.stepped ≡ 0) }
         requires counts { (vec_len counts ≡ 0) × (handles ≤ vec_capacity counts) × (handles ≤ 1024) }
         ensures { result ≡ record { history = []; made = 0; handles = handles } }
     {
         Draft {
-            sup,
             press,
             counts,
             handles,
@@ -88,10 +82,10 @@ impl<N: Name, R: Wait + Drop> Draft<N, R> {
         requires made { (1 ≤ entry.handle) × (entry.handle ≤ self.old.made) }
         ensures { OnOk result (self.new ≡ record self.old { history = self.old.history ++ entry ∷ [] }) }
     {
+        let place = (entry.handle - 1) as usize;
         self.press.append(entry)?;
-        self.sup.step(&entry);
         self.press.publish();
-        self.counts[(entry.handle - 1) as usize] += 1;
+        self.counts[place] += 1;
         Ok(())
     }
 
@@ -104,7 +98,7 @@ impl<N: Name, R: Wait + Drop> Draft<N, R> {
         if number == 0 || number > self.handles {
             return Err(RecoverFault::NoHandle);
         }
-        if self.sup.is_spent() {
+        if self.press.is_full() {
             return Err(RecoverFault::HistoryFull);
         }
         self.count_to(number);
@@ -126,7 +120,6 @@ impl<N: Name, R: Wait + Drop> Draft<N, R> {
         ensures callers { IfOk result (λ p. AreNumbered p.1.items × HaveSeenAll entries.now p.1.items (length p.1.items)) }
     {
         let Draft {
-            sup,
             mut press,
             counts,
             handles,
@@ -141,10 +134,7 @@ impl<N: Name, R: Wait + Drop> Draft<N, R> {
             counts.as_slice(),
         )?;
         let made = counts.len() as u64;
-        Ok((
-            Leaf::begin(press, sup, NoJournal, roll, made, handles),
-            callers,
-        ))
+        Ok((Leaf::begin(press, NoJournal, roll, made, handles), callers))
     }
 }
 

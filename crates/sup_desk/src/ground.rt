@@ -10,15 +10,13 @@ use crate::roll::Roll;
 use std::alloc::Global;
 use std::marker::Model;
 use std::sync::Wait;
-use sup_core::Sup;
 use sup_log::Press;
 use sup_types::Template;
 
-/// The parts of a book that has no name yet: its supervisor, its press, its roll, and room for the counts of the handles of a
-/// history of before.
+/// The parts of a book that has no name yet: its press, its roll, and room for the counts of the handles of a history of
+/// before.
 #[derive(Drop)]
 pub struct Ground<R: Wait + Drop> {
-    sup: Sup,
     press: Press<R>,
     roll: Roll,
     counts: Vec<u64>,
@@ -27,7 +25,6 @@ pub struct Ground<R: Wait + Drop> {
 
 impl<R: Wait + Drop> Model for Ground<R> {
     ghost use Rattle.std.specs.Prelude.{◌≡◌, ◌≤◌, [], vec_len, vec_capacity};
-    ghost use Rattle.sup_log.specs.Tokens.{standing};
     ghost use Rattle.sup_desk.specs.Books.{Plot};
 
     ghost Value = { Plot };
@@ -35,12 +32,11 @@ impl<R: Wait + Drop> Model for Ground<R> {
     ghost view = { λ g. record { press = g.press.press; template = g.press.template; roll = g.roll.id; handles = g.handles } };
 
     ghost invariant = { λ g. (g.press.pending ≡ []) × (g.press.published ≡ []) × (g.press.editions ≡ [])
-        × (g.sup ≡ standing g.press.template []) × (g.roll.history ≡ []) × (g.roll.made ≡ 0) × (vec_len g.counts ≡ 0) × (g.handles ≤ vec_capacity g.counts) × (g.handles ≤ 1024) };
+        × (g.press.stepped ≡ 0) × (g.roll.history ≡ []) × (g.roll.made ≡ 0) × (vec_len g.counts ≡ 0) × (g.handles ≤ vec_capacity g.counts) × (g.handles ≤ 1024) };
 }
 
 impl<R: Wait + Drop> Ground<R> {
     /// A ground for a supervisor of this template and so many handles: 1 to 1024.
-    #[tactic(auto, using(sup_log::specs::StandingLaws::standing_after))]
     pub fn new(
         alloc: Global,
         rt: R,
@@ -59,12 +55,8 @@ impl<R: Wait + Drop> Ground<R> {
         let Ok(roll) = Roll::new(alloc) else {
             return Err(DeskFault::OutOfMemory);
         };
-        let Ok(sup) = Sup::new(alloc, template) else {
-            return Err(DeskFault::OutOfMemory);
-        };
         match Press::new(alloc, rt, template, handles as usize) {
             Ok(press) => Ok(Ground {
-                sup,
                 press,
                 roll,
                 counts,
@@ -80,13 +72,12 @@ impl<R: Wait + Drop> Ground<R> {
         ensures { result ≡ record { editions = []; published = []; pending = []; made = 0; handles = self.handles; fault = None } }
     {
         let Ground {
-            sup,
             press,
             roll,
             handles,
             counts: _,
         } = self;
-        Leaf::begin(press, sup, NoJournal, roll, 0, handles)
+        Leaf::begin(press, NoJournal, roll, 0, handles)
     }
 
     /// The draft of this ground, which N names, and its roll: nothing is entered.
@@ -96,12 +87,11 @@ impl<R: Wait + Drop> Ground<R> {
         ensures roll { result.1 ≡ record { id = N.roll; history = []; made = 0 } }
     {
         let Ground {
-            sup,
             press,
             roll,
             counts,
             handles,
         } = self;
-        (Draft::begin(press, sup, counts, handles), roll)
+        (Draft::begin(press, counts, handles), roll)
     }
 }

@@ -68,10 +68,9 @@ fn write<N: Name, S: Starter, R: Wait + Drop, J: Journal + Drop>(
     ensures full { IfErr result (λ e. e ≡ UpdateFault.HistoryFull → length (leaf.old.published ++ leaf.old.pending) ≡ N.template.entries) }
     ensures faults { IfErr result (λ e. IsOfStep e) }
 {
-    if leaf.is_full() {
+    let Some(asked) = leaf.asks(operation, moment) else {
         return Err(UpdateFault::HistoryFull);
-    }
-    let asked = leaf.asks(operation, moment);
+    };
     let answer = match &asked.arg {
         Some(arg) => starter.start(arg, moment),
         None => Answer::Ignore,

@@ -1,9 +1,9 @@
 //! What the book holds, with entries that are not yet published.
-ghost use Rattle.std.specs.Prelude.{◌≡◌, ◌+◌, ◌<◌, ◌≤◌, ◌++◌, ◌∷◌, [], length, All, IfOk, OnOk, OnErr, IfErr, IfSome, Some, None, true, false};
+ghost use Rattle.std.specs.Prelude.{◌≡◌, ◌+◌, ◌<◌, ◌≤◌, ◌++◌, ◌∷◌, [], length, All, IfOk, OnOk, OnErr, IfErr, IfNone, IfSome, Some, None, true, false};
 ghost use mathlib.Core.List.{IsPrefix};
 ghost use Rattle.sup_core.specs.Account.{state_after, reply_after};
 ghost use Rattle.sup_core.specs.Replies.{asked_argument};
-ghost use Rattle.sup_log.specs.Tokens.{standing, history_of, in_one_step};
+ghost use Rattle.sup_log.specs.Tokens.{history_of, in_one_step};
 ghost use Rattle.sup_desk.specs.Knowledge.{entries_of};
 ghost use Rattle.sup_desk.specs.Books.{IsMade};
 ghost use Rattle.sup_desk.specs.Rolls.{IsEnrolled};
@@ -14,15 +14,14 @@ use crate::name::Name;
 use crate::roll::{Claim, Roll};
 use std::marker::{Model, PhantomData};
 use std::sync::Wait;
-use sup_core::{Asked, Sup};
+use sup_core::Asked;
 use sup_log::{Lens, NoPlace, Press, Ticket};
 use sup_types::{Entry, Operation, OutOfMemory, Reply};
 
-/// A supervisor in the state after all that was written, the press, the journal and its fault, if it broke off, and the roll of
-/// the handles, on which all that is published was entered.
+/// The press, which has stepped all that was written, the journal and its fault, if it broke off, and the roll of the handles,
+/// on which all that is published was entered.
 #[derive(Drop)]
 pub struct Leaf<N: Name, R: Wait + Drop, J: Journal + Drop> {
-    sup: Sup,
     press: Press<R>,
     journal: J,
     fault: Option<JournalFault>,
@@ -33,8 +32,8 @@ pub struct Leaf<N: Name, R: Wait + Drop, J: Journal + Drop> {
 }
 
 impl<N: Name, R: Wait + Drop, J: Journal + Drop> Model for Leaf<N, R, J> {
-    ghost use Rattle.std.specs.Prelude.{◌≡◌, ◌≤◌, ◌++◌};
-    ghost use Rattle.sup_log.specs.Tokens.{standing, history_of};
+    ghost use Rattle.std.specs.Prelude.{◌≡◌, ◌≤◌, length};
+    ghost use Rattle.sup_log.specs.Tokens.{history_of};
     ghost use Rattle.sup_desk.specs.Books.{Written};
     ghost use Rattle.sup_desk.specs.Rolls.{IsEnrolled};
     ghost use Rattle.sup_desk.specs.Journals.{IsKept};
@@ -44,7 +43,7 @@ impl<N: Name, R: Wait + Drop, J: Journal + Drop> Model for Leaf<N, R, J> {
     ghost view = { λ l. record { editions = l.press.editions; published = l.press.published; pending = l.press.pending; made = l.made; handles = l.handles; fault = l.fault } };
 
     ghost invariant = { λ l. (l.press.press ≡ N.press) × (l.press.template ≡ N.template) × (l.press.published ≡ history_of l.press.editions)
-        × (l.sup ≡ standing N.template (l.press.published ++ l.press.pending))
+        × (l.press.stepped ≡ length l.press.pending)
         × IsEnrolled N.roll l.press.published l.made l.roll
         × (l.made ≤ l.handles) × (l.handles ≤ 1024)
         × IsKept (J.has l.journal N.template) (J.is_torn l.journal N.template) J.may_fail l.fault l.press.published l.press.pending };
@@ -58,7 +57,6 @@ impl<N: Name, R: Wait + Drop> Leaf<N, R, NoJournal> {
         ensures { result ≡ self }
     {
         let Leaf {
-            sup,
             press,
             roll,
             made,
@@ -67,7 +65,6 @@ impl<N: Name, R: Wait + Drop> Leaf<N, R, NoJournal> {
             ..
         } = self;
         Leaf {
-            sup,
             press,
             journal,
             fault: None,
@@ -89,23 +86,14 @@ pub struct Closed<J> {
 
 impl<N: Name, R: Wait + Drop, J: Journal + Drop> Leaf<N, R, J> {
     /// A leaf with this roll, on which all that the press has published was entered. Nothing is pending.
-    pub fn begin(
-        press: Press<R>,
-        sup: Sup,
-        journal: J,
-        roll: Roll,
-        made: u64,
-        handles: u64,
-    ) -> Leaf<N, R, J>
+    pub fn begin(press: Press<R>, journal: J, roll: Roll, made: u64, handles: u64) -> Leaf<N, R, J>
         requires journal { J.has journal N.template press.published [] }
-        requires press { (press.press ≡ N.press) × (press.template ≡ N.template) × (press.pending ≡ []) × (press.published ≡ history_of press.editions) }
-        requires sup { sup ≡ standing N.template press.published }
+        requires press { (press.press ≡ N.press) × (press.template ≡ N.template) × (press.pending ≡ []) × (press.stepped ≡ 0) × (press.published ≡ history_of press.editions) }
         requires roll { IsEnrolled N.roll press.published made roll }
         requires handles { (made ≤ handles) × (handles ≤ 1024) }
         ensures { result ≡ record { editions = press.editions; published = press.published; pending = []; made = made; handles = handles; fault = None } }
     {
         Leaf {
-            sup,
             press,
             journal,
             fault: None,
@@ -196,19 +184,16 @@ impl<N: Name, R: Wait + Drop, J: Journal + Drop> Leaf<N, R, J> {
         claim.count() + self.press.pending().len() as u64
     }
 
-    /// Whether there are all the entries that there may be.
-    pub fn is_full(&self) -> bool
-        ensures full { result ≡ true → length (self.now.published ++ self.now.pending) ≡ N.template.entries }
-        ensures room { result ≡ false → length (self.now.published ++ self.now.pending) < N.template.entries }
+    /// What an entry with this operation and moment asks: the argument whose start decides the reply, if there is one. None where
+    /// there are all the entries that there may be.
+    #[inline(always)]
+    pub fn asks(&mut self, operation: &Operation, moment: u64) -> Option<Asked>
+        ensures full { IfNone result (length (self.old.published ++ self.old.pending) ≡ N.template.entries) }
+        ensures room { IfSome result (λ _. length (self.old.published ++ self.old.pending) < N.template.entries) }
+        ensures value { IfSome result (λ asked. asked.arg ≡ asked_argument (state_after N.template (self.old.published ++ self.old.pending)) operation.now moment) }
+        ensures same { self.new ≡ self.old }
     {
-        self.sup.is_spent()
-    }
-
-    /// What an entry with this operation and moment asks: the argument whose start decides the reply, if there is one.
-    pub fn asks(&self, operation: &Operation, moment: u64) -> Asked
-        ensures { result.arg ≡ asked_argument (state_after N.template (self.now.published ++ self.now.pending)) operation.now moment }
-    {
-        self.sup.asks(operation, moment)
+        self.press.asks(operation, moment)
     }
 
     /// Writes one entry, for which this was asked, and which is then pending, and ready in the journal. After a refusal nothing
@@ -226,7 +211,7 @@ impl<N: Name, R: Wait + Drop, J: Journal + Drop> Leaf<N, R, J> {
             self.press.retract();
             return Err(OutOfMemory);
         }
-        Ok(self.sup.step_asked(entry, asked))
+        Ok(self.press.step(asked))
     }
 
     /// Has the journal record what is pending, which is all of the handle with this claim, and then publishes it as one

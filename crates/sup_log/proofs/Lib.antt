@@ -1,4 +1,5 @@
 pub mod Absorbs
 pub mod Extending
 pub mod Steps
+pub mod Stepped
 pub mod Publishing

@@ -1,5 +1,5 @@
 -- What contracts see of a ticket, a view, a lens and a press.
-use Rattle.std.specs.Prelude.{◌≡◌, List, [], ◌∷◌, ◌++◌}
+use Rattle.std.specs.Prelude.{◌≡◌, ℕ, Bool, List, [], ◌∷◌, ◌++◌, take}
 use Rattle.logbook.specs.Pages.{Book}
 use Rattle.sup_types.specs.declared.history.Entry.{Entry}
 use Rattle.sup_types.specs.declared.template.Template.{Template}
@@ -34,6 +34,12 @@ pub record Sight : Type 0 where
   pub editions : List Publication
   pub front : List Entry
 
+-- the copy that is shown, the supervisor of the other one, and whether that one is taken out of lenses' reach
+pub record Sides : Type 0 where
+  pub shown : Sight
+  pub next : State
+  pub is_out : Bool
+
 -- the press that a lens looks at, the template of that press, and the front that the lens has seen
 pub record Sighted : Type 0 where
   pub press : Book
@@ -41,13 +47,18 @@ pub record Sighted : Type 0 where
   pub editions : List Publication
   pub front : List Entry
 
--- which press it is, its template, the publications, the history that they make, and what is pending
+-- which press it is, its template, the publications, the history that they make, what is pending, and how many of these were stepped
 pub record Record : Type 0 where
   pub press : Book
   pub template : Template
   pub editions : List Publication
   pub published : List Entry
   pub pending : List Entry
+  pub stepped : ℕ
+
+-- the entries that were published or stepped
+abbrev pub so_far : Record → List Entry
+so_far r = r.published ++ take r.stepped r.pending
 
 -- the supervisor of this template after a front, which keeps only the last attempts
 unfoldable pub standing : Template → List Entry → State

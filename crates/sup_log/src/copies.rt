@@ -1,10 +1,17 @@
 //! The two copies: the writer's side of `left_right`.
 //!
+//! An update decides on the copy that is not shown, and steps there. So that copy is taken from the writer first: a lens that still
+//! looks at it is waited for. A publication shows it.
+//!
 //! The queue of `left_right`'s writer stays empty. In it each publication would be an operation with a list of its own, for which
 //! memory is taken and given back. Here two lists change places: that of the pending entries, and that of the last publication,
-//! which one copy lacks.
-ghost use Rattle.std.specs.Prelude.{◌≡◌, ◌<◌, ◌≤◌, [], fold, IfOk};
+//! which the copy lacks that is shown no more.
+ghost use Rattle.std.specs.Prelude.{◌≡◌, ◌==◌, ◌<◌, ◌≤◌, List, [], ◌∷◌, ◌++◌, fold, is_some, true, false, Some, None, IfOk, IfSome};
+ghost use Rattle.std.specs.Option.{option_map_or};
 ghost use Rattle.left_right.specs.Sides.{view};
+ghost use Rattle.sup_types.specs.declared.history.Entry.{Entry};
+ghost use Rattle.sup_core.specs.Replies.{asked_argument};
+ghost use Rattle.sup_core.specs.Account.{IsAfter, state_after, reply_after};
 ghost use Rattle.sup_log.specs.Absorbing.{taken, grown};
 ghost use Rattle.sup_log.specs.Fronts.{Follows, known};
 ghost use Rattle.sup_log.specs.Tokens.{IsFresh};
@@ -19,7 +26,8 @@ use left_right::writer::Writer;
 use std::alloc::Global;
 use std::marker::Model;
 use std::sync::Wait;
-use sup_types::{Entry, OutOfMemory, Template};
+use sup_core::Asked;
+use sup_types::{Entry, Operation, OutOfMemory, Reply, Template};
 
 type Ends = Writer<View, (), Known, Published>;
 
@@ -29,58 +37,78 @@ const FEW_ENTRIES: usize = 64;
 /// The two copies, of which lenses look at one. It is not `Drop`: end it by `close`.
 pub struct Copies {
     writer: Ends,
-    // The entries of the last publication, which the copy that is not shown lacks.
+    other: Other,
+}
+
+/// The copy that is not shown.
+#[derive(Drop)]
+struct Other {
+    // None while the writer has it, since lenses may still look at it.
+    next: Option<Box<View>>,
+    // What the writer has in its place otherwise. It is never shown.
+    stand_in: Option<Box<View>>,
+    // The entries of the last publication. The copy lacks them until it is taken from the writer.
     lacks: Vec<Entry>,
 }
 
 impl Model for Copies {
-    ghost use Rattle.std.specs.Prelude.{◌≡◌, fold};
+    ghost use Rattle.std.specs.Prelude.{◌≡◌, true, None, is_some, fold};
+    ghost use Rattle.std.specs.Option.{option_map_or};
     ghost use Rattle.sup_log.specs.Absorbing.{taken};
     ghost use Rattle.sup_log.specs.Fronts.{known};
-    ghost use Rattle.sup_log.specs.Tokens.{Sight};
+    ghost use Rattle.sup_log.specs.Tokens.{Sides};
 
-    ghost Value = { Sight };
+    ghost Value = { Sides };
 
-    ghost view = { λ c. c.writer.desk.shown.value };
+    ghost view = { λ c. record {
+      shown = c.writer.desk.shown.value;
+      next = option_map_or (λ b. b.value.standing) c.other.next (fold taken c.writer.desk.spare.value.standing c.other.lacks.items);
+      is_out = is_some c.other.next;
+    } };
 
     ghost invariant = { λ c. (c.writer.desk.place.me.0.client ≡ known c.writer.desk.shown.value)
-        × (c.writer.desk.shown.value.standing ≡ fold taken c.writer.desk.spare.value.standing c.lacks.items) };
+        × (c.other.next ≡ None → is_some c.other.stand_in ≡ true) };
 }
 
-/// What a publication brings to the copy that is to be shown: what it lacks of the one before, its entries, and the front that
-/// ends with them.
-#[derive(Drop)]
-struct News<'n> {
-    lacks: &'n [Entry],
-    entries: &'n [Entry],
-    front: &'n Ticket,
+/// Takes the copy that is not shown from the writer, and leaves this one in its place. It waits for those that look at it. The
+/// writer is handed over by reference, so that it is turned where it stands and never moved.
+fn exchange<R: Wait>(rt: &R, writer: &mut Ends, stand_in: Box<View>) -> Box<View>
+    ensures kept { (writer.new.desk.shown.value ≡ writer.old.desk.shown.value) × (view writer.new.desk.place ≡ view writer.old.desk.place) }
+    ensures other { result.value ≡ writer.old.desk.spare.value }
+{
+    replace_with(
+        &mut writer.desk,
+        stand_in,
+        |desk, stand_in: Box<View>|
+            ensures kept { (result.0.shown.value ≡ desk.shown.value) × (view result.0.place ≡ view desk.place) }
+            ensures other { result.1.value ≡ desk.spare.value }
+        {
+            let (open, spare) = desk.open(rt);
+            (open.shelve(stand_in), spare)
+        },
+    )
 }
 
-/// Brings the copy that is not shown up to date, and shows it. It waits for those that look at it. The writer is handed over by
-/// reference, so that it is turned where it stands and never moved.
-fn turn<R: Wait>(rt: &R, writer: &mut Ends, news: &News<'_>)
-    requires lacks { writer.old.desk.shown.value.standing ≡ fold taken writer.old.desk.spare.value.standing news.now.lacks.now }
-    requires follows { Follows writer.old.desk.shown.value (grown writer.old.desk.shown.value news.now.entries.now news.now.front.now) }
+/// Shows this copy. It answers what the writer had in its place.
+fn turn<R: Wait>(rt: &R, writer: &mut Ends, next: Box<View>) -> Box<View>
+    requires { Follows writer.old.desk.shown.value next.value }
     ensures known { view writer.new.desk.place ≡ known writer.new.desk.shown.value }
-    ensures shown { writer.new.desk.shown.value ≡ grown writer.old.desk.shown.value news.now.entries.now news.now.front.now }
+    ensures shown { writer.new.desk.shown.value ≡ next.value }
     ensures spare { writer.new.desk.spare.value ≡ writer.old.desk.shown.value }
 {
     replace_with(
         &mut writer.desk,
-        rt,
-        |desk, rt: &R|
-            requires lacks { desk.shown.value.standing ≡ fold taken desk.spare.value.standing news.now.lacks.now }
-            requires follows { Follows desk.shown.value (grown desk.shown.value news.now.entries.now news.now.front.now) }
+        next,
+        |desk, next: Box<View>|
+            requires { Follows desk.shown.value next.value }
             ensures known { view result.0.place ≡ known result.0.shown.value }
-            ensures shown { result.0.shown.value ≡ grown desk.shown.value news.entry.now.entries.now news.entry.now.front.now }
+            ensures shown { result.0.shown.value ≡ next.value }
             ensures spare { result.0.spare.value ≡ desk.shown.value }
         {
-            let (open, mut spare) = desk.open(rt);
-            spare.take_all(news.lacks);
-            spare.absorb(news.entries, news.front);
-            (open.show_as::<Sees>(spare), ())
+            let (open, stand_in) = desk.open(rt);
+            (open.show_as::<Sees>(next), stand_in)
         },
-    );
+    )
 }
 
 /// A writer of two copies, for so many lenses at a time. It says nothing of the copy that is not shown.
@@ -99,27 +127,19 @@ fn opened(
     Ok(Writer::new(alloc, first, second, places)?)
 }
 
-/// Shows this copy, in place of the one that is not shown.
-fn exchange<R: Wait>(rt: &R, writer: &mut Ends, next: View)
-    requires { Follows writer.old.desk.shown.value next }
-    ensures known { view writer.new.desk.place ≡ known writer.new.desk.shown.value }
-    ensures shown { writer.new.desk.shown.value ≡ next }
-    ensures spare { writer.new.desk.spare.value ≡ writer.old.desk.shown.value }
+/// Takes the copy that is not shown from the writer, and brings it up to date. It waits for those that look at it.
+fn take_out<R: Wait>(rt: &R, writer: &mut Ends, other: &mut Other)
+    requires { is_some other.old.stand_in ≡ true }
+    ensures kept { (writer.new.desk.shown.value ≡ writer.old.desk.shown.value) × (view writer.new.desk.place ≡ view writer.old.desk.place) }
+    ensures there { is_some other.new.next ≡ true }
+    ensures next { IfSome other.new.next (λ b. b.value.standing ≡ fold taken writer.old.desk.spare.value.standing other.old.lacks.items) }
 {
-    replace_with(
-        &mut writer.desk,
-        next,
-        |desk, next: View|
-            requires { Follows desk.shown.value next }
-            ensures known { view result.0.place ≡ known result.0.shown.value }
-            ensures shown { result.0.shown.value ≡ next }
-            ensures spare { result.0.spare.value ≡ desk.shown.value }
-        {
-            let (open, mut spare) = desk.open(rt);
-            *spare = next;
-            (open.show_as::<Sees>(spare), ())
-        },
-    );
+    let Some(stand_in) = other.stand_in.take() else {
+        unreachable!()
+    };
+    let mut next = exchange(rt, writer, stand_in);
+    next.take_all(other.lacks.as_slice());
+    other.next = Some(next);
 }
 
 impl Copies {
@@ -133,22 +153,28 @@ impl Copies {
     ) -> Result<Copies, OutOfMemory>
         requires front { front.now.front ≡ [] }
         requires places { (0 < places) × (places ≤ 1024) }
-        ensures { IfOk result (λ c. IsFresh front.now template c) }
+        ensures { IfOk result (λ c. IsFresh front.now template c.shown × (c.next ≡ c.shown.standing) × (c.is_out ≡ false)) }
     {
-        // No clause of the writer says what its second copy is. So that copy goes, and one that is known is shown in its place.
-        let next = View::new(alloc, template, front.copied())?;
+        // No clause of the writer says what its second copy is. So that copy is the stand-in, and one that is known is shown.
+        let Ok(next) = Box::new(alloc, View::new(alloc, template, front.copied())?) else {
+            return Err(OutOfMemory);
+        };
         let mut writer = opened(alloc, template, places, front)?;
-        exchange(rt, &mut writer, next);
+        let stand_in = turn(rt, &mut writer, next);
         Ok(Copies {
             writer,
-            lacks: Vec::new(alloc),
+            other: Other {
+                next: None,
+                stand_in: Some(stand_in),
+                lacks: Vec::new(alloc),
+            },
         })
     }
 
     /// A seat for a lens, which knows the copy that is shown.
     pub fn seat(&mut self) -> Result<Seat, NoPlace>
         ensures kept { self.new ≡ self.old }
-        ensures seat { IfOk result (λ s. view s.place ≡ known self.old) }
+        ensures seat { IfOk result (λ s. view s.place ≡ known self.old.shown) }
     {
         match self.writer.factory().reader() {
             Ok(mut seat) => {
@@ -159,20 +185,87 @@ impl Copies {
         }
     }
 
-    /// Shows the copy that has absorbed these entries, and takes them away. It waits for those that look at that copy.
+    /// Has the copy that is not shown taken from the writer, and brought up to date. It waits for those that still look at it.
+    #[inline(always)]
+    pub fn ready<R: Wait>(&mut self, rt: &R)
+        ensures { self.new ≡ record self.old { is_out = true } }
+    {
+        if self.other.next.is_none() {
+            take_out(rt, &mut self.writer, &mut self.other);
+        }
+    }
+
+    /// Whether that copy has taken all the entries that there may be.
+    #[inline(always)]
+    pub fn is_spent(&self) -> bool
+        requires { self.now.is_out ≡ true }
+        ensures { result ≡ (self.now.next.steps == self.now.next.template.entries) }
+    {
+        match &self.other.next {
+            Some(next) => next.is_spent(),
+            None => unreachable!(),
+        }
+    }
+
+    /// What an entry with this operation and moment asks of that copy.
+    #[inline(always)]
+    pub fn asks(&self, operation: &Operation, moment: u64) -> Asked
+        requires { self.now.is_out ≡ true }
+        ensures { (history : List Entry) → IsAfter self.now.next history
+            → result.arg ≡ asked_argument (state_after self.now.next.template history) operation.now moment }
+    {
+        match &self.other.next {
+            Some(next) => next.asks(operation, moment),
+            None => unreachable!(),
+        }
+    }
+
+    /// That copy takes a step, for which this was asked.
+    #[inline(always)]
+    pub fn step(&mut self, entry: &Entry, asked: &Asked) -> Reply
+        requires out { self.old.is_out ≡ true }
+        requires room { self.old.next.steps < self.old.next.template.entries }
+        ensures history { (history : List Entry) → IsAfter self.old.next history
+            → result ≡ reply_after self.old.next.template history entry.now }
+        ensures next { self.new ≡ record self.old { next = taken self.old.next entry.now } }
+    {
+        match &mut self.other.next {
+            Some(next) => next.step(entry, asked),
+            None => unreachable!(),
+        }
+    }
+
+    /// That copy takes these entries, in order.
+    #[inline(always)]
+    pub fn take_all(&mut self, entries: &[Entry])
+        requires { self.old.is_out ≡ true }
+        ensures { self.new ≡ record self.old { next = fold taken self.old.next entries.now } }
+    {
+        match &mut self.other.next {
+            Some(next) => next.take_all(entries),
+            None => unreachable!(),
+        }
+    }
+
+    /// Shows that copy, which has taken just these entries more than the one that is shown, and takes the entries away.
     pub fn show<R: Wait>(&mut self, rt: &R, entries: &mut Vec<Entry>, front: &Ticket)
-        requires { Follows self.old (grown self.old entries.old.items front.now) }
-        ensures shown { self.new ≡ grown self.old entries.old.items front.now }
+        requires out { self.old.is_out ≡ true }
+        requires stepped { self.old.next ≡ fold taken self.old.shown.standing entries.old.items }
+        requires follows { Follows self.old.shown (grown self.old.shown entries.old.items front.now) }
+        ensures shown { self.new.shown ≡ grown self.old.shown entries.old.items front.now }
+        ensures next { (self.new.next ≡ self.old.next) × (self.new.is_out ≡ false) }
         ensures none { entries.new.items ≡ [] }
     {
-        let news = News {
-            lacks: self.lacks.as_slice(),
-            entries: entries.as_slice(),
-            front,
-        };
-        turn(rt, &mut self.writer, &news);
+        let Copies { writer, other } = self;
+        match other.next.take() {
+            Some(mut next) => {
+                next.tell(front);
+                other.stand_in = Some(turn(rt, writer, next));
+            }
+            None => unreachable!(),
+        }
         // (Emptied first, the list would be read in larger pieces than its length was written, for which the processor waits.)
-        swap(&mut self.lacks, entries);
+        swap(&mut other.lacks, entries);
         entries.clear();
         entries.shrink_to(FEW_ENTRIES);
     }
@@ -181,7 +274,7 @@ impl Copies {
     pub fn close<R: Wait>(self, rt: &R) {
         let Copies {
             writer,
-            lacks: _lacks,
+            other: _other,
         } = self;
         drop(writer.take(rt));
     }

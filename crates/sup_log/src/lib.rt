@@ -1,7 +1,7 @@
 //! The published history of a supervisor: one press publishes entries into two copies, and any number of lenses look
 //! at one of them without a lock.
 //!
-//! A [`Press`] makes entries pending, and publishes them in one step. A [`Lens`] is a reader's place: a look calls a
+//! A [`Press`] makes entries pending, answers them in order, and publishes them in one step. A [`Lens`] is a reader's place: a look calls a
 //! function once on a [`View`], the copy that has absorbed one front (a prefix) of the published history. The fronts that
 //! a lens sees never go back. A [`Ticket`] is a front as plain data, a causal timestamp: it may be copied, shared and
 //! sent to another thread, and a lens that learnt it sees nothing older from then on.
@@ -13,16 +13,19 @@
 //! ```text
 //! let mut press = Press::new(alloc, &rt, template, 2)?;
 //! let mut lens = press.lens()?;
+//! let Some(asked) = press.asks(&operation, moment) else { return Err(Full) };
 //! press.append(entry)?;
+//! let reply = press.step(&asked);
 //! press.publish();
 //! let ticket = press.tell();
 //! lens.learn(&ticket)?;
 //! let (stamp, counts) = lens.look(|view| (view.stamp(), view.counts()))?;
 //! ```
 //!
-//! The log of the entries is that of a `logbook` book and stands in the proofs alone. The copies are `left_right`'s. Its queue of
-//! operations is not used: the press keeps the entries of the last publication, which one copy lacks, and brings that copy up to
-//! date where it is turned. So a publication takes no memory.
+//! The log of the entries is that of a `logbook` book and stands in the proofs alone. The copies are `left_right`'s. There is no
+//! supervisor beside them: the copy that no lens sees yet answers the entries as they come. Its queue of operations is not used: the
+//! press keeps the entries of the last publication, which one copy lacks, and brings that copy up to date when it takes it from its
+//! readers. So a publication of up to 64 entries takes no memory.
 #![tactic(auto)]
 
 mod copies;

@@ -1,8 +1,10 @@
 //! The press: it makes entries pending, and publishes them.
-ghost use Rattle.std.specs.Prelude.{◌≡◌, ◌<◌, ◌≤◌, ◌+◌, ◌^◌, List, [], ◌∷◌, ◌++◌, length, IfOk, MatchResult};
+ghost use Rattle.std.specs.Prelude.{◌≡◌, ◌==◌, ◌<◌, ◌≤◌, ◌+◌, ◌^◌, List, [], ◌∷◌, ◌++◌, false, Some, length, slice_get, IfOk, IfSome, IfNone, MatchResult};
 ghost use mathlib.Core.List.{IsPrefix};
 ghost use Rattle.sup_types.specs.declared.history.Entry.{Entry};
-ghost use Rattle.sup_log.specs.Tokens.{in_one_step};
+ghost use Rattle.sup_core.specs.Replies.{asked_argument};
+ghost use Rattle.sup_core.specs.Account.{state_after, reply_after};
+ghost use Rattle.sup_log.specs.Tokens.{in_one_step, so_far};
 
 use crate::copies::Copies;
 use crate::faults::NoPlace;
@@ -12,26 +14,34 @@ use crate::ticket::Ticket;
 use std::alloc::Global;
 use std::marker::Model;
 use std::sync::Wait;
-use sup_types::{Entry, OutOfMemory, Template};
+use sup_core::Asked;
+use sup_types::{Entry, Operation, OutOfMemory, Reply, Template};
 
-/// Publishes an operation log into two copies of a supervisor. It keeps `rt`, since publishing and its end wait for the
-/// lenses that look.
+/// Publishes an operation log into two copies of a supervisor. The copy that no lens looks at takes the pending entries as its
+/// caller asks for the replies to them.
+///
+/// It keeps `rt`, since it waits for the lenses that still look at the copy that was shown before: at the first call after a
+/// publication that asks, steps or publishes, and at its end.
 pub struct Press<R: Wait + Drop> {
     history: History,
     pending: Vec<Entry>,
+    stepped: usize,
     copies: Copies,
     rt: R,
 }
 
 impl<R: Wait + Drop> Model for Press<R> {
-    ghost use Rattle.std.specs.Prelude.{◌≡◌, ◌+◌, ◌≤◌, length};
+    ghost use Rattle.std.specs.Prelude.{◌≡◌, ◌+◌, ◌≤◌, length, take, fold};
+    ghost use Rattle.sup_log.specs.Absorbing.{taken};
     ghost use Rattle.sup_log.specs.Tokens.{Record, IsLawful};
 
     ghost Value = { Record };
 
-    ghost view = { λ p. record { press = p.history.press; template = p.copies.standing.template; editions = p.history.editions; published = p.history.front; pending = p.pending.items } };
+    ghost view = { λ p. record { press = p.history.press; template = p.copies.shown.standing.template; editions = p.history.editions; published = p.history.front; pending = p.pending.items; stepped = p.stepped } };
 
-    ghost invariant = { λ p. (p.copies.press ≡ p.history.press) × (p.copies.editions ≡ p.history.editions) × (p.copies.front ≡ p.history.front) × IsLawful p.copies × (length p.history.front + length p.pending.items ≤ p.copies.standing.template.entries) × (length p.history.editions ≤ length p.history.front) };
+    ghost invariant = { λ p. (p.copies.shown.press ≡ p.history.press) × (p.copies.shown.editions ≡ p.history.editions) × (p.copies.shown.front ≡ p.history.front) × IsLawful p.copies.shown
+        × (length p.history.front + length p.pending.items ≤ p.copies.shown.standing.template.entries) × (length p.history.editions ≤ length p.history.front)
+        × (p.stepped ≤ length p.pending.items) × (p.copies.next ≡ fold taken p.copies.shown.standing (take p.stepped p.pending.items)) };
 }
 
 /// Adds these entries to the history in one publication. A ticket for all of it.
@@ -54,13 +64,14 @@ impl<R: Wait + Drop> Press<R> {
         places: usize,
     ) -> Result<Press<R>, OutOfMemory>
         requires { (0 < places) × (places ≤ 1024) }
-        ensures { IfOk result (λ p. (p.template ≡ template) × (p.published ≡ []) × (p.pending ≡ []) × (p.editions ≡ [])) }
+        ensures { IfOk result (λ p. (p.template ≡ template) × (p.published ≡ []) × (p.pending ≡ []) × (p.editions ≡ []) × (p.stepped ≡ 0)) }
     {
         let history = History::new();
         let copies = Copies::new(alloc, &rt, template, places, &history.tell())?;
         Ok(Press {
             history,
             pending: Vec::new(alloc),
+            stepped: 0,
             copies,
             rt,
         })
@@ -89,8 +100,9 @@ impl<R: Wait + Drop> Press<R> {
         }
     }
 
-    /// Takes back the entry that was made pending last.
+    /// Takes back the entry that was made pending last, for which no step was taken.
     pub fn retract(&mut self)
+        requires { self.old.stepped < length self.old.pending }
         ensures { (before : List Entry) (last : Entry) → self.old.pending ≡ before ++ last ∷ [] → self.new ≡ record self.old { pending = before } }
     {
         let _ = self.pending.pop();
@@ -104,15 +116,60 @@ impl<R: Wait + Drop> Press<R> {
         self.pending.as_slice()
     }
 
+    /// Whether the entries that were published or stepped are all that there may be.
+    #[inline(always)]
+    pub fn is_full(&mut self) -> bool
+        ensures value { result ≡ (length (so_far self.old) == self.old.template.entries) }
+        ensures room { result ≡ false → length (so_far self.old) < self.old.template.entries }
+        ensures same { self.new ≡ self.old }
+    {
+        self.copies.ready(&self.rt);
+        self.copies.is_spent()
+    }
+
+    /// What an entry with this operation and moment asks after those that were published or stepped: the argument whose start
+    /// decides the reply, if there is one. None where these are all the entries that there may be.
+    #[inline(always)]
+    pub fn asks(&mut self, operation: &Operation, moment: u64) -> Option<Asked>
+        ensures full { IfNone result (length (so_far self.old) ≡ self.old.template.entries) }
+        ensures room { IfSome result (λ _. length (so_far self.old) < self.old.template.entries) }
+        ensures value { IfSome result (λ asked. asked.arg ≡ asked_argument (state_after self.old.template (so_far self.old)) operation.now moment) }
+        ensures same { self.new ≡ self.old }
+    {
+        self.copies.ready(&self.rt);
+        if self.copies.is_spent() {
+            return None;
+        }
+        Some(self.copies.asks(operation, moment))
+    }
+
+    /// Steps the first pending entry that was not yet stepped, for which this was asked. The reply to it. An entry that was never
+    /// stepped is published all the same.
+    #[inline(always)]
+    pub fn step(&mut self, asked: &Asked) -> Reply
+        requires { self.old.stepped < length self.old.pending }
+        ensures reply { (entry : Entry) → slice_get self.old.pending self.old.stepped ≡ Some entry → result ≡ reply_after self.old.template (so_far self.old) entry }
+        ensures next { self.new ≡ record self.old { stepped = self.old.stepped + 1 } }
+    {
+        self.copies.ready(&self.rt);
+        let entry = &self.pending[self.stepped];
+        let reply = self.copies.step(entry, asked);
+        self.stepped += 1;
+        reply
+    }
+
     /// Publishes what is pending, in order and in one step: all of it is one publication, and no front ends within it. It
     /// waits for the lenses that look at the copy that is to absorb it, and is never refused.
     pub fn publish(&mut self)
-        ensures { self.new ≡ record self.old { editions = self.old.editions ++ in_one_step self.old.pending; published = self.old.published ++ self.old.pending; pending = [] } }
+        ensures { self.new ≡ record self.old { editions = self.old.editions ++ in_one_step self.old.pending; published = self.old.published ++ self.old.pending; pending = []; stepped = 0 } }
     {
         if self.pending.is_empty() {
             return;
         }
+        self.copies.ready(&self.rt);
+        self.copies.take_all(&self.pending[self.stepped..]);
         let front = extended(&mut self.history, &self.rt, self.pending.as_slice());
+        self.stepped = 0;
         self.copies.show(&self.rt, &mut self.pending, &front);
     }
 
@@ -148,6 +205,7 @@ impl<R: Wait + Drop> Drop for Press<R> {
         let Press {
             history: _history,
             pending: _pending,
+            stepped: _,
             copies,
             rt,
         } = self;

@@ -1,8 +1,10 @@
 //! One copy of the supervisor, as a lens sees it.
-ghost use Rattle.std.specs.Prelude.{◌≡◌, [], length, fold, IfOk};
+ghost use Rattle.std.specs.Prelude.{◌≡◌, ◌==◌, ◌<◌, List, [], ◌∷◌, ◌++◌, length, fold, IfOk};
+ghost use Rattle.sup_types.specs.declared.history.Entry.{Entry};
+ghost use Rattle.sup_core.specs.Replies.{asked_argument};
 ghost use Rattle.sup_core.specs.Rows.{row_at, counts_of};
-ghost use Rattle.sup_core.specs.Account.{account, is_down, listed_rows};
-ghost use Rattle.sup_log.specs.Absorbing.{taken, grown};
+ghost use Rattle.sup_core.specs.Account.{IsAfter, state_after, reply_after, account, is_down, listed_rows};
+ghost use Rattle.sup_log.specs.Absorbing.{taken};
 ghost use Rattle.sup_log.specs.Rows.{IsEmptyWhenDown};
 ghost use Rattle.sup_log.specs.Tokens.{IsLawful};
 
@@ -10,8 +12,8 @@ use crate::ticket::Ticket;
 use left_right::Absorb;
 use std::alloc::{AllocError, Allocator, Global};
 use std::marker::Model;
-use sup_core::Sup;
-use sup_types::{Counts, Entry, OutOfMemory, Row, Seen, Template};
+use sup_core::{Asked, Sup};
+use sup_types::{Counts, Entry, Operation, OutOfMemory, Reply, Row, Seen, Template};
 
 /// One copy of the supervisor, which has absorbed one front of the published history. When it is down there is no row.
 #[derive(Drop)]
@@ -40,6 +42,17 @@ fn take<A: Allocator + Copy>(sup: &mut Sup<A>, entry: &Entry)
     if !sup.is_spent() {
         sup.step(entry);
     }
+}
+
+/// Takes a step, for which this was asked.
+#[inline(always)]
+fn take_asked<A: Allocator + Copy>(sup: &mut Sup<A>, entry: &Entry, asked: &Asked) -> Reply
+    requires { sup.old.steps < sup.old.template.entries }
+    ensures next { sup.new ≡ taken sup.old entry.now }
+    ensures history { (history : List Entry) → IsAfter sup.old history → result ≡ reply_after sup.old.template history entry.now }
+    ensures empty { IsEmptyWhenDown sup.old → IsEmptyWhenDown sup.new }
+{
+    sup.step_asked(entry, asked)
 }
 
 impl<A: Allocator + Copy> View<A> {
@@ -122,12 +135,39 @@ impl<A: Allocator + Copy> View<A> {
         }
     }
 
-    /// Takes these entries, in order, and tells this front then.
-    pub(crate) fn absorb(&mut self, entries: &[Entry], front: &Ticket)
-        ensures { self.new ≡ grown self.old entries.now front.now }
+    /// Tells this front from now on.
+    pub(crate) fn tell(&mut self, front: &Ticket)
+        ensures { self.new ≡ record { press = front.now.press; standing = self.old.standing; editions = front.now.editions; front = front.now.front } }
     {
-        self.take_all(entries);
         self.front = front.copied();
+    }
+
+    /// Whether it has taken all the entries that there may be.
+    #[inline(always)]
+    pub(crate) fn is_spent(&self) -> bool
+        ensures { result ≡ (self.now.standing.steps == self.now.standing.template.entries) }
+    {
+        self.sup.is_spent()
+    }
+
+    /// What an entry with this operation and moment asks: the argument whose start decides the reply, if there is one.
+    #[inline(always)]
+    pub(crate) fn asks(&self, operation: &Operation, moment: u64) -> Asked
+        ensures { (history : List Entry) → IsAfter self.now.standing history
+            → result.arg ≡ asked_argument (state_after self.now.standing.template history) operation.now moment }
+    {
+        self.sup.asks(operation, moment)
+    }
+
+    /// Takes an entry, for which this was asked, and goes on telling the front that it told.
+    #[inline(always)]
+    pub(crate) fn step(&mut self, entry: &Entry, asked: &Asked) -> Reply
+        requires { self.old.standing.steps < self.old.standing.template.entries }
+        ensures history { (history : List Entry) → IsAfter self.old.standing history
+            → result ≡ reply_after self.old.standing.template history entry.now }
+        ensures next { self.new ≡ record self.old { standing = taken self.old.standing entry.now } }
+    {
+        take_asked(&mut self.sup, entry, asked)
     }
 
     /// The front that it has absorbed.

@@ -14,7 +14,7 @@ pub found_at-requires-clause-rises : goal.found_at-requires-clause-rises
 found_at-requires-clause-rises g c = (c.self.inside.made, c.self.invariant.0)
 
 pub found_at-requires-clause-right : goal.found_at-requires-clause-right
-found_at-requires-clause-right g c = c.guess.ensures c.self.inside.places.items c.self.invariant.8
+found_at-requires-clause-right g c = c.guess.ensures.right c.self.inside.places.items c.self.invariant.8
 
 pub returns-in-Some : goal.returns-in-Some
 returns-in-Some g c =

@@ -18,7 +18,7 @@ pub take_child_as-requires-clause-rises : goal.take_child_as-requires-clause-ris
 take_child_as-requires-clause-rises g c = (c.self.inside.made, c.self.invariant.0)
 
 pub take_child_as-requires-clause-right : goal.take_child_as-requires-clause-right
-take_child_as-requires-clause-right g c = c.guess_or-guess.ensures c.self.inside.places.items c.self.invariant.8
+take_child_as-requires-clause-right g c = c.guess_or-guess.ensures.right c.self.inside.places.items c.self.invariant.8
 
 pub invariant_of-self : goal.invariant_of-self
 invariant_of-self g c =

@@ -15,7 +15,7 @@ pub let_wait-requires-clause-rises : goal.let_wait-requires-clause-rises
 let_wait-requires-clause-rises g c = (c.self.inside.made, c.self.invariant.0)
 
 pub let_wait-requires-clause-right : goal.let_wait-requires-clause-right
-let_wait-requires-clause-right g c = c.guess_or-guess.ensures c.self.inside.places.items c.self.invariant.8
+let_wait-requires-clause-right g c = c.guess_or-guess.ensures.right c.self.inside.places.items c.self.invariant.8
 
 pub invariant_of-self : goal.invariant_of-self
 invariant_of-self g c =

@@ -1,27 +1,17 @@
 use Rattle.std.proofs.Common.{◌≡◌, ◌+◌, ◌-◌, ◌<◌, ◌≤◌, ℕ, List, ◌++◌, ◌∷◌, [], length, set, vec_len, vec_capacity, refl, ap, sym, ◌∙◌, subst, arith}
 use Rattle.std.proofs.lemmas.List.{get_or_default}
 use Rattle.sup_types.specs.declared.history.Entry.{Entry}
-use Rattle.sup_types.specs.declared.template.Template.{Template}
-use Rattle.sup_log.specs.Tokens.{Record, standing, history_of, in_one_step}
+use Rattle.sup_log.specs.Tokens.{Record, history_of, in_one_step}
 use Rattle.sup_log.specs.PublicationLaws.{history_grown}
 use Rattle.sup_desk.specs.Books.{IsCounted, IsMade}
 use Rattle.sup_desk.specs.EntryLaws.{entries_le, entries-own}
 use Rattle.sup_desk.specs.Recoveries.{Drafted}
-use Rattle.sup_desk.proofs.After.{steps_is, template_is, next_is}
 use Rattle.sup_desk.proofs.Counted.{counted_all}
 use Rattle.sup_desk.proofs.draft.Draft.write.Goals as goal
 
 -- what publishing makes of a press
 abbrev shown : Record → Record
-shown r = record { press = r.press; template = r.template; editions = r.editions ++ in_one_step r.pending; published = r.published ++ r.pending; pending = [] }
-
-pub step-requires : goal.step-requires
-step-requires g c =
-    let d = c.self.inside in
-    let same = ap (λ (w : Drafted). length w.history) c.self.view_is in
-    let steps = steps_is g.N.Name.template d.press.published d.sup c.self.invariant.4 in
-    let bound = ap (λ (t : Template). t.entries) (template_is g.N.Name.template d.press.published d.sup c.self.invariant.4) in
-    omega (arith, same, steps, bound, c.requires.room)
+shown r = record { press = r.press; template = r.template; editions = r.editions ++ in_one_step r.pending; published = r.published ++ r.pending; pending = []; stepped = 0 }
 
 pub overflow_add-index_mut : goal.overflow_add-index_mut
 overflow_add-index_mut g c =
@@ -44,13 +34,12 @@ invariant_of-self-2 g c =
     let made : ℕ = vec_len d.counts in
     let place : ℕ = entry.handle - 1 in
     let one : List Entry = entry ∷ [] in
-    let ready : c.append.new.self ≡ record { press = d.press.press; template = d.press.template; editions = d.press.editions; published = published; pending = one } =
-    c.in_ok-append.ensures ∙ (λ i. record { press = d.press.press; template = d.press.template; editions = d.press.editions; published = published; pending = old.3 i ++ one }) in
-    let is : c.publish.new.self ≡ record { press = d.press.press; template = d.press.template; editions = d.press.editions ++ in_one_step one; published = published ++ one; pending = [] } =
+    let ready : c.append.new.self ≡ record { press = d.press.press; template = d.press.template; editions = d.press.editions; published = published; pending = one; stepped = d.press.stepped } =
+    c.in_ok-append.ensures ∙ (λ i. record { press = d.press.press; template = d.press.template; editions = d.press.editions; published = published; pending = old.3 i ++ one; stepped = d.press.stepped }) in
+    let is : c.publish.new.self ≡ record { press = d.press.press; template = d.press.template; editions = d.press.editions ++ in_one_step one; published = published ++ one; pending = []; stepped = 0 } =
     c.publish.ensures ∙ ap shown ready in
     let whole : published ++ one ≡ history_of (d.press.editions ++ in_one_step one) =
     ap (λ k. k ++ one) old.2 ∙ sym (history_grown d.press.editions one) in
-    let sup = c.step.ensures.next ∙ next_is n.template published d.sup entry old.4 in
     let mine : IsMade made entry.handle = (c.requires.made.0, omega (arith, ap (λ (w : Drafted). w.made) c.self.view_is, c.requires.made.1)) in
     let low : place < made = omega (arith, mine.0, mine.1) in
     let here = c.index_mut.ensures.value ∙ get_or_default d.counts.items place c.index_mut.result.now 0 (omega (arith, low, d.counts.ok.0)) in
@@ -58,7 +47,7 @@ invariant_of-self-2 g c =
     subst (λ (k : ℕ). IsCounted made (set d.counts.items place (k + 1)) (published ++ one)) (sym here)
     (counted_all made d.counts.items published one entry.handle place (sym d.counts.ok.0) old.5 mine (omega (arith, mine.0)) (entries-own entry.handle entry refl)) in
     subst (λ (r : Record). (r.press ≡ n.press) × (r.template ≡ n.template) × (r.published ≡ history_of r.editions) × (r.pending ≡ [])
-    × (c.step.new.self ≡ standing n.template r.published) × IsCounted made (set d.counts.items place (c.index_mut.result.now + 1)) r.published
+    × (r.stepped ≡ 0) × IsCounted made (set d.counts.items place (c.index_mut.result.now + 1)) r.published
     × (made ≤ d.handles) × (d.handles ≤ vec_capacity d.counts) × (d.handles ≤ 1024))
     (sym is)
-    (old.0, old.1, whole, refl, sup, counted, old.6, old.7, old.8)
+    (old.0, old.1, whole, refl, refl, counted, old.6, old.7, old.8)

@@ -1,8 +1,8 @@
-use Rattle.std.proofs.Common.{◌≡◌, ◌≤◌, ℕ, List, ◌++◌, [], length, ap, sym, ◌∙◌, subst, arith, append-nil, Option, None}
+use Rattle.std.proofs.Common.{◌≡◌, ◌≤◌, ℕ, List, ◌++◌, [], length, refl, ap, sym, ◌∙◌, subst, arith, Option, None}
 use Rattle.std.proofs.lemmas.List.Elements.{All-append}
 use Rattle.sup_types.specs.declared.history.Entry.{Entry}
 use Rattle.sup_types.specs.declared.template.Template.{Template}
-use Rattle.sup_log.specs.Tokens.{Record, standing, history_of, in_one_step}
+use Rattle.sup_log.specs.Tokens.{Record, history_of, in_one_step}
 use Rattle.sup_log.specs.PublicationLaws.{history_grown}
 use Rattle.sup_desk.specs.declared.journal.JournalFault.{JournalFault}
 use Rattle.sup_desk.specs.Books.{Written, IsMade}
@@ -46,8 +46,8 @@ invariant_of-self-2 g c =
     let kept : IsKept (j.has c.record.new.self n.template) (j.is_torn c.record.new.self n.template) j.may_fail l.fault (published ++ pending) [] =
     subst (λ (f : Option JournalFault). IsKept (j.has c.record.new.self n.template) (j.is_torn c.record.new.self n.template) j.may_fail f (published ++ pending) []) (sym none)
     (c.in_default.ensures.ok n.template published pending has) in
-    subst (λ (r : Record). (r.press ≡ n.press) × (r.template ≡ n.template) × (r.published ≡ history_of r.editions) × (l.sup ≡ standing n.template (r.published ++ r.pending))
+    subst (λ (r : Record). (r.press ≡ n.press) × (r.template ≡ n.template) × (r.published ≡ history_of r.editions) × (r.stepped ≡ length r.pending)
     × IsEnrolled n.roll r.published l.made c.enter.new.self × (l.made ≤ l.handles) × (l.handles ≤ 1024)
     × IsKept (j.has c.record.new.self n.template) (j.is_torn c.record.new.self n.template) j.may_fail l.fault r.published r.pending)
     (sym c.publish.ensures)
-    (old.0, old.1, whole, old.3 ∙ ap (standing n.template) (sym (append-nil (published ++ pending))), enrolled, old.5, old.6, kept)
+    (old.0, old.1, whole, refl, enrolled, old.5, old.6, kept)

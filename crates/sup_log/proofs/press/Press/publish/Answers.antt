@@ -1,25 +1,60 @@
-use Rattle.std.proofs.Common.{◌≡◌, ◌+◌, ◌<◌, List, [], ◌++◌, length, ap, sym, ◌∙◌, subst, arith, length-append}
+use Rattle.std.proofs.Common.{◌≡◌, ℕ, ◌+◌, ◌-◌, ◌<◌, List, [], ◌++◌, true, length, take, drop, ap, sym, ◌∙◌, subst, arith, length-append}
+use Rattle.std.specs.Prelude.{fold}
+use Rattle.std.proofs.lemmas.List.{take_rest}
 use Rattle.sup_types.specs.declared.history.Entry.{Entry}
 use Rattle.sup_types.specs.declared.template.Template.{Template}
-use Rattle.sup_log.specs.Tokens.{Told, IsLawful, Record, in_one_step}
+use Rattle.sup_core.specs.State.{State}
+use Rattle.sup_log.specs.Tokens.{Told, Sides, Sight, IsLawful, Record, in_one_step}
 use Rattle.sup_log.specs.Fronts.{Follows}
 use Rattle.sup_log.specs.PublicationLaws.{steps_grown}
-use Rattle.sup_log.specs.Absorbing.{grown}
+use Rattle.sup_log.specs.Absorbing.{taken, grown}
 use Rattle.sup_log.proofs.Publishing.{follows}
+use Rattle.sup_log.proofs.Stepped.{stepped-all}
 use Rattle.sup_log.proofs.press.Press.publish.Goals as goal
 
 -- the history, after one publication of these entries
 abbrev longer : Told → List Entry → Told
 longer history more = record { press = history.press; editions = history.editions ++ in_one_step more; front = history.front ++ more }
 
-pub show-requires : goal.show-requires
-show-requires g c =
+-- the copies, after the rest of these entries
+abbrev brought : Sides → List Entry → Sides
+brought c more = record { shown = c.shown; next = fold taken c.next more; is_out = c.is_out }
+
+-- that makes the other copy the supervisor after all of them
+up : (c ready new : Sides) (items now : List Entry) (k : ℕ) → c.next ≡ fold taken c.shown.standing (take k items) → now ≡ items
+    → ready ≡ record { shown = c.shown; next = c.next; is_out = true } → new ≡ brought ready (take (length now - k) (drop k now))
+    → (new.shown ≡ c.shown) × (new.next ≡ fold taken c.shown.standing items) × (new.is_out ≡ true)
+up c ready new items now k is same out taken' = (
+  ap (λ (x : Sides). x.shown) taken' ∙ ap (λ (x : Sides). x.shown) out,
+  ap (λ (x : Sides). x.next) taken'
+      ∙ ap (λ (x : Sides). fold taken x.next (take (length now - k) (drop k now))) out
+      ∙ ap (fold taken c.next) (take_rest now k ∙ ap (drop k) same)
+      ∙ ap (λ (s : State). fold taken s (drop k items)) is
+      ∙ stepped-all c.shown.standing items k,
+  ap (λ (x : Sides). x.is_out) taken' ∙ ap (λ (x : Sides). x.is_out) out,
+)
+
+pub show-requires-clause-out : goal.show-requires-clause-out
+show-requires-clause-out g c =
+    let p = c.self.inside in
+    (up p.copies c.ready.new.self c.take_all.new.self p.pending.items c.deref.result.now p.stepped c.self.invariant.7 c.deref.ensures.value c.ready.ensures c.take_all.ensures).2
+
+pub show-requires-clause-stepped : goal.show-requires-clause-stepped
+show-requires-clause-stepped g c =
+    let p = c.self.inside in
+    let to = up p.copies c.ready.new.self c.take_all.new.self p.pending.items c.deref.result.now p.stepped c.self.invariant.7 c.deref.ensures.value c.ready.ensures c.take_all.ensures in
+    to.1 ∙ ap (λ (v : Sight). fold taken v.standing p.pending.items) (sym to.0)
+
+pub show-requires-clause-follows : goal.show-requires-clause-follows
+show-requires-clause-follows g c =
     let p = c.self.inside in
     let old = c.self.invariant in
     let items = p.pending.items in
     let told : c.extended-front.result ≡ longer p.history items =
     c.extended-front.ensures.told ∙ c.extended-front.ensures.grown ∙ ap (longer p.history) c.as_slice.ensures.value in
-    follows p.history p.copies items c.extended-front.result old.0 old.2 old.3 (omega (arith, old.4)) told
+    let to = up p.copies c.ready.new.self c.take_all.new.self items c.deref.result.now p.stepped old.7 c.deref.ensures.value c.ready.ensures c.take_all.ensures in
+    subst (λ (v : Sight). Follows v (grown v items c.extended-front.result)) (sym to.0)
+    (follows p.history p.copies.shown items c.extended-front.result old.0 old.2 old.3 (omega (arith, old.4)) told)
 
 pub invariant_of-self : goal.invariant_of-self
 invariant_of-self g c =
@@ -28,11 +63,12 @@ invariant_of-self g c =
     let items = p.pending.items in
     let told : c.extended-front.result ≡ longer p.history items =
     c.extended-front.ensures.told ∙ c.extended-front.ensures.grown ∙ ap (longer p.history) c.as_slice.ensures.value in
-    let next : Follows p.copies (grown p.copies items c.extended-front.result) = follows p.history p.copies items c.extended-front.result old.0 old.2 old.3 (omega (arith, old.4)) told in
-    let shown = c.show.ensures.shown in
+    let next : Follows p.copies.shown (grown p.copies.shown items c.extended-front.result) = follows p.history p.copies.shown items c.extended-front.result old.0 old.2 old.3 (omega (arith, old.4)) told in
+    let to = up p.copies c.ready.new.self c.take_all.new.self items c.deref.result.now p.stepped old.7 c.deref.ensures.value c.ready.ensures c.take_all.ensures in
+    let shown : c.show.new.self.shown ≡ grown p.copies.shown items c.extended-front.result = c.show.ensures.shown ∙ ap (λ (v : Sight). grown v items c.extended-front.result) to.0 in
     let long : length c.extended-front.new.history.front ≡ length p.history.front + length items =
     ap (λ t. length t.front) (sym c.extended-front.ensures.told ∙ told) ∙ length-append p.history.front items in
-    let bound : p.copies.standing.template.entries ≡ c.show.new.self.standing.template.entries = ap (λ (t : Template). t.entries) (next.0.1 ∙ sym (ap (λ v. v.standing.template) shown)) in
+    let bound : p.copies.shown.standing.template.entries ≡ c.show.new.self.shown.standing.template.entries = ap (λ (t : Template). t.entries) (next.0.1 ∙ sym (ap (λ v. v.standing.template) shown)) in
     let none : length c.show.new.entries.items ≡ 0 = ap length c.show.ensures.none in
     let some : 0 < length items = grind (arith, c.is_empty.ensures, c.if-is_empty.false) in
     let count : length c.extended-front.new.history.editions ≡ length p.history.editions + 1 =
@@ -43,6 +79,8 @@ invariant_of-self g c =
       subst IsLawful (sym shown) next.1,
       omega (arith, old.4, long, bound, none),
       omega (arith, old.5, long, some, count),
+      omega arith,
+      c.show.ensures.next.0 ∙ to.1 ∙ sym (ap (λ (v : Sight). v.standing) shown),
     )
 
 pub returns : goal.returns
@@ -52,10 +90,12 @@ returns g c =
     let items = p.pending.items in
     let told : c.extended-front.result ≡ longer p.history items =
     c.extended-front.ensures.told ∙ c.extended-front.ensures.grown ∙ ap (longer p.history) c.as_slice.ensures.value in
-    let next : Follows p.copies (grown p.copies items c.extended-front.result) = follows p.history p.copies items c.extended-front.result old.0 old.2 old.3 (omega (arith, old.4)) told in
-    let bound : c.show.new.self.standing.template ≡ p.copies.standing.template = ap (λ v. v.standing.template) c.show.ensures.shown ∙ sym next.0.1 in
+    let next : Follows p.copies.shown (grown p.copies.shown items c.extended-front.result) = follows p.history p.copies.shown items c.extended-front.result old.0 old.2 old.3 (omega (arith, old.4)) told in
+    let to = up p.copies c.ready.new.self c.take_all.new.self items c.deref.result.now p.stepped old.7 c.deref.ensures.value c.ready.ensures c.take_all.ensures in
+    let shown : c.show.new.self.shown ≡ grown p.copies.shown items c.extended-front.result = c.show.ensures.shown ∙ ap (λ (v : Sight). grown v items c.extended-front.result) to.0 in
+    let bound : c.show.new.self.shown.standing.template ≡ p.copies.shown.standing.template = ap (λ v. v.standing.template) shown ∙ sym next.0.1 in
     let none : c.show.new.entries.items ≡ [] = c.show.ensures.none in
     let all : c.extended-front.new.history ≡ longer p.history p.pending.items =
     sym c.extended-front.ensures.told ∙ told in
-    let step = λ (r : Record). let next : Record = record { press = r.press; template = r.template; editions = r.editions ++ in_one_step r.pending; published = r.published ++ r.pending; pending = [] } in next in
-    (λ i. record { press = (all i).press; template = bound i; editions = (all i).editions; published = (all i).front; pending = none i }) ∙ ap step c.self.view_is
+    let step = λ (r : Record). let next : Record = record { press = r.press; template = r.template; editions = r.editions ++ in_one_step r.pending; published = r.published ++ r.pending; pending = []; stepped = 0 } in next in
+    (λ i. record { press = (all i).press; template = bound i; editions = (all i).editions; published = (all i).front; pending = none i; stepped = 0 }) ∙ ap step c.self.view_is
