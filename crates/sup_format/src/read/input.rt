@@ -13,8 +13,9 @@ use std::io::Read;
 /// The most bytes that a text has: 2^24.
 pub const MOST_BYTES: u64 = 16_777_216;
 
-/// The bytes that are asked for at a time.
-pub const PIECE: usize = 65_536;
+/// The bytes that are asked for at a time. A page of memory that is touched first takes as long as a call of the system or two, so
+/// short texts gain by smaller pieces.
+pub const PIECE: usize = 16_384;
 
 /// Reads to the end, or as much as a text may have. After a fault the text holds what was read before it.
 pub fn read_whole<R: Read, A: Allocator>(
