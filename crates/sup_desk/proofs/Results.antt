@@ -1,6 +1,6 @@
 -- What an update of a handle that has met the history says of the handle that asked for it.
-use Rattle.std.proofs.Common.{◌≡◌, ℕ, List, [], ◌∷◌, ◌++◌, length, refl, ap, ap₂, sym, ◌∙◌, subst}
-use Rattle.std.specs.Result.{IfOk, IfErr, OnErr}
+use Rattle.std.proofs.Common.{◌≡◌, ℕ, ◌<◌, List, [], ◌∷◌, ◌++◌, length, refl, ap, ap₂, sym, ◌∙◌, subst, arith, length-append}
+use Rattle.std.specs.Result.{IfOk, IfErr, OnErr, MatchResult}
 use Rattle.std.specs.declared.result.Result.{Result}
 use Rattle.std.specs.declared.result.Result.TheVariants.{Ok, Err}
 use mathlib.Core.List.{IsPrefix}
@@ -16,7 +16,7 @@ use Rattle.sup_log.specs.Tokens.{Publication, Told, history_of, in_one_step}
 use Rattle.sup_log.specs.PrefixLaws.{prefix_trans}
 use Rattle.sup_desk.specs.declared.laws.Done.{Done}
 use Rattle.sup_desk.specs.declared.faults.UpdateFault.{UpdateFault}
-use Rattle.sup_desk.specs.declared.faults.UpdateFault.TheVariants.{HistoryFull, Gone}
+use Rattle.sup_desk.specs.declared.faults.UpdateFault.TheVariants.{HistoryFull, OutOfMemory, Gone}
 use Rattle.sup_desk.specs.Books.{Kept, grown_by}
 use Rattle.sup_desk.specs.Knowledge.{Knowledge, entries_of, with_entries, IsEntryOf, IsMet, IsUpdated}
 use Rattle.sup_desk.specs.Batches.{AreEntered, IsApplied}
@@ -86,17 +86,19 @@ module _ (may : Text → ℕ → Answer → Type 0) (template : Template) (press
       → IfOk result (λ done. done.ticket ≡ record { press = press; editions = after.editions; front = after.front })
       → OnErr result (after ≡ met)
       → IfErr result (λ e. e ≡ HistoryFull → length book.history ≡ template.entries)
+      → MatchResult result (λ _. length book.history < template.entries) (λ e. e ≡ OutOfMemory → length book.history < template.entries)
       → IfErr result (λ e. e ≡ Gone → ⊥)
       → IsUpdateResult may template press before operation moment after result
-  update_result operation left (Ok done) (entry, entered, reply, book', is) told kept full gone = record {
+  update_result operation left (Ok done) (entry, entered, reply, book', is) told kept full room gone = record {
     ok = updated operation done entry entered reply is told;
     seen = seen_with (entry ∷ []) is;
     calls = tt;
     own = own_with (entry ∷ []) is (entries-own met.number entry entered.handle_is);
     gone = tt;
     full = tt;
+    room = omega (arith, ap (λ (k : Knowledge). length k.front) is, length-append book.history (entry ∷ []), room);
   }
-  update_result operation left (Err e) entered told kept full gone =
+  update_result operation left (Err e) entered told kept full room gone =
       let own : entries_of after.front after.number ≡ after.calls = subst (λ (k : Knowledge). entries_of k.front k.number ≡ k.calls) (sym kept) has.own in
       record {
         ok = tt;
@@ -105,6 +107,7 @@ module _ (may : Text → ℕ → Answer → Type 0) (template : Template) (press
         own = own;
         gone = gone;
         full = λ is. ap (λ (k : Knowledge). length k.front) kept ∙ ap length has.front ∙ full is;
+        room = λ is. subst (λ (n : ℕ). n < template.entries) (sym (ap (λ (k : Knowledge). length k.front) kept ∙ ap length has.front)) (room is);
       }
 
   -- the operations of a batch

@@ -1,5 +1,5 @@
 //! Handles: the callers of a desk.
-ghost use Rattle.std.specs.Prelude.{◌≡◌, ◌<◌, ◌++◌, [], length, take, drop, IfOk, IsOk, OnOk, OnErr, IfErr, IfSome, IfNone, IsTrue, ◌↔◌, Some, None};
+ghost use Rattle.std.specs.Prelude.{◌≡◌, ◌<◌, ◌≤◌, ◌⊎◌, ◌++◌, [], length, take, drop, IfOk, IsOk, OnOk, OnErr, IfErr, IfSome, IfNone, IsTrue, ◌↔◌, Some, None};
 ghost use mathlib.Core.List.{IsPrefix};
 ghost use Rattle.sup_core.specs.State.{MatchSeen};
 ghost use Rattle.sup_core.specs.Queries.{which, count, child};
@@ -178,6 +178,8 @@ impl<'d, N: Name, S: Starter + Drop, R: Wait + Drop, J: Journal + Drop> HandleOf
         // When a fault comes.
         ensures gone { IfErr result (λ p. p.fault ≡ UpdateFault.Gone → ⊥) }
         ensures full { IfErr result (λ p. p.fault ≡ UpdateFault.HistoryFull → length self.new.front ≡ N.template.entries) }
+        ensures room { IfErr result (λ p. p.fault ≡ UpdateFault.OutOfMemory → (self.new ≡ self.old) ⊎ (length self.new.front < N.template.entries)) }
+        ensures within { OnOk result (length self.new.front ≤ N.template.entries) }
         ensures journal { IfErr result (λ p. (f : JournalFault) → p.fault ≡ UpdateFault.Journal f → (p.replies.items ≡ []) × J.may_fail f) }
     {
         let Ok(mut replies) = Vec::with_capacity(alloc, operations.len()) else {
@@ -302,6 +304,7 @@ impl<'d, N: Name, D> HandleOf<'d, N, D> {
         requires made { IsMade leaf.old.made self.old.number }
         requires mine { entries_of leaf.old.pending self.old.number ≡ leaf.old.pending }
         ensures leaf { OnOk result (leaf.new ≡ record leaf.old { editions = leaf.old.editions ++ in_one_step leaf.old.pending; published = leaf.old.published ++ leaf.old.pending; pending = [] }) }
+        ensures within { OnOk result (length leaf.new.published ≤ N.template.entries) }
         ensures handle { OnOk result (self.new ≡ with_entries self.old leaf.old.editions leaf.old.published leaf.old.pending) }
         ensures err { IfErr result (λ f. (leaf.new ≡ record leaf.old { fault = Some f }) × J.may_fail f) }
         ensures kept { OnErr result (self.new ≡ self.old) }
@@ -364,7 +367,7 @@ impl<'d, N: Name, D> HandleOf<'d, N, D> {
     }
 
     /// Calls `f` once on a view at such a front, and not at all where the supervisor is down. `f` may make no update,
-    /// which would wait for this look.
+    /// no handle and no asker, which would wait for this look.
     pub fn inspect<T, F: FnOnce(&View) -> T>(&mut self, f: F) -> Result<Seen<T>, Gone>
         requires { F.IsAlwaysCallable f }
         ensures front { IsPrefix self.old.front self.new.front }

@@ -1,6 +1,6 @@
 //! What a call does with the book that is lent to it: the answers and the refusals of the calls of the same kind, and
 //! what the book is afterwards.
-ghost use Rattle.std.specs.Prelude.{◌≡◌, ◌+◌, ◌++◌, ◌∷◌, [], length, take, drop, vec_len, vec_capacity, All, List, ◌<◌, ◌≤◌, ◌↔◌, ◌⊎◌, IfOk, OnOk, OnErr, IfErr, MatchOption, OnSome, IfSome, IfNone, Some, None, true, false};
+ghost use Rattle.std.specs.Prelude.{◌≡◌, ◌+◌, ◌++◌, ◌∷◌, [], length, take, drop, vec_len, vec_capacity, All, List, ◌<◌, ◌≤◌, ◌↔◌, ◌⊎◌, IfOk, OnOk, OnErr, IfErr, MatchResult, MatchOption, OnSome, IfSome, IfNone, Some, None, true, false};
 ghost use mathlib.Core.List.{IsPrefix};
 ghost use Rattle.sup_log.specs.Tokens.{history_of};
 ghost use Rattle.sup_core.specs.Account.{reply_after};
@@ -66,6 +66,7 @@ fn write<N: Name, S: Starter, R: Wait + Drop, J: Journal + Drop>(
         × (reply ≡ reply_after N.template (leaf.old.published ++ leaf.old.pending) entry) × (leaf.new ≡ with_pending leaf.old (entry ∷ []))) }
     ensures kept { OnErr result (leaf.new ≡ leaf.old) }
     ensures full { IfErr result (λ e. e ≡ UpdateFault.HistoryFull → length (leaf.old.published ++ leaf.old.pending) ≡ N.template.entries) }
+    ensures room { MatchResult result (λ _. length (leaf.old.published ++ leaf.old.pending) < N.template.entries) (λ e. e ≡ UpdateFault.OutOfMemory → length (leaf.old.published ++ leaf.old.pending) < N.template.entries) }
     ensures faults { IfErr result (λ e. IsOfStep e) }
 {
     let Some(asked) = leaf.asks(operation, moment) else {
@@ -108,6 +109,7 @@ fn enter_one<N: Name, D, S: Starter, R: Wait + Drop, J: Journal + Drop>(
     ensures kept { OnErr result (handle.new ≡ handle.old) }
     ensures left { IfErr result (λ e. IsLeft J.may_fail book.old e book.new) }
     ensures full { IfErr result (λ e. e ≡ UpdateFault.HistoryFull → length book.old.history ≡ N.template.entries) }
+    ensures room { MatchResult result (λ _. length book.old.history < N.template.entries) (λ e. e ≡ UpdateFault.OutOfMemory → length book.old.history < N.template.entries) }
     ensures gone { IfErr result (λ e. e ≡ UpdateFault.Gone → ⊥) }
 {
     let reply = write(
@@ -174,6 +176,7 @@ fn write_all<N: Name, S: Starter, R: Wait + Drop, J: Journal + Drop, A: Allocato
     ensures within { length replies.new.items ≤ length operations.now.items }
     ensures all { IfNone result (length replies.new.items ≡ length operations.now.items) }
     ensures full { IfSome result (λ e. e ≡ UpdateFault.HistoryFull → length (leaf.new.published ++ leaf.new.pending) ≡ N.template.entries) }
+    ensures room { IfSome result (λ e. e ≡ UpdateFault.OutOfMemory → length (leaf.new.published ++ leaf.new.pending) < N.template.entries) }
     ensures faults { IfSome result (λ e. IsOfStep e) }
 {
     'queue: while let Some(operation) = operations.get(replies.len()) {
@@ -219,6 +222,8 @@ fn enter_met<N: Name, D, S: Starter, R: Wait + Drop, J: Journal + Drop, A: Alloc
     ensures rest { operations.new.items ≡ drop (length replies.new.items) operations.old.items }
     ensures all { IfOk result (λ p. IfNone p.1 (operations.new.items ≡ [])) }
     ensures full { IfOk result (λ p. IfSome p.1 (λ e. e ≡ UpdateFault.HistoryFull → length handle.new.front ≡ N.template.entries)) }
+    ensures room { IfOk result (λ p. IfSome p.1 (λ e. e ≡ UpdateFault.OutOfMemory → length handle.new.front < N.template.entries)) }
+    ensures within { OnOk result (length handle.new.front ≤ N.template.entries) }
     ensures faults { IfOk result (λ p. IfSome p.1 (λ e. IsOfStep e)) }
 
     // What is left where the journal breaks off.
@@ -291,6 +296,8 @@ pub fn enter_all<N: Name, D, S: Starter, R: Wait + Drop, J: Journal + Drop, A: A
     ensures learnt { IsPrefix book.old.history handle.new.front }
     ensures gone { IfErr result (λ r. r.fault ≡ UpdateFault.Gone → ⊥) }
     ensures full { IfErr result (λ r. r.fault ≡ UpdateFault.HistoryFull → length handle.new.front ≡ N.template.entries) }
+    ensures room { IfErr result (λ r. r.fault ≡ UpdateFault.OutOfMemory → length handle.new.front < N.template.entries) }
+    ensures within { OnOk result (length handle.new.front ≤ N.template.entries) }
     ensures journal { IfErr result (λ r. (f : JournalFault) → r.fault ≡ UpdateFault.Journal f → (replies.new.items ≡ []) × (book.new.fault ≡ Some f) × J.may_fail f) }
     ensures broken { IfSome book.old.fault (λ f. IfErr result (λ r. r.fault ≡ UpdateFault.Journal f) × IfOk result (λ _. ⊥)) }
 {

@@ -224,6 +224,7 @@ impl<N: Name, R: Wait + Drop, J: Journal + Drop> Leaf<N, R, J> {
         requires mine { entries_of self.old.pending claim.old.number ≡ self.old.pending }
         ensures ok { OnOk result (self.new ≡ record self.old { editions = self.old.editions ++ in_one_step self.old.pending; published = self.old.published ++ self.old.pending; pending = [] }) }
         ensures claim { OnOk result (claim.new ≡ record claim.old { calls = claim.old.calls ++ self.old.pending }) }
+        ensures within { OnOk result (length self.new.published ≤ N.template.entries) }
         ensures err { IfErr result (λ f. (self.new ≡ record self.old { fault = Some f }) × (claim.new ≡ claim.old) × J.may_fail f) }
     {
         if let Err(fault) = self.journal.record() {

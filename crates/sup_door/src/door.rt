@@ -1,5 +1,5 @@
 //! Doors: by which a program starts children, sends to them, ends them and asks.
-ghost use Rattle.std.specs.Prelude.{◌≡◌, ℕ, [], length, IfOk, IfErr, OnErr, IsOk};
+ghost use Rattle.std.specs.Prelude.{◌≡◌, ◌<◌, ◌⊎◌, ℕ, [], length, IfOk, IfErr, OnErr, IsOk};
 ghost use mathlib.Core.List.{IsPrefix};
 ghost use Rattle.sup_core.specs.State.{MatchSeen};
 ghost use Rattle.sup_core.specs.Queries.{which, count, child};
@@ -110,6 +110,7 @@ impl<
         ensures calls { OnErr result ((self.new.calls ≡ self.old.calls) × (self.new.number ≡ self.old.number)) }
         ensures gone { IfErr result (λ e. e ≡ UpdateFault.Gone → ⊥) }
         ensures full { IfErr result (λ e. e ≡ UpdateFault.HistoryFull → (length self.new.front ≡ N.template.entries) × (entries_of self.new.front self.new.number ≡ self.new.calls)) }
+        ensures room { IfErr result (λ e. e ≡ UpdateFault.OutOfMemory → (self.new ≡ self.old) ⊎ (length self.new.front < N.template.entries)) }
         ensures journal { IfErr result (λ e. (f : JournalFault) → e ≡ UpdateFault.Journal f → J.may_fail f) }
     {
         let Ok(place) = self.yard.hub().make_room() else {
@@ -291,7 +292,7 @@ impl<
     }
 
     /// Calls `f` once on a view at such a front, and not at all where the supervisor is down. `f` may make no update,
-    /// which would wait for this look.
+    /// no door and no handle, which would wait for this look.
     #[tactic(auto, using(sup_yard::specs::ReplyLaws::seen_more))]
     pub fn inspect<T, G: FnOnce(&View) -> T>(&mut self, f: G) -> Result<Seen<T>, Gone>
         requires { G.IsAlwaysCallable f }

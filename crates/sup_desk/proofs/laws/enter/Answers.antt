@@ -17,7 +17,7 @@ returns-clause-result g c =
     } in
     let one = c.enter_one.ensures in
     update_result g.S.Starter.may_answer g.N.Name.template g.N.Name.press book c.args.handle.now c.give_ticket.new.handle c.enter_one.new.handle c.args.moment has
-    c.args.operation.now c.enter_one.new.book c.enter_one.result one.entered one.told one.kept one.full one.gone
+    c.args.operation.now c.enter_one.new.book c.enter_one.result one.entered one.told one.kept one.full one.room one.gone
 
 pub returns-clause-left : goal.returns-clause-left
 returns-clause-left g c =

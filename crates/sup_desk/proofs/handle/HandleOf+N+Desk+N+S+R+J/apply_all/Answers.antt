@@ -1,4 +1,4 @@
-use Rattle.std.proofs.Common.{rules, IfNone}
+use Rattle.std.proofs.Common.{rules, IfNone, inr}
 use Rattle.std.specs.declared.option.Option.{Option}
 use Rattle.std.specs.declared.option.Option.TheVariants.{None, Some}
 use Rattle.sup_desk.proofs.handle.HandleOf+N+Desk+N+S+R+J.apply_all.Goals as goal
@@ -15,3 +15,6 @@ returns-clause-journal g c = λ f is. let told = c.in-Err.ensures.journal f is i
 
 pub returns-in_default-clause-gone : goal.returns-in_default-clause-gone
 returns-in_default-clause-gone g c = search rules
+
+pub returns-clause-room : goal.returns-clause-room
+returns-clause-room g c = λ is. inr (c.in-Err.ensures.room is)
