@@ -1,6 +1,7 @@
 -- Handles that have seen a whole history, one after another.
-use Rattle.std.proofs.Common.{◌≡◌, ◌≢◌, ℕ, ◌==◌, ◌+◌, ◌<◌, List, length, get_or, set, refl, sym, ◌∙◌, subst, arith, length-set, Bool, true, false, get_or-set_same, get_or-set_other}
-use Rattle.std.proofs.lemmas.List.{get_or_default}
+use Rattle.std.proofs.Common.{◌≡◌, ◌≢◌, ℕ, ◌==◌, ◌+◌, ◌<◌, List, [], ◌∷◌, ◌++◌, length, length-append, get_or, set, refl, sym, ◌∙◌, subst, arith, length-set, Bool, true, false, get_or-set_same, get_or-set_other}
+use Rattle.std.proofs.lemmas.List.{get_or_default, get_or_append_left}
+use Rattle.std.proofs.Math.Seq.{get_or-append_seam}
 use Rattle.std.specs.Result.{OnOk, is_err}
 use Rattle.std.specs.declared.result.Result.{Result}
 use Rattle.std.specs.declared.result.Result.TheVariants.{Ok, Err}
@@ -54,3 +55,17 @@ seen_set front now i is seen within mine = λ k d below. at k d below (k == i) r
 pub ok_by : {T E P : Type 0} (r : Result T E) → is_err r ≡ false → OnOk r P → P
 ok_by (Ok x) is p = p
 ok_by (Err e) is p = absurd (cc is)
+
+-- what holds of each handle by its place holds after one more, if it holds of that one
+pub each_more : (P : ℕ → Knowledge → Type 0) (handles : List Knowledge) (one : Knowledge) → ((k : ℕ) (d : Knowledge) → k < length handles → P k (get_or handles k d))
+    → P (length handles) one → (k : ℕ) (d : Knowledge) → k < length (handles ++ one ∷ []) → P k (get_or (handles ++ one ∷ []) k d)
+each_more P handles one each its k d within = at (k == length handles) refl
+  where
+    at : (b : Bool) → (k == length handles) ≡ b → P k (get_or (handles ++ one ∷ []) k d)
+    at true test =
+        let same : length handles ≡ k = grind (arith, nat_tests) in
+        subst (λ (n : ℕ). P n (get_or (handles ++ one ∷ []) n d)) same (subst (P (length handles)) (sym (get_or-append_seam handles one [] d)) its)
+    at false test =
+        let differ : k ≢ length handles = λ same. grind (arith, nat_tests) in
+        let before : k < length handles = omega (arith, within, length-append handles (one ∷ []), differ) in
+        subst (P k) (sym (get_or_append_left handles (one ∷ []) d k before)) (each k d before)

@@ -92,7 +92,7 @@ impl<N: Name> Asker<N> {
     }
 
     /// Calls `f` once on a view at such a front, and not at all where the supervisor is down. `f` may make no update,
-    /// which would wait for this look.
+    /// no handle and no asker, which would wait for this look.
     pub fn inspect<T, F: FnOnce(&View) -> T>(&mut self, f: F) -> Result<Seen<T>, Gone>
         requires { F.IsAlwaysCallable f }
         ensures front { IsPrefix self.old.front self.new.front }

@@ -62,9 +62,10 @@ impl<N: Name, S: Starter + Drop, R: Wait + Drop, J: Journal + Drop> Desk<N, S, R
 
     /// A desk on this ground, which N names, that goes on from a history of before: all of its entries are published, in order,
     /// and the journal has recorded them. The ticket is for this history, so a handle that learns it has seen all of it. The
-    /// handles of before come back as callers, in the order of their numbers; new ones get the numbers after these. A fault where an entry can't be entered: HistoryFull
-    /// for more entries than the template allows, NoHandle for one of a number that no handle of the ground can have, and
-    /// OutOfMemory for want of memory. There is no desk then.
+    /// handles of before come back as callers, in the order of their numbers; new ones get the numbers after these.
+    ///
+    /// A fault where an entry can't be entered: HistoryFull for more entries than the template allows, NoHandle for one of a
+    /// number that no handle of the ground can have, and OutOfMemory for want of memory. There is no desk then.
     pub fn recover(
         ground: Ground<R>,
         starter: S,
@@ -106,8 +107,11 @@ impl<N: Name, S: Starter + Drop, R: Wait + Drop, J: Journal + Drop> Desk<N, S, R
         book.into_inner().close()
     }
 
-    /// A handle that has seen all of the history and made no call. It waits for the lock. After a refusal nothing has
-    /// changed.
+    /// A handle that has seen all of the history and made no call. It waits for the lock. After a refusal nothing has changed.
+    ///
+    /// With the third handle or asker, and with the 33rd, the desk puts more places to use, and each update takes longer from then on.
+    /// That waits for the queries which look, as an update does. A desk whose journal broke off puts no more places to use: a handle
+    /// that would need one is refused (NoPlace).
     pub fn handle<W: Wait>(&self, rt: &W) -> Result<HandleOf<'_, N, Desk<N, S, R, J>>, HandleFault>
         ensures { IfOk result (λ h. (h.calls ≡ []) × (entries_of h.front h.number ≡ []) × (1 ≤ h.number)) }
     {
@@ -122,7 +126,7 @@ impl<N: Name, S: Starter + Drop, R: Wait + Drop, J: Journal + Drop> Desk<N, S, R
     }
 
     /// An asker, which is no handle: it asks, and no audit counts it. Its place comes back when it is dropped; it is one of
-    /// those that handles take, too. It waits for the lock. Refused where no place is left, with nothing changed.
+    /// those that handles take, too. It waits as [`Desk::handle`] does. Refused where no place is left, with nothing changed.
     pub fn asker<W: Wait>(&self, rt: &W) -> Result<Asker<N>, NoPlace> {
         add_asker(&mut *self.book.lock(rt))
     }

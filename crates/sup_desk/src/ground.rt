@@ -36,7 +36,8 @@ impl<R: Wait + Drop> Model for Ground<R> {
 }
 
 impl<R: Wait + Drop> Ground<R> {
-    /// A ground for a supervisor of this template and so many handles: 1 to 1024.
+    /// A ground for a supervisor of this template and so many handles: 1 to 1024. Handles that are never made cost an update
+    /// nothing.
     pub fn new(
         alloc: Global,
         rt: R,

@@ -37,6 +37,14 @@ known v = record { named = true; view = v }
 abbrev pub Fits : Sight → Sight → Type 0
 Fits v x = (v.press ≡ x.press) × (v.standing.template ≡ x.standing.template)
 
+-- where this copy is shown, a place of another table knows one of the same press
+abbrev pub IsPlaceFor : Sight → Known → Type 0
+IsPlaceFor shown v = (v.named ≡ true) × Fits shown v.view
+
+-- where this copy is shown, the writer of another table shows one of the same press, which it knows
+abbrev pub IsReserveFor : Sight → Sight → Known → Type 0
+IsReserveFor shown x v = Fits shown x × (v ≡ known x)
+
 -- y is a copy of the same press, and lawful
 abbrev pub Follows : Sight → Sight → Type 0
 Follows x y = Fits x y × IsLawful y

@@ -6,6 +6,9 @@
 //! The queue of `left_right`'s writer stays empty. In it each publication would be an operation with a list of its own, for which
 //! memory is taken and given back. Here two lists change places: that of the pending entries, and that of the last publication,
 //! which the copy lacks that is shown no more.
+//!
+//! Lenses have their places in tables ([`crate::wider`]), each with a writer of its own. One table is in use, and its writer has the
+//! copies. What the others show was never stepped, and no lens enters them before they are in use.
 ghost use Rattle.std.specs.Prelude.{◌≡◌, ◌==◌, ◌<◌, ◌≤◌, List, [], ◌∷◌, ◌++◌, fold, is_some, true, false, Some, None, IfOk, IfSome};
 ghost use Rattle.std.specs.Option.{option_map_or};
 ghost use Rattle.left_right.specs.Sides.{view};
@@ -13,15 +16,16 @@ ghost use Rattle.sup_types.specs.declared.history.Entry.{Entry};
 ghost use Rattle.sup_core.specs.Replies.{asked_argument};
 ghost use Rattle.sup_core.specs.Account.{IsAfter, state_after, reply_after};
 ghost use Rattle.sup_log.specs.Absorbing.{taken, grown};
-ghost use Rattle.sup_log.specs.Fronts.{Follows, known};
-ghost use Rattle.sup_log.specs.Tokens.{IsFresh};
+ghost use Rattle.sup_log.specs.Fronts.{Follows, IsPlaceFor, IsReserveFor, known};
+ghost use Rattle.sup_log.specs.Tokens.{Sight, IsFresh, IsLawful};
 
 use crate::faults::NoPlace;
 use crate::lens::Seat;
 use crate::publication::{Known, Published, Sees, Takes, Tells};
 use crate::ticket::Ticket;
 use crate::view::View;
-use core::mem::{replace_with, swap};
+use crate::wider::{FEW, MORE, Wider};
+use core::mem::{replace, replace_with, swap};
 use left_right::writer::Writer;
 use std::alloc::Global;
 use std::marker::Model;
@@ -37,7 +41,15 @@ const FEW_ENTRIES: usize = 64;
 /// The two copies, of which lenses look at one. It is not `Drop`: end it by `close`.
 pub struct Copies {
     writer: Ends,
+    // The writers of the tables that are not in use yet.
+    wider: Wider<Ends>,
     other: Other,
+}
+
+/// A lens's places: in the table in use, and in those that are not in use yet.
+pub struct Seats {
+    pub reader: Seat,
+    pub wider: Wider<Seat>,
 }
 
 /// The copy that is not shown.
@@ -52,10 +64,10 @@ struct Other {
 }
 
 impl Model for Copies {
-    ghost use Rattle.std.specs.Prelude.{◌≡◌, true, None, is_some, fold};
+    ghost use Rattle.std.specs.Prelude.{◌≡◌, true, None, IfSome, is_some, fold};
     ghost use Rattle.std.specs.Option.{option_map_or};
     ghost use Rattle.sup_log.specs.Absorbing.{taken};
-    ghost use Rattle.sup_log.specs.Fronts.{known};
+    ghost use Rattle.sup_log.specs.Fronts.{IsReserveFor, known};
     ghost use Rattle.sup_log.specs.Tokens.{Sides};
 
     ghost Value = { Sides };
@@ -67,7 +79,9 @@ impl Model for Copies {
     } };
 
     ghost invariant = { λ c. (c.writer.desk.place.me.0.client ≡ known c.writer.desk.shown.value)
-        × (c.other.next ≡ None → is_some c.other.stand_in ≡ true) };
+        × (c.other.next ≡ None → is_some c.other.stand_in ≡ true)
+        × IfSome c.wider.next (λ w. IsReserveFor c.writer.desk.shown.value w.desk.shown.value w.desk.place.me.0.client)
+        × IfSome c.wider.last (λ w. IsReserveFor c.writer.desk.shown.value w.desk.shown.value w.desk.place.me.0.client) };
 }
 
 /// Takes the copy that is not shown from the writer, and leaves this one in its place. It waits for those that look at it. The
@@ -127,6 +141,108 @@ fn opened(
     Ok(Writer::new(alloc, first, second, places)?)
 }
 
+/// A writer of two copies that have taken no entry, for so many lenses at a time, and a third one to stand in.
+fn table<R: Wait>(
+    alloc: Global,
+    rt: &R,
+    template: Template,
+    places: usize,
+    front: &Ticket,
+) -> Result<(Ends, Box<View>), OutOfMemory>
+    requires front { front.now.front ≡ [] }
+    requires places { (0 < places) × (places ≤ 1024) }
+    ensures known { IfOk result (λ t. view t.0.desk.place ≡ known t.0.desk.shown.value) }
+    ensures shown { IfOk result (λ t. IsFresh front.now template t.0.desk.shown.value) }
+    ensures spare { IfOk result (λ t. t.0.desk.spare.value.standing ≡ t.0.desk.shown.value.standing) }
+{
+    // No clause of the writer says what its second copy is. So that copy is the stand-in, and one that is known is shown.
+    let Ok(next) = Box::new(alloc, View::new(alloc, template, front.copied())?) else {
+        return Err(OutOfMemory);
+    };
+    let mut writer = opened(alloc, template, places, front)?;
+    let stand_in = turn(rt, &mut writer, next);
+    Ok((writer, stand_in))
+}
+
+/// The writer of a table that is not in use yet, where there may be more lenses than the one before has places.
+fn reserve<R: Wait>(
+    alloc: Global,
+    rt: &R,
+    template: Template,
+    before: usize,
+    places: usize,
+    front: &Ticket,
+) -> Result<Option<Ends>, OutOfMemory>
+    requires front { front.now.front ≡ [] }
+    requires places { places ≤ 1024 }
+    ensures { IfOk result (λ o. IfSome o (λ w. (view w.desk.place ≡ known w.desk.shown.value) × IsFresh front.now template w.desk.shown.value)) }
+{
+    if places <= before {
+        return Ok(None);
+    }
+    let (writer, _stand_in) = table(alloc, rt, template, places, front)?;
+    Ok(Some(writer))
+}
+
+/// The writers of the tables that are not in use yet, for so many lenses at a time.
+fn reserves<R: Wait>(
+    alloc: Global,
+    rt: &R,
+    template: Template,
+    places: usize,
+    front: &Ticket,
+) -> Result<Wider<Ends>, OutOfMemory>
+    requires front { front.now.front ≡ [] }
+    requires places { places ≤ 1024 }
+    ensures next { IfOk result (λ r. IfSome r.next (λ w. (view w.desk.place ≡ known w.desk.shown.value) × IsFresh front.now template w.desk.shown.value)) }
+    ensures last { IfOk result (λ r. IfSome r.last (λ w. (view w.desk.place ≡ known w.desk.shown.value) × IsFresh front.now template w.desk.shown.value)) }
+{
+    let next = reserve(alloc, rt, template, FEW, places.min(MORE), front)?;
+    match reserve(alloc, rt, template, MORE, places, front) {
+        Ok(last) => Ok(Wider { next, last }),
+        Err(fault) => {
+            end(rt, next);
+            Err(fault)
+        }
+    }
+}
+
+/// Closes a table, if there is one. It waits for the lenses that look there.
+fn end<R: Wait>(rt: &R, table: Option<Ends>) {
+    if let Some(writer) = table {
+        drop(writer.take(rt));
+    }
+}
+
+/// A place in this table, which knows the copy that is shown there.
+fn seat_of(writer: &mut Ends) -> Result<Seat, NoPlace>
+    requires { view writer.old.desk.place ≡ known writer.old.desk.shown.value }
+    ensures shown { writer.new.desk.shown ≡ writer.old.desk.shown }
+    ensures spare { writer.new.desk.spare ≡ writer.old.desk.spare }
+    ensures known { view writer.new.desk.place ≡ view writer.old.desk.place }
+    ensures seat { IfOk result (λ s. view s.place ≡ known writer.old.desk.shown.value) }
+{
+    match writer.factory().reader() {
+        Ok(mut seat) => {
+            seat.learn::<Takes>(writer.desk.tell::<Tells>());
+            Ok(seat)
+        }
+        Err(_) => Err(NoPlace),
+    }
+}
+
+/// A place in a table that is not in use yet, if there is one.
+fn seat_in(table: &mut Option<Ends>) -> Result<Option<Seat>, NoPlace>
+    requires { IfSome table.old (λ w. view w.desk.place ≡ known w.desk.shown.value) }
+    ensures kept { (shown : Sight) → IfSome table.old (λ w. IsReserveFor shown w.desk.shown.value (view w.desk.place)) → IfSome table.new (λ w. IsReserveFor shown w.desk.shown.value (view w.desk.place)) }
+    ensures seat { (shown : Sight) → IfSome table.old (λ w. IsReserveFor shown w.desk.shown.value (view w.desk.place)) → IfOk result (λ o. IfSome o (λ s. IsPlaceFor shown (view s.place))) }
+{
+    match table {
+        Some(writer) => Ok(Some(seat_of(writer)?)),
+        None => Ok(None),
+    }
+}
+
 /// Takes the copy that is not shown from the writer, and brings it up to date. It waits for those that look at it.
 fn take_out<R: Wait>(rt: &R, writer: &mut Ends, other: &mut Other)
     requires { is_some other.old.stand_in ≡ true }
@@ -155,34 +271,65 @@ impl Copies {
         requires places { (0 < places) × (places ≤ 1024) }
         ensures { IfOk result (λ c. IsFresh front.now template c.shown × (c.next ≡ c.shown.standing) × (c.is_out ≡ false)) }
     {
-        // No clause of the writer says what its second copy is. So that copy is the stand-in, and one that is known is shown.
-        let Ok(next) = Box::new(alloc, View::new(alloc, template, front.copied())?) else {
-            return Err(OutOfMemory);
-        };
-        let mut writer = opened(alloc, template, places, front)?;
-        let stand_in = turn(rt, &mut writer, next);
-        Ok(Copies {
-            writer,
-            other: Other {
-                next: None,
-                stand_in: Some(stand_in),
-                lacks: Vec::new(alloc),
-            },
+        let few = places.min(FEW);
+        let (writer, stand_in) = table(alloc, rt, template, few, front)?;
+        match reserves(alloc, rt, template, places, front) {
+            Ok(wider) => Ok(Copies {
+                writer,
+                wider,
+                other: Other {
+                    next: None,
+                    stand_in: Some(stand_in),
+                    lacks: Vec::new(alloc),
+                },
+            }),
+            Err(fault) => {
+                end(rt, Some(writer));
+                Err(fault)
+            }
+        }
+    }
+
+    /// The places of a lens, which know what is shown.
+    pub fn seats(&mut self) -> Result<Seats, NoPlace>
+        ensures kept { self.new ≡ self.old }
+        ensures reader { IfOk result (λ s. view s.reader.place ≡ known self.old.shown) }
+        ensures next { IfOk result (λ s. IfSome s.wider.next (λ seat. IsPlaceFor self.old.shown (view seat.place))) }
+        ensures last { IfOk result (λ s. IfSome s.wider.last (λ seat. IsPlaceFor self.old.shown (view seat.place))) }
+    {
+        let reader = seat_of(&mut self.writer)?;
+        let next = seat_in(&mut self.wider.next)?;
+        let last = seat_in(&mut self.wider.last)?;
+        Ok(Seats {
+            reader,
+            wider: Wider { next, last },
         })
     }
 
-    /// A seat for a lens, which knows the copy that is shown.
-    pub fn seat(&mut self) -> Result<Seat, NoPlace>
-        ensures kept { self.new ≡ self.old }
-        ensures seat { IfOk result (λ s. view s.place ≡ known self.old.shown) }
+    /// Puts the next table to use, which has more places: whether there was one. The copies move there, where the one that is
+    /// shown tells the same front. It waits for the lenses that look.
+    pub fn widen<R: Wait>(&mut self, rt: &R, front: &Ticket) -> bool
+        requires next { self.old.next ≡ self.old.shown.standing }
+        requires front { front.now ≡ record { press = self.old.shown.press; editions = self.old.shown.editions; front = self.old.shown.front } }
+        requires lawful { IsLawful self.old.shown }
+        ensures shown { self.new.shown ≡ self.old.shown }
+        ensures next { self.new.next ≡ self.old.next }
     {
-        match self.writer.factory().reader() {
-            Ok(mut seat) => {
-                seat.learn::<Takes>(self.writer.desk.tell::<Tells>());
-                Ok(seat)
+        let Some(mut writer) = self.wider.take() else {
+            return false;
+        };
+        self.ready(rt);
+        match self.other.next.take() {
+            Some(mut copy) => {
+                copy.tell(front);
+                drop(turn(rt, &mut writer, copy));
             }
-            Err(_) => Err(NoPlace),
+            None => unreachable!(),
         }
+        // The table of before is closed only now, so that a lens which finds it closed finds the copies here.
+        let before = replace(&mut self.writer, writer);
+        self.other.next = Some(before.take(rt));
+        true
     }
 
     /// Has the copy that is not shown taken from the writer, and brought up to date. It waits for those that still look at it.
@@ -256,7 +403,7 @@ impl Copies {
         ensures next { (self.new.next ≡ self.old.next) × (self.new.is_out ≡ false) }
         ensures none { entries.new.items ≡ [] }
     {
-        let Copies { writer, other } = self;
+        let Copies { writer, other, .. } = self;
         match other.next.take() {
             Some(mut next) => {
                 next.tell(front);
@@ -274,8 +421,12 @@ impl Copies {
     pub fn close<R: Wait>(self, rt: &R) {
         let Copies {
             writer,
+            wider: Wider { next, last },
             other: _other,
         } = self;
+        // (A lens goes on to the next table where it finds one closed, so the table in use is the last to be closed.)
+        end(rt, last);
+        end(rt, next);
         drop(writer.take(rt));
     }
 }

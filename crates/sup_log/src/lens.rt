@@ -1,15 +1,16 @@
 //! Lenses: the readers' side of `left_right`.
-ghost use Rattle.std.specs.Prelude.{◌≡◌, ◌⊎◌, true, IfOk, OnErr, IsOk};
+ghost use Rattle.std.specs.Prelude.{◌≡◌, ◌⊎◌, true, IfOk, IfErr, IfSome, OnErr, IsOk};
 ghost use Rattle.std.specs.Fn.{FnOnceReturnsAt};
 ghost use mathlib.Core.List.{IsPrefix};
 ghost use Rattle.left_right.specs.Sides.{view};
-ghost use Rattle.sup_log.specs.Fronts.{Fits};
+ghost use Rattle.sup_log.specs.Fronts.{Fits, IsPlaceFor};
 ghost use Rattle.sup_log.specs.Tokens.{sight};
 
 use crate::faults::Gone;
 use crate::publication::{Known, Published, Sees};
 use crate::ticket::Ticket;
 use crate::view::View;
+use crate::wider::Wider;
 use core::mem::replace_with;
 use left_right::reader::Reader;
 use std::marker::Model;
@@ -19,19 +20,32 @@ pub(crate) type Seat = Reader<View, Known, Published>;
 /// A reader's place: it looks at what was published, with no lock, and never goes back.
 #[derive(Drop)]
 pub struct Lens {
+    // Its places in the tables that are not in use yet.
+    pub(crate) wider: Wider<Reader<View, Known, Published>>,
     pub(crate) reader: Reader<View, Known, Published>,
     pub(crate) front: Ticket,
 }
 
 impl Model for Lens {
-    ghost use Rattle.std.specs.Prelude.{◌≡◌, true};
+    ghost use Rattle.std.specs.Prelude.{◌≡◌, true, IfSome};
+    ghost use Rattle.sup_log.specs.Fronts.{IsPlaceFor};
     ghost use Rattle.sup_log.specs.Tokens.{Sighted};
 
     ghost Value = { Sighted };
 
     ghost view = { λ l. record { press = l.front.press; template = l.reader.place.me.0.client.view.standing.template; editions = l.front.editions; front = l.front.front } };
 
-    ghost invariant = { λ l. (l.reader.place.me.0.client.named ≡ true) × (l.reader.place.me.0.client.view.press ≡ l.front.press) };
+    ghost invariant = { λ l. (l.reader.place.me.0.client.named ≡ true) × (l.reader.place.me.0.client.view.press ≡ l.front.press)
+        × IfSome l.wider.next (λ s. IsPlaceFor l.reader.place.me.0.client.view s.place.me.0.client)
+        × IfSome l.wider.last (λ s. IsPlaceFor l.reader.place.me.0.client.view s.place.me.0.client) };
+}
+
+/// Why a look called nothing.
+enum Missed<F> {
+    /// The copy lacks what the lens had seen or learnt.
+    Behind,
+    /// The table is in use no more. What was to be called comes back.
+    Closed(F),
 }
 
 /// Enters, calls `f` once where the copy has absorbed the front, and leaves. It returns what the copy has absorbed.
@@ -39,7 +53,7 @@ fn read<T, F: FnOnce(&View) -> T>(
     reader: Seat,
     front: Ticket,
     f: F,
-) -> (Seat, Result<(Ticket, T), Gone>)
+) -> (Seat, Result<(Ticket, T), Missed<F>>)
     requires named { (view reader.place).named ≡ true }
     requires press { (view reader.place).view.press ≡ front.press }
     requires callable { F.IsAlwaysCallable f }
@@ -47,18 +61,19 @@ fn read<T, F: FnOnce(&View) -> T>(
     ensures fits { Fits (view reader.place).view (view result.0.place).view }
     ensures front { IfOk result.1 (λ r. (r.0.press ≡ front.press) × IsPrefix front.front r.0.front × IsPrefix front.editions r.0.editions) }
     ensures answer { IfOk result.1 (λ r. FnOnceReturnsAt F.FnOnce f (sight (record { press = r.0.press; template = (view reader.place).view.standing.template; editions = r.0.editions; front = r.0.front })) r.1) }
+    ensures back { IfErr result.1 (λ m. (g : F) → m ≡ Missed.Closed g → g ≡ f) }
 {
     match reader.enter_as::<Sees>() {
         Ok(reading) => {
             let view = reading.get();
             if !front.begins(view.front()) {
-                return (reading.leave(), Err(Gone));
+                return (reading.leave(), Err(Missed::Behind));
             }
             let seen = view.front().copied();
             let answer = f(view);
             (reading.leave(), Ok((seen, answer)))
         }
-        Err(reader) => (reader, Err(Gone)),
+        Err(reader) => (reader, Err(Missed::Closed(f))),
     }
 }
 
@@ -67,7 +82,7 @@ fn read_in_place<T, F: FnOnce(&View) -> T>(
     reader: &mut Seat,
     front: Ticket,
     f: F,
-) -> Result<(Ticket, T), Gone>
+) -> Result<(Ticket, T), Missed<F>>
     requires named { (view reader.old.place).named ≡ true }
     requires press { (view reader.old.place).view.press ≡ front.press }
     requires callable { F.IsAlwaysCallable f }
@@ -75,12 +90,45 @@ fn read_in_place<T, F: FnOnce(&View) -> T>(
     ensures fits { Fits (view reader.old.place).view (view reader.new.place).view }
     ensures front { IfOk result (λ r. (r.0.press ≡ front.press) × IsPrefix front.front r.0.front × IsPrefix front.editions r.0.editions) }
     ensures answer { IfOk result (λ r. FnOnceReturnsAt F.FnOnce f (sight (record { press = r.0.press; template = (view reader.old.place).view.standing.template; editions = r.0.editions; front = r.0.front })) r.1) }
+    ensures back { IfErr result (λ m. (g : F) → m ≡ Missed.Closed g → g ≡ f) }
 {
     replace_with(
         reader,
         (front, f),
         |reader, (front, f)| read(reader, front, f),
     )
+}
+
+/// The same in the next table, and in the one behind it where that is closed, too. No look comes here but the first one after the
+/// copies moved.
+#[inline(never)]
+fn read_on<T, F: FnOnce(&View) -> T>(
+    reader: &mut Seat,
+    wider: &mut Wider<Seat>,
+    front: &Ticket,
+    f: F,
+) -> Result<(Ticket, T), Gone>
+    requires named { (view reader.old.place).named ≡ true }
+    requires next { IfSome wider.old.next (λ s. IsPlaceFor (view reader.old.place).view (view s.place)) }
+    requires last { IfSome wider.old.last (λ s. IsPlaceFor (view reader.old.place).view (view s.place)) }
+    requires press { (view reader.old.place).view.press ≡ front.now.press }
+    requires callable { F.IsAlwaysCallable f }
+    ensures named { (view reader.new.place).named ≡ true }
+    ensures fits { Fits (view reader.old.place).view (view reader.new.place).view }
+    ensures next { IfSome wider.new.next (λ s. IsPlaceFor (view reader.new.place).view (view s.place)) }
+    ensures last { IfSome wider.new.last (λ s. IsPlaceFor (view reader.new.place).view (view s.place)) }
+    ensures front { IfOk result (λ r. (r.0.press ≡ front.now.press) × IsPrefix front.now.front r.0.front × IsPrefix front.now.editions r.0.editions) }
+    ensures answer { IfOk result (λ r. FnOnceReturnsAt F.FnOnce f (sight (record { press = r.0.press; template = (view reader.old.place).view.standing.template; editions = r.0.editions; front = r.0.front })) r.1) }
+{
+    let Some(next) = wider.take() else {
+        return Err(Gone);
+    };
+    *reader = next;
+    match read_in_place(reader, front.copied(), f) {
+        Ok(seen) => Ok(seen),
+        Err(Missed::Behind) => Err(Gone),
+        Err(Missed::Closed(f)) => read_on(reader, wider, front, f),
+    }
 }
 
 impl Lens {
@@ -96,9 +144,18 @@ impl Lens {
         ensures gone { OnErr result (self.new ≡ self.old) }
     {
         let front = self.front.copied();
-        let (seen, answer) = read_in_place(&mut self.reader, front, f)?;
-        self.front = seen;
-        Ok(answer)
+        match read_in_place(&mut self.reader, front, f) {
+            Ok((seen, answer)) => {
+                self.front = seen;
+                Ok(answer)
+            }
+            Err(Missed::Behind) => Err(Gone),
+            Err(Missed::Closed(f)) => {
+                let (seen, answer) = read_on(&mut self.reader, &mut self.wider, &self.front, f)?;
+                self.front = seen;
+                Ok(answer)
+            }
+        }
     }
 
     /// From now on its front begins with the ticket's. It enters nothing and always succeeds.

@@ -23,9 +23,12 @@
 //! ```
 //!
 //! The log of the entries is that of a `logbook` book and stands in the proofs alone. The copies are `left_right`'s. There is no
-//! supervisor beside them: the copy that no lens sees yet answers the entries as they come. Its queue of operations is not used: the
-//! press keeps the entries of the last publication, which one copy lacks, and brings that copy up to date when it takes it from its
-//! readers. So a publication of up to 64 entries takes no memory.
+//! supervisor beside them: the copy that no lens sees yet answers the entries as they come. The press keeps the entries of the last
+//! publication, which one copy lacks, and brings that copy up to date when it takes it from its readers. The queue of operations
+//! that `left_right`'s writer has stays empty. So a publication of up to 64 entries takes no memory.
+//!
+//! A publication visits each place for a lens. So a press begins with two places, and has more once a lens finds none: 32, and then
+//! all that it was made for. Lenses that are never made cost it nothing.
 #![tactic(auto)]
 
 mod copies;
@@ -36,6 +39,7 @@ mod press;
 mod publication;
 mod ticket;
 mod view;
+mod wider;
 
 pub use faults::{Gone, NoPlace};
 pub use lens::Lens;

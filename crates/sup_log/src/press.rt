@@ -6,7 +6,7 @@ ghost use Rattle.sup_core.specs.Replies.{asked_argument};
 ghost use Rattle.sup_core.specs.Account.{state_after, reply_after};
 ghost use Rattle.sup_log.specs.Tokens.{in_one_step, so_far};
 
-use crate::copies::Copies;
+use crate::copies::{Copies, Seats};
 use crate::faults::NoPlace;
 use crate::history::History;
 use crate::lens::Lens;
@@ -77,15 +77,28 @@ impl<R: Wait + Drop> Press<R> {
         })
     }
 
-    /// A lens that has seen all that was published. Refused where no place or no memory is left, with nothing changed.
+    /// A lens that has seen all that was published. Refused where no place or no memory is left, with nothing changed. Where
+    /// the places of the table in use are taken, it puts one with more to use, unless entries were stepped that are not published
+    /// yet, and waits for the lenses that look.
     pub fn lens(&mut self) -> Result<Lens, NoPlace>
         ensures kept { self.new ≡ self.old }
         ensures lens { IfOk result (λ l. l ≡ record { press = self.old.press; template = self.old.template; editions = self.old.editions; front = self.old.published }) }
     {
-        let reader = self.copies.seat()?;
+        let front = self.history.tell();
+        let seats = match self.copies.seats() {
+            Ok(seats) => seats,
+            Err(NoPlace) => {
+                if self.stepped > 0 || !self.copies.widen(&self.rt, &front) {
+                    return Err(NoPlace);
+                }
+                self.copies.seats()?
+            }
+        };
+        let Seats { reader, wider } = seats;
         Ok(Lens {
             reader,
-            front: self.history.tell(),
+            wider,
+            front,
         })
     }
 

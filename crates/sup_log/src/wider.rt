@@ -1,0 +1,33 @@
+//! The tables of places that are not in use yet.
+//!
+//! `left_right` visits each place for a lens in its table at each publication, whether a lens has it or not. So a press begins with
+//! a table of few places, and puts the next one to use, which has more, once a lens finds none. The copies move along. A lens has
+//! a place in each table from the start, since nobody can reach it later: when its table is closed, it goes on to the next.
+ghost use Rattle.std.specs.Prelude.{◌≡◌, None};
+
+use core::mem::replace;
+
+/// The places of the first table, where more are asked for.
+pub const FEW: usize = 2;
+
+/// The places of the second one, where more are asked for.
+pub const MORE: usize = 32;
+
+/// What belongs to the tables that are not in use yet: their writers, or the places that a lens has there. The next table comes
+/// before the last one. (A lens that goes leaves its place in the widest table first, so that no other finds one in the table in
+/// use before there is one in each.)
+#[derive(Drop)]
+pub struct Wider<T> {
+    pub last: Option<T>,
+    pub next: Option<T>,
+}
+
+impl<T> Wider<T> {
+    /// Takes what belongs to the next table. What is behind it is the next then.
+    pub fn take(&mut self) -> Option<T>
+        ensures next { result ≡ self.old.next }
+        ensures rest { self.new ≡ record { next = self.old.last; last = None } }
+    {
+        replace(&mut self.next, self.last.take())
+    }
+}
