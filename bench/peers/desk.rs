@@ -42,18 +42,27 @@ fn read_all(shared: &RwLock<Supervisor>, threads: usize) -> u64 {
     })
 }
 
-fn time_updates(shared: &RwLock<Supervisor>, handles: u64) {
-    let rows = shared.read().unwrap().counts().children;
+/// How long so many updates take, and how many were made.
+fn update_all(shared: &RwLock<Supervisor>) -> (u128, u64) {
     let mut done = 0;
     let start = Instant::now();
     for _ in 0..PAIRS {
         done += 2 * u64::from(start_and_terminate(shared));
     }
-    let took = start.elapsed().as_nanos();
+    (start.elapsed().as_nanos(), done)
+}
+
+fn time_updates(shared: &RwLock<Supervisor>, handles: u64) {
+    let rows = shared.read().unwrap().counts().children;
+    let (took, done) = update_all(shared);
     println!("update among {rows} rows, {handles} handles: {took} ns, {} times, answer {done}", 2 * PAIRS);
 }
 
-/// Batches of 32 starts and the terminations of these children, each batch under one lock.
+fn time_places(shared: &RwLock<Supervisor>, handles: u64, room: u64) {
+    let (took, done) = update_all(shared);
+    println!("update, {handles} of {room} handles made: {took} ns, {} times, answer {done}", 2 * PAIRS);
+}
+
 /// Terminations of children that are drawn at random, and starts of others in their place.
 fn time_drawn(shared: &RwLock<Supervisor>, handles: u64) {
     let mut alive: Vec<u64> = shared.read().unwrap().rows.keys().copied().collect();
@@ -76,6 +85,7 @@ fn time_drawn(shared: &RwLock<Supervisor>, handles: u64) {
     println!("update at random among {rows} rows, {handles} handles: {took} ns, {} times, answer {done}", 2 * PAIRS);
 }
 
+/// Batches of 32 starts and the terminations of these children, each batch under one lock.
 fn time_batches(shared: &RwLock<Supervisor>, handles: u64) {
     let mut ended = 0u64;
     let start = Instant::now();
@@ -120,14 +130,17 @@ fn fill(shared: &RwLock<Supervisor>) {
 }
 
 fn main() {
-    // (a lock has no handles: the same work stands beside the desk for two and the one for sixteen)
-    for handles in [2, 16] {
+    // (a lock has no handles: the same work stands beside each desk)
+    for handles in [2, 16, 1024] {
         let shared = made();
         time_updates(&shared, handles);
         fill(&shared);
         time_updates(&shared, handles);
         time_drawn(&shared, handles);
         time_batches(&shared, handles);
+    }
+    for (handles, room) in [(3, 1024), (16, 16), (1024, 1024)] {
+        time_places(&made(), handles, room);
     }
     let shared = made();
     fill(&shared);
