@@ -28,7 +28,7 @@
 //! that `left_right`'s writer has stays empty. So a publication of up to 64 entries takes no memory.
 //!
 //! A publication visits each place for a lens. So a press begins with two places, and has more once a lens finds none: 32, and then
-//! all that it was made for. Lenses that are never made cost it nothing.
+//! all that it was made for. Up to two lenses, the room for others costs a publication nothing; up to 32, that of 32 places at most.
 #![tactic(auto)]
 
 mod copies;
