@@ -17,11 +17,14 @@ use std::marker::Model;
 
 pub(crate) type Seat = Reader<View, Known, Published>;
 
+/// Its places in the tables that are not in use yet, if there are such tables. They lie apart: one word is handed on by value
+/// where the places themselves would be handed on by reference, and then a loop that looks could not keep its lens in registers.
+pub(crate) type Later = Option<Box<Wider<Reader<View, Known, Published>>>>;
+
 /// A reader's place: it looks at what was published, with no lock, and never goes back.
 #[derive(Drop)]
 pub struct Lens {
-    // Its places in the tables that are not in use yet.
-    pub(crate) wider: Wider<Reader<View, Known, Published>>,
+    pub(crate) wider: Option<Box<Wider<Reader<View, Known, Published>>>>,
     pub(crate) reader: Reader<View, Known, Published>,
     pub(crate) front: Ticket,
 }
@@ -36,8 +39,8 @@ impl Model for Lens {
     ghost view = { λ l. record { press = l.front.press; template = l.reader.place.me.0.client.view.standing.template; editions = l.front.editions; front = l.front.front } };
 
     ghost invariant = { λ l. (l.reader.place.me.0.client.named ≡ true) × (l.reader.place.me.0.client.view.press ≡ l.front.press)
-        × IfSome l.wider.next (λ s. IsPlaceFor l.reader.place.me.0.client.view s.place.me.0.client)
-        × IfSome l.wider.last (λ s. IsPlaceFor l.reader.place.me.0.client.view s.place.me.0.client) };
+        × IfSome l.wider (λ b. IfSome b.value.next (λ s. IsPlaceFor l.reader.place.me.0.client.view s.place.me.0.client))
+        × IfSome l.wider (λ b. IfSome b.value.last (λ s. IsPlaceFor l.reader.place.me.0.client.view s.place.me.0.client)) };
 }
 
 /// Why a look called nothing.
@@ -103,32 +106,64 @@ fn read_in_place<T, F: FnOnce(&View) -> T>(
 /// copies moved.
 #[inline(never)]
 fn read_on<T, F: FnOnce(&View) -> T>(
+    reader: Seat,
+    wider: Later,
+    front: Ticket,
+    f: F,
+) -> (Seat, (Later, Result<(Ticket, T), Gone>))
+    requires named { (view reader.place).named ≡ true }
+    requires next { IfSome wider (λ b. IfSome b.value.next (λ s. IsPlaceFor (view reader.place).view (view s.place))) }
+    requires last { IfSome wider (λ b. IfSome b.value.last (λ s. IsPlaceFor (view reader.place).view (view s.place))) }
+    requires press { (view reader.place).view.press ≡ front.press }
+    requires callable { F.IsAlwaysCallable f }
+    ensures named { (view result.0.place).named ≡ true }
+    ensures fits { Fits (view reader.place).view (view result.0.place).view }
+    ensures next { IfSome result.1.0 (λ b. IfSome b.value.next (λ s. IsPlaceFor (view result.0.place).view (view s.place))) }
+    ensures last { IfSome result.1.0 (λ b. IfSome b.value.last (λ s. IsPlaceFor (view result.0.place).view (view s.place))) }
+    ensures front { IfOk result.1.1 (λ r. (r.0.press ≡ front.press) × IsPrefix front.front r.0.front × IsPrefix front.editions r.0.editions) }
+    ensures answer { IfOk result.1.1 (λ r. FnOnceReturnsAt F.FnOnce f (sight (record { press = r.0.press; template = (view reader.place).view.standing.template; editions = r.0.editions; front = r.0.front })) r.1) }
+{
+    let Some(mut wider) = wider else {
+        return (reader, (None, Err(Gone)));
+    };
+    let Some(next) = wider.take() else {
+        return (reader, (Some(wider), Err(Gone)));
+    };
+    let (reader, seen) = read(next, front.copied(), f);
+    match seen {
+        Ok(seen) => (reader, (Some(wider), Ok(seen))),
+        Err(Missed::Behind) => (reader, (Some(wider), Err(Gone))),
+        Err(Missed::Closed(f)) => read_on(reader, Some(wider), front, f),
+    }
+}
+
+/// The same with the places where they are.
+#[inline(always)]
+fn read_on_in_place<T, F: FnOnce(&View) -> T>(
     reader: &mut Seat,
-    wider: &mut Wider<Seat>,
+    wider: &mut Later,
     front: &Ticket,
     f: F,
 ) -> Result<(Ticket, T), Gone>
     requires named { (view reader.old.place).named ≡ true }
-    requires next { IfSome wider.old.next (λ s. IsPlaceFor (view reader.old.place).view (view s.place)) }
-    requires last { IfSome wider.old.last (λ s. IsPlaceFor (view reader.old.place).view (view s.place)) }
+    requires next { IfSome wider.old (λ b. IfSome b.value.next (λ s. IsPlaceFor (view reader.old.place).view (view s.place))) }
+    requires last { IfSome wider.old (λ b. IfSome b.value.last (λ s. IsPlaceFor (view reader.old.place).view (view s.place))) }
     requires press { (view reader.old.place).view.press ≡ front.now.press }
     requires callable { F.IsAlwaysCallable f }
     ensures named { (view reader.new.place).named ≡ true }
     ensures fits { Fits (view reader.old.place).view (view reader.new.place).view }
-    ensures next { IfSome wider.new.next (λ s. IsPlaceFor (view reader.new.place).view (view s.place)) }
-    ensures last { IfSome wider.new.last (λ s. IsPlaceFor (view reader.new.place).view (view s.place)) }
+    ensures next { IfSome wider.new (λ b. IfSome b.value.next (λ s. IsPlaceFor (view reader.new.place).view (view s.place))) }
+    ensures last { IfSome wider.new (λ b. IfSome b.value.last (λ s. IsPlaceFor (view reader.new.place).view (view s.place))) }
     ensures front { IfOk result (λ r. (r.0.press ≡ front.now.press) × IsPrefix front.now.front r.0.front × IsPrefix front.now.editions r.0.editions) }
     ensures answer { IfOk result (λ r. FnOnceReturnsAt F.FnOnce f (sight (record { press = r.0.press; template = (view reader.old.place).view.standing.template; editions = r.0.editions; front = r.0.front })) r.1) }
 {
-    let Some(next) = wider.take() else {
-        return Err(Gone);
-    };
-    *reader = next;
-    match read_in_place(reader, front.copied(), f) {
-        Ok(seen) => Ok(seen),
-        Err(Missed::Behind) => Err(Gone),
-        Err(Missed::Closed(f)) => read_on(reader, wider, front, f),
-    }
+    let (later, seen) = replace_with(
+        reader,
+        (wider.take(), front.copied(), f),
+        |reader, (wider, front, f)| read_on(reader, wider, front, f),
+    );
+    *wider = later;
+    seen
 }
 
 impl Lens {
@@ -151,7 +186,12 @@ impl Lens {
             }
             Err(Missed::Behind) => Err(Gone),
             Err(Missed::Closed(f)) => {
-                let (seen, answer) = read_on(&mut self.reader, &mut self.wider, &self.front, f)?;
+                let (seen, answer) = read_on_in_place(
+                    &mut self.reader,
+                    &mut self.wider,
+                    &self.front,
+                    f,
+                )?;
                 self.front = seen;
                 Ok(answer)
             }

@@ -23,6 +23,7 @@ use sup_types::{Entry, Operation, OutOfMemory, Reply, Template};
 /// It keeps `rt`, since it waits for the lenses that still look at the copy that was shown before: at the first call after a
 /// publication that asks, steps or publishes, and at its end.
 pub struct Press<R: Wait + Drop> {
+    alloc: Global,
     history: History,
     pending: Vec<Entry>,
     stepped: usize,
@@ -69,6 +70,7 @@ impl<R: Wait + Drop> Press<R> {
         let history = History::new();
         let copies = Copies::new(alloc, &rt, template, places, &history.tell())?;
         Ok(Press {
+            alloc,
             history,
             pending: Vec::new(alloc),
             stepped: 0,
@@ -95,6 +97,9 @@ impl<R: Wait + Drop> Press<R> {
             }
         };
         let Seats { reader, wider } = seats;
+        let Ok(wider) = wider.apart(self.alloc) else {
+            return Err(NoPlace);
+        };
         Ok(Lens {
             reader,
             wider,
@@ -216,6 +221,7 @@ impl<R: Wait + Drop> Press<R> {
 impl<R: Wait + Drop> Drop for Press<R> {
     fn drop(self) {
         let Press {
+            alloc: _,
             history: _history,
             pending: _pending,
             stepped: _,

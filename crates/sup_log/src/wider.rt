@@ -3,9 +3,11 @@
 //! `left_right` visits each place for a lens in its table at each publication, whether a lens has it or not. So a press begins with
 //! a table of few places, and puts the next one to use, which has more, once a lens finds none. The copies move along. A lens has
 //! a place in each table from the start, since nobody can reach it later: when its table is closed, it goes on to the next.
-ghost use Rattle.std.specs.Prelude.{◌≡◌, None};
+ghost use Rattle.std.specs.Prelude.{◌≡◌, None, IfOk, MatchOption};
 
 use core::mem::replace;
+use std::alloc::Global;
+use sup_types::OutOfMemory;
 
 /// The places of the first table, where more are asked for.
 pub const FEW: usize = 2;
@@ -29,5 +31,20 @@ impl<T> Wider<T> {
         ensures rest { self.new ≡ record { next = self.old.last; last = None } }
     {
         replace(&mut self.next, self.last.take())
+    }
+}
+
+impl<T: Drop> Wider<T> {
+    /// The same in a place of its own. None where there is nothing in it, which takes no memory.
+    pub fn apart(self, alloc: Global) -> Result<Option<Box<Wider<T>>>, OutOfMemory>
+        ensures { IfOk result (λ o. MatchOption o (self ≡ record { next = None; last = None }) (λ b. b.value ≡ self)) }
+    {
+        if self.next.is_none() && self.last.is_none() {
+            return Ok(None);
+        }
+        match Box::new(alloc, self) {
+            Ok(apart) => Ok(Some(apart)),
+            Err(_) => Err(OutOfMemory),
+        }
     }
 }
