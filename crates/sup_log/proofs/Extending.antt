@@ -1,52 +1,35 @@
--- The exchange that extends the history keeps its rule.
-use Rattle.std.proofs.Common.{◌≡◌, ℕ, ◌+◌, ◌<◌, ◌==◌, Bool, true, false, List, [], ◌∷◌, ◌++◌, length, refl, ap, sym, subst, arith, inl, None}
-use Rattle.std.proofs.lemmas.List.{append-nil}
-use Rattle.std.proofs.lemmas.Bool.Decides.{nat_tests}
+-- The step that extends the history keeps its rule.
+use Rattle.std.proofs.Common.{◌≡◌, ℕ, ◌+◌, ◌<◌, true, List, [], ◌∷◌, ◌++◌, length, refl, ap, sym, ◌∙◌, subst, arith, inr, None, Some}
 use mathlib.Core.List.{IsPrefix}
-use prog.Atomic.{either}
 use Rattle.logbook.specs.Pages.{Cell, cell, keeps, no_nib, step, Moves, Goes}
 use Rattle.sup_types.specs.declared.history.Entry.{Entry}
 use Rattle.sup_log.specs.PrefixLaws.{prefix_whole}
 use Rattle.sup_log.specs.PublicationLaws.{steps_grown}
 use Rattle.sup_log.specs.Tokens.{Publication, in_one_step}
-use Rattle.sup_log.specs.Rules.{IsKept, Extended}
+use Rattle.sup_log.specs.Rules.{IsKept, AddsOne, Extended}
 
 abbrev pub shown : List Publication → List Publication
-shown log = []
+shown log = log
 
-abbrev pub moved : List Publication → List Publication → ℕ → Type 0
-moved xs ys n = Unit {0}
-
-extends_goes : (log v : List Publication) (more : List Entry) (e : Publication) (old new : ℕ) → length v ≡ old → new ≡ old + 1 → 0 < length more → IsPrefix v log
-    → (b : Bool) → (length log == old) ≡ b
-    → Goes IsKept shown moved 0 (v, (no_nib, None)) (λ n. either (n == old) new n) (Extended more (step 0 old new e) (v, (no_nib, None))) ((length log, true) ∷ (0, true) ∷ []) log
-extends_goes log v more e old new len grown some pre true is =
-    let here : length log ≡ old = grind (arith, nat_tests) in
-    let same : v ≡ log = prefix_whole v log pre (omega arith) in
-    let n : either (length log == old) new (length log) ≡ length (log ++ in_one_step more) = rw is (omega (arith, steps_grown log more some)) in (
+-- whatever the book is, the load runs the update and adds one publication of these entries
+pub extends_moves : (v : List Publication) (more : List Entry) (e : Publication) → 0 < length more
+    → Moves IsKept shown AddsOne 0 (v, (no_nib, None)) (λ n. n) (Extended more (step 0 0 0 e) (v, (no_nib, None)))
+extends_moves v more e some cs log kept pre away =
+    let then = Extended more (step 0 0 0 e) (v, (no_nib, None)) in
+    let P : List Cell → Type 0 = λ c. (0 < length c) × ((cell c 0).1 ≡ true) × Goes IsKept shown AddsOne 0 (v, (no_nib, None)) (λ n. n) then c log in
+    let goes : Goes IsKept shown AddsOne 0 (v, (no_nib, None)) (λ n. n) then ((0, true) ∷ (0, true) ∷ []) log = (
       keeps,
       in_one_step more,
-      None,
+      Some (length (log ++ in_one_step more)),
       tt,
-      ap (λ (k : ℕ). (k, true) ∷ (0, true) ∷ []) n,
-      inl (refl, refl),
-      λ found. ap (λ w. w ++ in_one_step more) (sym same),
-    )
-extends_goes log v more e old new len grown some pre false is =
-    let apart : ¬ (length log ≡ old) = λ same. grind (arith, nat_tests) in
-    let n : either (length log == old) new (length log) ≡ length (log ++ []) = rw is (ap length (sym (append-nil log))) in (
-      keeps,
-      [],
-      None,
-      tt,
-      ap (λ (k : ℕ). (k, true) ∷ (0, true) ∷ []) n,
-      inl (refl, refl),
-      λ found. absurd (apart found),
-    )
+      refl,
+      inr (length (log ++ in_one_step more), refl, refl, (refl, steps_grown log more some)),
+      (refl, (log, pre, refl)),
+    ) in
+    subst P (sym kept) (omega arith, refl, goes)
 
--- whatever the book is, the exchange adds one publication of the entries to all that was seen, or finds another number
-pub extends_moves : (v : List Publication) (more : List Entry) (e : Publication) (old new : ℕ) → length v ≡ old → new ≡ old + 1 → 0 < length more
-    → Moves IsKept shown moved 0 (v, (no_nib, None)) (λ n. either (n == old) new n) (Extended more (step 0 old new e) (v, (no_nib, None)))
-extends_moves v more e old new len grown some cs log kept pre away =
-    let P : List Cell → Type 0 = λ c. (0 < length c) × ((cell c 0).1 ≡ true) × Goes IsKept shown moved 0 (v, (no_nib, None)) (λ n. either (n == old) new n) (Extended more (step 0 old new e) (v, (no_nib, None))) c log in
-    subst P (sym kept) (omega arith, refl, extends_goes log v more e old new len grown some pre (length log == old) refl)
+-- where one publication was added to what there was, and there is one more than had been seen, all that there was had been seen
+pub all_seen : (v log w : List Publication) (more : List Entry) (n : ℕ) → IsPrefix v log → w ≡ log ++ in_one_step more → 0 < length more → n ≡ length w → n ≡ length v + 1 → w ≡ v ++ in_one_step more
+all_seen v log w more n pre is some now one =
+    let same : v ≡ log = prefix_whole v log pre (omega (arith, ap length is, steps_grown log more some, now, one)) in
+    is ∙ ap (λ l. l ++ in_one_step more) (sym same)

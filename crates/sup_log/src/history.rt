@@ -2,10 +2,10 @@
 ghost use Rattle.std.specs.Prelude.{◌≡◌, ◌+◌, ◌<◌, ◌^◌, ◌++◌, [], length};
 ghost use Rattle.sup_log.specs.Tokens.{history_of, in_one_step};
 
+use crate::right::{Grown, offered, parts, taken};
 use crate::ticket::Ticket;
-use logbook::{Gain, Offer, Plain, Play, Rule, Seen, Start, Word};
+use logbook::{Pen, Play, Rule, Seen, Word};
 use std::marker::{Brand, Model, PhantomData};
-use std::sync::Wait;
 use sup_types::Entry;
 
 /// The entries of one publication, of which there is one at least. No value of it is made: the history stands in the
@@ -28,8 +28,7 @@ pub struct Law;
 
 impl Rule<Publication, u64> for Law {
     ghost use Rattle.std.specs.Prelude.{[]};
-    ghost use base.Fml.{ftrue};
-    ghost use Rattle.sup_log.specs.Rules.{IsKept};
+    ghost use Rattle.sup_log.specs.Rules.{IsKept, AddsOne, kept};
 
     ghost holds = { IsKept };
 
@@ -37,29 +36,11 @@ impl Rule<Publication, u64> for Law {
 
     ghost hinted = { λ n log. Unit {0} };
 
-    ghost shows = { λ log. [] };
+    ghost shows = { λ log. log };
 
-    ghost keeps = { λ names log. ftrue };
+    ghost keeps = { kept };
 
-    ghost moves = { λ ask before after answer. Unit {0} };
-}
-
-/// Callers trade nothing.
-struct Nothing;
-
-impl Gain<Publication, u64> for Nothing {
-    ghost use base.Fml.{ftrue};
-
-    ghost after = { λ names about answer. ftrue };
-}
-
-impl Plain<(), Publication, u64> for Nothing {
-    ghost use Rattle.std.specs.Prelude.{None};
-    ghost use Rattle.sup_log.specs.Rules.{no_publication};
-
-    ghost ask = { λ _. no_publication };
-
-    ghost state = { λ _. None };
+    ghost moves = { λ ask. AddsOne };
 }
 
 /// The entries of one step, which is one publication. Each step picks them.
@@ -87,25 +68,28 @@ impl<B: Entries> Play<Publication, u64> for Extends<B> {
     ghost then = { Extended B.entries };
 }
 
-/// The history of one press, whose publications stand in the proofs alone: the word is their number.
+/// The history of one press, whose publications stand in the proofs alone. Nothing is written in the word: a step that reads it
+/// extends the history.
 #[derive(Drop)]
 pub struct History {
     head: Word<Publication, u64, Law>,
     editions: u64,
     stamp: u64,
     seen: Seen<Publication, u64, Law>,
+    right: Pen,
 }
 
 impl Model for History {
     ghost use Rattle.std.specs.Prelude.{◌≡◌, length};
     ghost use Rattle.sup_log.specs.Tokens.{Told, history_of};
-    ghost use Rattle.sup_log.specs.Rules.{head_of};
+    ghost use Rattle.sup_log.specs.Rules.{IsRight, head_of};
 
     ghost Value = { Told };
 
     ghost view = { λ h. record { press = h.seen.book; editions = h.seen.log; front = history_of h.seen.log } };
 
-    ghost invariant = { λ h. (h.editions ≡ length h.seen.log) × (h.stamp ≡ length (history_of h.seen.log)) × (h.head ≡ head_of h.seen.book) };
+    ghost invariant = { λ h. (h.editions ≡ length h.seen.log) × (h.stamp ≡ length (history_of h.seen.log)) × (h.head ≡ head_of h.seen.book)
+        × IsRight h.right.book h.right.nib h.seen.names (length h.seen.log) };
 }
 
 impl History {
@@ -113,12 +97,15 @@ impl History {
     pub fn new() -> History
         ensures { (result.editions ≡ []) × (result.front ≡ []) }
     {
-        let (seen, mut first, _second) = Seen::open(Start::alone(), 0, 0);
+        let (start, gained) = parts();
+        let (seen, mut first, mut right) = Seen::open(start, 0, 0);
+        taken(&mut right, gained);
         History {
             head: Word::tracked(0, &mut first),
             editions: 0,
             stamp: 0,
             seen,
+            right,
         }
     }
 
@@ -140,46 +127,27 @@ impl History {
         self.editions
     }
 
-    /// Adds these entries in one publication, by one exchange of the word. Nobody else extends it, so the number is the one
-    /// expected.
-    pub fn extend<R: Wait>(&mut self, rt: &R, entries: &[Entry])
+    /// Adds these entries in one publication, by one load of the word. The right to extend it is here, so nobody else did.
+    pub fn extend(&mut self, entries: &[Entry])
         requires some { 0 < length entries.now }
         requires room { (length self.old.front + length entries.now < 2 ^ 64) × (length self.old.editions + 1 < 2 ^ 64) }
         ensures { self.new ≡ record self.old { editions = self.old.editions ++ in_one_step entries.now; front = self.old.front ++ entries.now } }
     {
-        self.extend_by::<Brand, R>(rt, entries)
+        self.extend_by::<Brand>(entries)
     }
 
-    fn extend_by<B: Entries, R: Wait>(&mut self, rt: &R, entries: &[Entry])
+    fn extend_by<B: Entries>(&mut self, entries: &[Entry])
         requires entries { entries.now ≡ B.entries }
         requires some { 0 < length entries.now }
         requires room { (length self.old.front + length entries.now < 2 ^ 64) × (length self.old.editions + 1 < 2 ^ 64) }
         ensures { self.new ≡ record self.old { editions = self.old.editions ++ in_one_step B.entries; front = self.old.front ++ B.entries } }
     {
-        let editions = self.editions;
-        for _ in rt.forever() {
-            let mut seen = self.seen.again();
-            let mut offer: Offer<Publication, u64, Law, Nothing> = seen.plain::<
-                Nothing,
-                (),
-                Nothing,
-            >(&());
-            let mut pen = seen.no_pen();
-            let found = self
-                .head
-                .compare_exchange::<Extends<B>, Nothing>(
-                    editions,
-                    editions + 1,
-                    &mut seen,
-                    &mut offer,
-                    &mut pen,
-                );
-            if found == editions {
-                self.seen = seen;
-                self.editions = editions + 1;
-                self.stamp += entries.len() as u64;
-                return;
-            }
-        }
+        let mut offer = offered(&mut self.right);
+        let _ = self
+            .head
+            .load::<Extends<B>, Grown>(&mut self.seen, &mut offer);
+        taken(&mut self.right, offer.into_gain());
+        self.editions += 1;
+        self.stamp += entries.len() as u64;
     }
 }

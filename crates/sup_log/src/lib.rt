@@ -37,6 +37,7 @@ mod history;
 mod lens;
 mod press;
 mod publication;
+mod right;
 mod ticket;
 mod view;
 mod wider;

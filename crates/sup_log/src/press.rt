@@ -46,13 +46,13 @@ impl<R: Wait + Drop> Model for Press<R> {
 }
 
 /// Adds these entries to the history in one publication. A ticket for all of it.
-fn extended<R: Wait>(history: &mut History, rt: &R, entries: &[Entry]) -> Ticket
+fn extended(history: &mut History, entries: &[Entry]) -> Ticket
     requires some { 0 < length entries.now }
     requires room { (length history.old.front + length entries.now < 2 ^ 64) × (length history.old.editions + 1 < 2 ^ 64) }
     ensures grown { history.new ≡ record history.old { editions = history.old.editions ++ in_one_step entries.now; front = history.old.front ++ entries.now } }
     ensures told { result ≡ history.new }
 {
-    history.extend(rt, entries);
+    history.extend(entries);
     history.tell()
 }
 
@@ -186,7 +186,7 @@ impl<R: Wait + Drop> Press<R> {
         }
         self.copies.ready(&self.rt);
         self.copies.take_all(&self.pending[self.stepped..]);
-        let front = extended(&mut self.history, &self.rt, self.pending.as_slice());
+        let front = extended(&mut self.history, self.pending.as_slice());
         self.stepped = 0;
         self.copies.show(&self.rt, &mut self.pending, &front);
     }

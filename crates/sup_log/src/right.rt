@@ -1,0 +1,51 @@
+//! The right to extend the history of a press, which that press alone has. It has no bytes.
+ghost use Rattle.std.specs.Prelude.{◌≡◌, ◌+◌, [], ◌∷◌, None, length};
+ghost use Rattle.logbook.specs.Pages.{nib, may_write};
+ghost use Rattle.sup_log.specs.Rules.{number_name};
+
+use crate::history::{Law, Publication};
+use logbook::{Gain, Gained, Offer, Pen, Start};
+use std::marker::PhantomData;
+
+/// Whoever has extended the history has the right to it again.
+pub struct Grown;
+
+impl Gain<Publication, u64> for Grown {
+    ghost use Rattle.sup_log.specs.Rules.{gained};
+
+    ghost after = { gained };
+}
+
+/// The two parts of the number of publications: the one that the book of the history keeps, and the right to extend it.
+pub fn parts() -> (
+    Start<Publication, u64, Law>,
+    Gained<Publication, u64, Grown>,
+)
+    ensures { (result.0.names ≡ number_name result.0.names ∷ []) × (result.0.shown ≡ []) × (result.1.names ≡ result.0.names) × (result.1.answer ≡ 0) }
+{
+    (
+        Start {
+            marker: PhantomData,
+        },
+        Gained {
+            marker: PhantomData,
+        },
+    )
+}
+
+/// An update that adds one publication, made of the right. The pen has it no more.
+pub fn offered(right: &mut Pen) -> Offer<Publication, u64, Law, Grown>
+    requires { right.old.nib ≡ nib may_write 0 right.old.nib.value }
+    ensures { (result.names ≡ right.old.book.cells_name ∷ []) × (result.state ≡ None) × (length result.about ≡ right.old.nib.value + 1) }
+{
+    Offer {
+        marker: PhantomData,
+    }
+}
+
+/// The pen has the right that was gained.
+pub fn taken(right: &mut Pen, gained: Gained<Publication, u64, Grown>)
+    ensures { (right.new.book.cells_name ≡ number_name gained.names) × (right.new.nib ≡ nib may_write 0 gained.answer) × (gained.answer ≡ length gained.about) }
+{
+    let Gained { marker: _ } = gained;
+}
