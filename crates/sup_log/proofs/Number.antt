@@ -5,11 +5,10 @@ use base.Fraction.{full_share}
 use base.Share.{quarter, three_quarters}
 use base.Logic.{SProp, ent, sep, wand, ex, all, upd, emp, via, all_i, upd_i, id⊢}
 use base.Fml.{Fml, ftrue}
-use base.Shift.{Keyless}
 use types.Logic.{Logic, sem}
 use types.Owned.{basic}
 use types.Keyed.{entries_new, entries_take, entry_keyless, entries_from}
-use types.Kit.{‵, raw, ◌⊛◌, some, given, later, ◌$◌, ◌∵◌, !, qed, move, keep, drop, split, fjoin, fpack, pick, learn, show, assume, suffices, settle, done, use0, use1, use2, updating, await, now, rewrite}
+use types.Kit.{‵, raw, ◌⊛◌, some, given, later, ◌$◌, ◌∵◌, !, qed, move, keep, split, fjoin, fpack, pick, learn, show, assume, suffices, settle, done, use0, use1, use2, updating, await, now, rewrite}
 use denote.Steps.{nothing}
 use Rattle.logbook.specs.Pages.{Book, Nib, nib, may_write, Calm}
 use Rattle.logbook.specs.Kept.{halved, part, nib_holds, pen_owns, offer}
