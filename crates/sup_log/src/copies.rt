@@ -17,6 +17,7 @@ ghost use Rattle.sup_core.specs.Replies.{asked_argument};
 ghost use Rattle.sup_core.specs.Account.{IsAfter, state_after, reply_after};
 ghost use Rattle.sup_log.specs.Absorbing.{taken, grown};
 ghost use Rattle.sup_log.specs.Fronts.{Follows, IsPlaceFor, IsReserveFor, known};
+ghost use Rattle.sup_log.specs.Tables.{AllOf};
 ghost use Rattle.sup_log.specs.Tokens.{Sight, IsFresh, IsLawful};
 
 use crate::faults::NoPlace;
@@ -24,7 +25,7 @@ use crate::lens::Seat;
 use crate::publication::{Known, Published, Sees, Takes, Tells};
 use crate::ticket::Ticket;
 use crate::view::View;
-use crate::wider::{FEW, MORE, Wider};
+use crate::wider::{FIRST, NEXT, SECOND, THIRD, Wider};
 use core::mem::{replace, replace_with, swap};
 use left_right::writer::Writer;
 use std::alloc::Global;
@@ -68,6 +69,7 @@ impl Model for Copies {
     ghost use Rattle.std.specs.Option.{option_map_or};
     ghost use Rattle.sup_log.specs.Absorbing.{taken};
     ghost use Rattle.sup_log.specs.Fronts.{IsReserveFor, known};
+    ghost use Rattle.sup_log.specs.Tables.{AllOf};
     ghost use Rattle.sup_log.specs.Tokens.{Sides};
 
     ghost Value = { Sides };
@@ -80,8 +82,7 @@ impl Model for Copies {
 
     ghost invariant = { λ c. (c.writer.desk.place.me.0.client ≡ known c.writer.desk.shown.value)
         × (c.other.next ≡ None → is_some c.other.stand_in ≡ true)
-        × IfSome c.wider.next (λ w. IsReserveFor c.writer.desk.shown.value w.desk.shown.value w.desk.place.me.0.client)
-        × IfSome c.wider.last (λ w. IsReserveFor c.writer.desk.shown.value w.desk.shown.value w.desk.place.me.0.client) };
+        × AllOf (λ w. IsReserveFor c.writer.desk.shown.value w.desk.shown.value w.desk.place.me.0.client) c.wider };
 }
 
 /// Takes the copy that is not shown from the writer, and leaves this one in its place. It waits for those that look at it. The
@@ -194,13 +195,34 @@ fn reserves<R: Wait>(
 ) -> Result<Wider<Ends>, OutOfMemory>
     requires front { front.now.front ≡ [] }
     requires places { places ≤ 1024 }
-    ensures next { IfOk result (λ r. IfSome r.next (λ w. (view w.desk.place ≡ known w.desk.shown.value) × IsFresh front.now template w.desk.shown.value)) }
-    ensures last { IfOk result (λ r. IfSome r.last (λ w. (view w.desk.place ≡ known w.desk.shown.value) × IsFresh front.now template w.desk.shown.value)) }
+    ensures { IfOk result (λ r. AllOf (λ w. (view w.desk.place ≡ known w.desk.shown.value) × IsFresh front.now template w.desk.shown.value) r) }
 {
-    let next = reserve(alloc, rt, template, FEW, places.min(MORE), front)?;
-    match reserve(alloc, rt, template, MORE, places, front) {
-        Ok(last) => Ok(Wider { next, last }),
+    let next = reserve(alloc, rt, template, FIRST, places.min(NEXT), front)?;
+    let second = match reserve(alloc, rt, template, NEXT, places.min(SECOND), front) {
+        Ok(second) => second,
         Err(fault) => {
+            end(rt, next);
+            return Err(fault);
+        }
+    };
+    let third = match reserve(alloc, rt, template, SECOND, places.min(THIRD), front) {
+        Ok(third) => third,
+        Err(fault) => {
+            end(rt, second);
+            end(rt, next);
+            return Err(fault);
+        }
+    };
+    match reserve(alloc, rt, template, THIRD, places, front) {
+        Ok(last) => Ok(Wider {
+            last,
+            third,
+            second,
+            next,
+        }),
+        Err(fault) => {
+            end(rt, third);
+            end(rt, second);
             end(rt, next);
             Err(fault)
         }
@@ -243,6 +265,20 @@ fn seat_in(table: &mut Option<Ends>) -> Result<Option<Seat>, NoPlace>
     }
 }
 
+/// The places of a lens in the tables that are not in use yet.
+fn seats_in(wider: &mut Wider<Ends>) -> Result<Wider<Seat>, NoPlace>
+    requires { AllOf (λ w. view w.desk.place ≡ known w.desk.shown.value) wider.old }
+    ensures kept { (shown : Sight) → AllOf (λ w. IsReserveFor shown w.desk.shown.value (view w.desk.place)) wider.old → AllOf (λ w. IsReserveFor shown w.desk.shown.value (view w.desk.place)) wider.new }
+    ensures seats { (shown : Sight) → AllOf (λ w. IsReserveFor shown w.desk.shown.value (view w.desk.place)) wider.old → IfOk result (λ s. AllOf (λ seat. IsPlaceFor shown (view seat.place)) s) }
+{
+    Ok(Wider {
+        last: seat_in(&mut wider.last)?,
+        third: seat_in(&mut wider.third)?,
+        second: seat_in(&mut wider.second)?,
+        next: seat_in(&mut wider.next)?,
+    })
+}
+
 /// Takes the copy that is not shown from the writer, and brings it up to date. It waits for those that look at it.
 fn take_out<R: Wait>(rt: &R, writer: &mut Ends, other: &mut Other)
     requires { is_some other.old.stand_in ≡ true }
@@ -271,7 +307,7 @@ impl Copies {
         requires places { (0 < places) × (places ≤ 1024) }
         ensures { IfOk result (λ c. IsFresh front.now template c.shown × (c.next ≡ c.shown.standing) × (c.is_out ≡ false)) }
     {
-        let few = places.min(FEW);
+        let few = places.min(FIRST);
         let (writer, stand_in) = table(alloc, rt, template, few, front)?;
         match reserves(alloc, rt, template, places, front) {
             Ok(wider) => Ok(Copies {
@@ -294,16 +330,11 @@ impl Copies {
     pub fn seats(&mut self) -> Result<Seats, NoPlace>
         ensures kept { self.new ≡ self.old }
         ensures reader { IfOk result (λ s. view s.reader.place ≡ known self.old.shown) }
-        ensures next { IfOk result (λ s. IfSome s.wider.next (λ seat. IsPlaceFor self.old.shown (view seat.place))) }
-        ensures last { IfOk result (λ s. IfSome s.wider.last (λ seat. IsPlaceFor self.old.shown (view seat.place))) }
+        ensures wider { IfOk result (λ s. AllOf (λ seat. IsPlaceFor self.old.shown (view seat.place)) s.wider) }
     {
         let reader = seat_of(&mut self.writer)?;
-        let next = seat_in(&mut self.wider.next)?;
-        let last = seat_in(&mut self.wider.last)?;
-        Ok(Seats {
-            reader,
-            wider: Wider { next, last },
-        })
+        let wider = seats_in(&mut self.wider)?;
+        Ok(Seats { reader, wider })
     }
 
     /// Puts the next table to use, which has more places: whether there was one. The copies move there, where the one that is
@@ -421,11 +452,19 @@ impl Copies {
     pub fn close<R: Wait>(self, rt: &R) {
         let Copies {
             writer,
-            wider: Wider { next, last },
+            wider,
             other: _other,
         } = self;
         // (A lens goes on to the next table where it finds one closed, so the table in use is the last to be closed.)
+        let Wider {
+            last,
+            third,
+            second,
+            next,
+        } = wider;
         end(rt, last);
+        end(rt, third);
+        end(rt, second);
         end(rt, next);
         drop(writer.take(rt));
     }

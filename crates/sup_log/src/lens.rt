@@ -4,6 +4,7 @@ ghost use Rattle.std.specs.Fn.{FnOnceReturnsAt};
 ghost use mathlib.Core.List.{IsPrefix};
 ghost use Rattle.left_right.specs.Sides.{view};
 ghost use Rattle.sup_log.specs.Fronts.{Fits, IsPlaceFor};
+ghost use Rattle.sup_log.specs.Tables.{AllOf};
 ghost use Rattle.sup_log.specs.Tokens.{sight};
 
 use crate::faults::Gone;
@@ -32,6 +33,7 @@ pub struct Lens {
 impl Model for Lens {
     ghost use Rattle.std.specs.Prelude.{◌≡◌, true, IfSome};
     ghost use Rattle.sup_log.specs.Fronts.{IsPlaceFor};
+    ghost use Rattle.sup_log.specs.Tables.{AllOf};
     ghost use Rattle.sup_log.specs.Tokens.{Sighted};
 
     ghost Value = { Sighted };
@@ -39,8 +41,7 @@ impl Model for Lens {
     ghost view = { λ l. record { press = l.front.press; template = l.reader.place.me.0.client.view.standing.template; editions = l.front.editions; front = l.front.front } };
 
     ghost invariant = { λ l. (l.reader.place.me.0.client.named ≡ true) × (l.reader.place.me.0.client.view.press ≡ l.front.press)
-        × IfSome l.wider (λ b. IfSome b.value.next (λ s. IsPlaceFor l.reader.place.me.0.client.view s.place.me.0.client))
-        × IfSome l.wider (λ b. IfSome b.value.last (λ s. IsPlaceFor l.reader.place.me.0.client.view s.place.me.0.client)) };
+        × IfSome l.wider (λ b. AllOf (λ s. IsPlaceFor l.reader.place.me.0.client.view s.place.me.0.client) b.value) };
 }
 
 /// Why a look called nothing.
@@ -102,7 +103,7 @@ fn read_in_place<T, F: FnOnce(&View) -> T>(
     )
 }
 
-/// The same in the next table, and in the one behind it where that is closed, too. No look comes here but the first one after the
+/// The same in the next table, and in those behind it where that is closed, too. No look comes here but the first one after the
 /// copies moved.
 #[inline(never)]
 fn read_on<T, F: FnOnce(&View) -> T>(
@@ -112,14 +113,12 @@ fn read_on<T, F: FnOnce(&View) -> T>(
     f: F,
 ) -> (Seat, (Later, Result<(Ticket, T), Gone>))
     requires named { (view reader.place).named ≡ true }
-    requires next { IfSome wider (λ b. IfSome b.value.next (λ s. IsPlaceFor (view reader.place).view (view s.place))) }
-    requires last { IfSome wider (λ b. IfSome b.value.last (λ s. IsPlaceFor (view reader.place).view (view s.place))) }
+    requires wider { IfSome wider (λ b. AllOf (λ s. IsPlaceFor (view reader.place).view (view s.place)) b.value) }
     requires press { (view reader.place).view.press ≡ front.press }
     requires callable { F.IsAlwaysCallable f }
     ensures named { (view result.0.place).named ≡ true }
     ensures fits { Fits (view reader.place).view (view result.0.place).view }
-    ensures next { IfSome result.1.0 (λ b. IfSome b.value.next (λ s. IsPlaceFor (view result.0.place).view (view s.place))) }
-    ensures last { IfSome result.1.0 (λ b. IfSome b.value.last (λ s. IsPlaceFor (view result.0.place).view (view s.place))) }
+    ensures wider { IfSome result.1.0 (λ b. AllOf (λ s. IsPlaceFor (view result.0.place).view (view s.place)) b.value) }
     ensures front { IfOk result.1.1 (λ r. (r.0.press ≡ front.press) × IsPrefix front.front r.0.front × IsPrefix front.editions r.0.editions) }
     ensures answer { IfOk result.1.1 (λ r. FnOnceReturnsAt F.FnOnce f (sight (record { press = r.0.press; template = (view reader.place).view.standing.template; editions = r.0.editions; front = r.0.front })) r.1) }
 {
@@ -146,14 +145,12 @@ fn read_on_in_place<T, F: FnOnce(&View) -> T>(
     f: F,
 ) -> Result<(Ticket, T), Gone>
     requires named { (view reader.old.place).named ≡ true }
-    requires next { IfSome wider.old (λ b. IfSome b.value.next (λ s. IsPlaceFor (view reader.old.place).view (view s.place))) }
-    requires last { IfSome wider.old (λ b. IfSome b.value.last (λ s. IsPlaceFor (view reader.old.place).view (view s.place))) }
+    requires wider { IfSome wider.old (λ b. AllOf (λ s. IsPlaceFor (view reader.old.place).view (view s.place)) b.value) }
     requires press { (view reader.old.place).view.press ≡ front.now.press }
     requires callable { F.IsAlwaysCallable f }
     ensures named { (view reader.new.place).named ≡ true }
     ensures fits { Fits (view reader.old.place).view (view reader.new.place).view }
-    ensures next { IfSome wider.new (λ b. IfSome b.value.next (λ s. IsPlaceFor (view reader.new.place).view (view s.place))) }
-    ensures last { IfSome wider.new (λ b. IfSome b.value.last (λ s. IsPlaceFor (view reader.new.place).view (view s.place))) }
+    ensures wider { IfSome wider.new (λ b. AllOf (λ s. IsPlaceFor (view reader.new.place).view (view s.place)) b.value) }
     ensures front { IfOk result (λ r. (r.0.press ≡ front.now.press) × IsPrefix front.now.front r.0.front × IsPrefix front.now.editions r.0.editions) }
     ensures answer { IfOk result (λ r. FnOnceReturnsAt F.FnOnce f (sight (record { press = r.0.press; template = (view reader.old.place).view.standing.template; editions = r.0.editions; front = r.0.front })) r.1) }
 {

@@ -27,8 +27,9 @@
 //! publication, which one copy lacks, and brings that copy up to date when it takes it from its readers. The queue of operations
 //! that `left_right`'s writer has stays empty. So a publication of up to 64 entries takes no memory.
 //!
-//! A publication visits each place for a lens. So a press begins with two places, and has more once a lens finds none: 32, and then
-//! all that it was made for. Up to two lenses, the room for others costs a publication nothing; up to 32, that of 32 places at most.
+//! A publication visits each place for a lens. So a press begins with two places, and has more once a lens finds none: 8, 32, 128,
+//! and then all that it was made for. Up to two lenses, the room for others costs a publication nothing. Up to 128, it visits at
+//! most four times as many places as there were lenses at a time.
 #![tactic(auto)]
 
 mod copies;

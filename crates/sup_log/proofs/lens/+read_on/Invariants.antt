@@ -1,6 +1,11 @@
 -- How many tables are not in use yet.
+use Rattle.std.proofs.Common.{ℕ, ◌+◌}
+use Rattle.core.specs.declared.option.Option.{Option}
 use Rattle.std.specs.Option.{option_map_or}
 use Rattle.sup_log.proofs.lens.+read_on.Given as goal
 
+abbrev one : {T : Type 0} → Option T → ℕ
+one o = option_map_or (λ _. 1) o 0
+
 abbrev pub decreases-read_on : goal.decreases-read_on
-decreases-read_on g l = option_map_or (λ b. option_map_or (λ _. option_map_or (λ _. 2) b.value.last 1) b.value.next 0) l.wider 0
+decreases-read_on g l = option_map_or (λ b. one b.value.next + one b.value.second + one b.value.third + one b.value.last) l.wider 0

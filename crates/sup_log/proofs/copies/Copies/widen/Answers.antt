@@ -6,4 +6,4 @@ pub invariant_of-self-3 : goal.invariant_of-self-3
 invariant_of-self-3 g c =
     let same : c.replace-before.new.dest.desk.shown.value ≡ c.self-2.inside.writer.desk.shown.value = search rules in
     let law = c.self-2.invariant in
-    (rw c.replace-before.ensures.after c.turn.ensures.known, λ e. absurd (cc e), rw same law.2, rw same law.3)
+    (rw c.replace-before.ensures.after c.turn.ensures.known, λ e. absurd (cc e), rw same law.2)
