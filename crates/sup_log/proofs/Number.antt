@@ -1,5 +1,6 @@
 -- The two parts of the number of publications: they are made together, agree, and change together. Assumes `Logic`.
-use Rattle.std.proofs.Common.{◌≡◌, ℕ, zero, suc, ◌+◌, List, [], ◌∷◌, length, sym, refl, ap, subst, arith}
+use Rattle.std.proofs.Common.{◌≡◌, ℕ, ◌+◌, List, [], ◌∷◌, length, replicate, sym, refl, subst, arith}
+use Rattle.std.proofs.lemmas.List.{length-replicate}
 use seplogic.Ra.Ura.{Ura}
 use base.Fraction.{full_share}
 use base.Share.{quarter, three_quarters}
@@ -16,17 +17,12 @@ use Rattle.logbook.proofs.Roster.{resets, joined}
 use Rattle.sup_log.specs.Tokens.{Publication}
 use Rattle.sup_log.specs.Rules.{number_name, kept, right_at, AddsOne, gained, no_publication}
 
--- a list of n publications
-abbrev pub some_list : ℕ → List Publication
-some_list zero = []
-some_list (suc n) = no_publication ∷ some_list n
+-- as many publications as there are after one more
+abbrev pub one_more : ℕ → List Publication
+one_more n = replicate (n + 1) no_publication
 
-counted : (n : ℕ) → length (some_list n) ≡ n
-counted zero = refl
-counted (suc n) = ap suc (counted n)
-
-pub long : (n : ℕ) → length (some_list (suc n)) ≡ n + 1
-long n = omega (arith, counted n)
+pub how_many : (n : ℕ) → length (one_more n) ≡ n + 1
+how_many n = length-replicate (n + 1) no_publication
 
 pub calm : (names : List ℕ) → Calm (kept names)
 calm names log = entry_keyless halved _ 0 _
@@ -40,15 +36,16 @@ module _ {M : Type 1} {𝓤 : Ura M} (𝓛 : Logic 𝓤) where
   abbrev ⟦◌⟧ : Fml → Pr
   ⟦ P ⟧ = sem 𝓛 P
 
-  abbrev pub Halves : ℕ → Pr
-  Halves γ = sep 𝓤 ⟦ part γ 0 quarter 0 ⟧ ⟦ part γ 0 three_quarters 0 ⟧
+  abbrev pub Parts : ℕ → Pr
+  Parts γ = sep 𝓤 ⟦ part γ 0 quarter 0 ⟧ ⟦ part γ 0 three_quarters 0 ⟧
 
-  pub begins : ent 𝓤 (emp 𝓤) (H.⇛ (ex 𝓤 Halves))
+  -- a new number, of which nobody has a part yet
+  pub begins : ent 𝓤 (emp 𝓤) (H.⇛ (ex 𝓤 Parts))
   begins = qed 𝓛 [] ∵ updating ! $
       use0 𝓛 (later (some (λ (γ : ℕ). ‵ (entries_from halved γ 0 (λ _. (full_share, 0)))))) (via 𝓤 _ (entries_new halved 𝓛 0 (λ _. (full_share, 0))) (basic 𝓛 _)) $ await ! tt $ pick ! (λ γ.
       use1 𝓛 (‵ (part γ 0 full_share 0) ⊛ ‵ (entries_from halved γ 1 (λ _. (full_share, 0)))) (entries_take halved 𝓛 γ 0 (λ _. (full_share, 0))) $ split ! $
       use1 𝓛 (later (‵ (part γ 0 quarter 0) ⊛ ‵ (part γ 0 three_quarters 0))) (via 𝓤 _ (resets 𝓛 γ 0 0 0) (basic 𝓛 _)) $ await ! tt $ split ! $
-      now ! $ show ! Halves γ $ keep ! (0 ∷ 1 ∷ []) $ done !)
+      now ! $ show ! Parts γ $ keep ! (0 ∷ 1 ∷ []) $ done !)
 
   -- whoever has the right may say beforehand which number it brings
   pub trades : (names : List ℕ) (about : List Publication) (n : ℕ) → length about ≡ n + 1 → ent 𝓤 ⟦ right_at names n ⟧ ⟦ offer (kept names) AddsOne (gained names about) ⟧
@@ -65,6 +62,7 @@ module _ {M : Type 1} {𝓤 : Ura M} (𝓛 : Logic 𝓤) where
       move ! (1 ∷ []) $ rewrite ! 0 (λ (k : ℕ). ‵ (right_at names k)) (sym m.0) refl $
       nothing ! $ fpack ! (t.2 ≡ length about) (λ _. ftrue) (omega (arith, m.0, m.1, same, much)) $ move ! (1 ∷ 0 ∷ []) $ fjoin ! $ move ! (1 ∷ 0 ∷ []) $ done !)))
 
+  -- a pen is the right where its nib says so
   pub from_pen : (b : Book) (p : Nib) → p ≡ nib may_write 0 p.value → ent 𝓤 ⟦ pen_owns b p ⟧ ⟦ right_at (b.cells_name ∷ []) p.value ⟧
   unfolding pen_owns
   from_pen b p is = subst (λ (q : Nib). ent 𝓤 ⟦ nib_holds b.cells_name q.right q.key p.value ⟧ ⟦ right_at (b.cells_name ∷ []) p.value ⟧) (sym is) (id⊢ 𝓤 _)

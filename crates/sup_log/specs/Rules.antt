@@ -26,11 +26,11 @@ number_name (name ∷ names) = name
 abbrev pub kept : List ℕ → List Publication → Fml
 kept names log = part (number_name names) 0 quarter (length log)
 
--- the other part, without which the number does not change: the right to extend the history
+-- the other part, without which the number can't change: the right to extend the history
 abbrev pub right_at : List ℕ → ℕ → Fml
 right_at names n = part (number_name names) 0 three_quarters n
 
--- a step that runs an update adds one publication, and answers how many there are then
+-- a step that runs an update adds one publication, and the answer is how many there are then
 abbrev pub AddsOne : List Publication → List Publication → ℕ → Type 0
 AddsOne before after n = (n ≡ length after) × (length after ≡ length before + 1)
 
@@ -38,7 +38,7 @@ AddsOne before after n = (n ≡ length after) × (length after ≡ length before
 abbrev pub gained : List ℕ → List Publication → ℕ → Fml
 gained names about n = fsep (right_at names n) (fact (n ≡ length about))
 
--- a pen with this book and nib is the right, where there are n publications. No book with that name was opened
+-- a pen with this book and nib is the right, where there are n publications. No such book was opened: it only names the number
 abbrev pub IsRight : Book → Nib → List ℕ → ℕ → Type 0
 IsRight b p names n = (names ≡ b.cells_name ∷ []) × (p ≡ nib may_write 0 n)
 
@@ -46,6 +46,6 @@ IsRight b p names n = (names ≡ b.cells_name ∷ []) × (p ≡ nib may_write 0 
 abbrev pub Extended : List Entry → Step Publication → View Publication ℕ → ℕ → View Publication ℕ → Type 0
 Extended more s v found w = (w.1.1 ≡ Some (length w.0)) × ((log : List Publication) × IsPrefix v.0 log × (w.0 ≡ log ++ in_one_step more))
 
--- what a step asks for
+-- what an update asks for: nothing
 abbrev pub no_publication : Publication
 no_publication = record { first = record { handle = 0; serial = 0; moment = 0; operation = operation.Stop; answer = answer.Ignore }; rest = [] }

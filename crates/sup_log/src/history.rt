@@ -68,8 +68,8 @@ impl<B: Entries> Play<Publication, u64> for Extends<B> {
     ghost then = { Extended B.entries };
 }
 
-/// The history of one press, whose publications stand in the proofs alone. Nothing is written in the word: a step that reads it
-/// extends the history.
+/// The history of one press, whose publications stand in the proofs alone. The word is always 0: a step that reads it extends the
+/// history, since the right to do so is here.
 #[derive(Drop)]
 pub struct History {
     head: Word<Publication, u64, Law>,
@@ -98,6 +98,7 @@ impl History {
         ensures { (result.editions ≡ []) × (result.front ≡ []) }
     {
         let (start, gained) = parts();
+        // The second word is never made, so its pen is free for the right.
         let (seen, mut first, mut right) = Seen::open(start, 0, 0);
         taken(&mut right, gained);
         History {
@@ -127,7 +128,8 @@ impl History {
         self.editions
     }
 
-    /// Adds these entries in one publication, by one load of the word. The right to extend it is here, so nobody else did.
+    /// Adds these entries in one publication, by one load of the word. Nobody else has the right to extend it, so all is seen
+    /// that there was before.
     pub fn extend(&mut self, entries: &[Entry])
         requires some { 0 < length entries.now }
         requires room { (length self.old.front + length entries.now < 2 ^ 64) × (length self.old.editions + 1 < 2 ^ 64) }

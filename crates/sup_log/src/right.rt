@@ -1,4 +1,10 @@
-//! The right to extend the history of a press, which that press alone has. It has no bytes.
+//! The right to extend the history of a press, which that press alone has.
+//!
+//! Nobody else extends the history, so a step that extends it need change no word: a load does. The proof goes by the number of
+//! publications. The book keeps one part of it, the right is the other, and it changes only where both are. Both stand in the
+//! proofs alone.
+//!
+//! The right is a pen, which may go to another thread and has no bytes. It writes no word: its book is none that was opened.
 ghost use Rattle.std.specs.Prelude.{◌≡◌, ◌+◌, [], ◌∷◌, None, length};
 ghost use Rattle.logbook.specs.Pages.{nib, may_write};
 ghost use Rattle.sup_log.specs.Rules.{number_name};
@@ -7,7 +13,7 @@ use crate::history::{Law, Publication};
 use logbook::{Gain, Gained, Offer, Pen, Start};
 use std::marker::PhantomData;
 
-/// Whoever has extended the history has the right to it again.
+/// Whoever has extended the history has the right to do so again.
 pub struct Grown;
 
 impl Gain<Publication, u64> for Grown {
@@ -16,7 +22,7 @@ impl Gain<Publication, u64> for Grown {
     ghost after = { gained };
 }
 
-/// The two parts of the number of publications: the one that the book of the history keeps, and the right to extend it.
+/// The two parts of the number of publications, which is 0: the one that the book of the history keeps, and the right.
 pub fn parts() -> (
     Start<Publication, u64, Law>,
     Gained<Publication, u64, Grown>,
@@ -33,7 +39,7 @@ pub fn parts() -> (
     )
 }
 
-/// An update that adds one publication, made of the right. The pen has it no more.
+/// An update that adds one publication. It is made of the right, which the pen has no more.
 pub fn offered(right: &mut Pen) -> Offer<Publication, u64, Law, Grown>
     requires { right.old.nib ≡ nib may_write 0 right.old.nib.value }
     ensures { (result.names ≡ right.old.book.cells_name ∷ []) × (result.state ≡ None) × (length result.about ≡ right.old.nib.value + 1) }
