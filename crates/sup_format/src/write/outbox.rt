@@ -8,9 +8,16 @@ use crate::fault::{Fault, ScriptFault};
 use crate::watch::WatchedWriter;
 use std::alloc::Allocator;
 use std::io::Write;
+use sup_types::OutOfMemory;
 
 /// The bytes at which an outbox is full.
 const FULL: usize = 65_536;
+
+/// More bytes of replies than a usual piece of a script brings.
+const USUAL_BYTES: usize = 32_768;
+
+/// More replies than a usual piece of a script brings.
+const USUAL_REPLIES: usize = 2_048;
 
 /// The text of replies, where the reply of each line ends in it, and the writer that they wait for.
 #[derive(Drop)]
@@ -21,7 +28,7 @@ pub struct Outbox<'w, A: Allocator, W> {
 }
 
 impl<'w, A: Allocator + Copy, W: Write> Outbox<'w, A, W> {
-    /// Nothing waits.
+    /// Nothing waits, and there is no room yet.
     pub fn new(alloc: A, writer: &'w mut WatchedWriter<W>) -> Self
         ensures bytes { result.bytes.items ≡ [] }
         ensures ends { result.ends.items ≡ [] }
@@ -33,6 +40,19 @@ impl<'w, A: Allocator + Copy, W: Write> Outbox<'w, A, W> {
             ends: Vec::new(alloc),
             writer,
         }
+    }
+
+    /// Makes room for the replies to a usual piece of a script, so that they do not move while they gather. Memory is taken and
+    /// not touched.
+    pub fn make_room(&mut self) -> Result<(), OutOfMemory>
+        ensures bytes { self.new.bytes.items ≡ self.old.bytes.items }
+        ensures ends { self.new.ends.items ≡ self.old.ends.items }
+        ensures writer { self.new.writer.now ≡ self.old.writer.now }
+        ensures same { self.new.writer.ghost_name ≡ self.old.writer.ghost_name }
+    {
+        self.bytes.reserve_exact(USUAL_BYTES)?;
+        self.ends.reserve_exact(USUAL_REPLIES)?;
+        Ok(())
     }
 
     /// Writes all that waits. The line `next` is the one after the lines that were answered.

@@ -1,7 +1,8 @@
 //! Whole history texts, and the replies to their entries.
 
-ghost use Rattle.std.specs.Prelude.{◌≡◌, ◌≤◌, ◌<◌, ◌+◌, ◌++◌, [], ◌∷◌, ℕ, List, length, false, IfErr, OnOk, OnErr};
+ghost use Rattle.std.specs.Prelude.{◌≡◌, ◌≤◌, ◌<◌, ◌+◌, ◌++◌, [], ◌∷◌, ℕ, Bool, List, Option, length, Err, false, IfErr, OnOk, OnErr};
 ghost use Rattle.sup_types.specs.declared.history.Entry.{Entry as AnEntry};
+ghost use Rattle.sup_types.specs.declared.template.Template.{Template as ATemplate};
 ghost use Rattle.sup_core.specs.Account.{IsAfter, reply_after};
 ghost use Rattle.sup_format.specs.Causes.{HasCause, HasLineCause};
 ghost use Rattle.sup_format.specs.Reading.HistoryReading.{IsReadTo};
@@ -13,8 +14,8 @@ use std::alloc::Allocator;
 use std::io::{Read, Write};
 use sup_core::Sup;
 use sup_format::{
-    Fault, Outbox, ScriptFault, WatchedReader, WatchedWriter, begin_history, check_entries,
-    line_after, next_entry, read_whole, write_reply,
+    Fault, HistoryFault, Outbox, ScriptFault, WatchedReader, WatchedWriter, begin_history,
+    check_entries, line_after, next_entry, read_whole, write_reply,
 };
 use sup_types::{Entry, OutOfMemory};
 
@@ -23,7 +24,7 @@ use sup_types::{Entry, OutOfMemory};
 /// After a fault of reading or of the text nothing is written; a fault of reading stands in the line after the last one
 /// that is ended. On WriteFault the line is that of the entry whose reply was being written. OutOfMemory while the replies
 /// are made has the line of its entry, and the replies before it are written; in line 1 there was no room for the
-/// supervisor.
+/// supervisor, or to begin with the replies.
 pub fn replay<A: Allocator + Copy, R: Read, W: Write>(
     alloc: A,
     reader: &mut WatchedReader<R>,
@@ -98,11 +99,23 @@ fn replay_text<A: Allocator + Copy, W: Write>(
     let (template, rest) = begin_history(text)?;
     match Sup::new(alloc, template) {
         Ok(sup) => answer_by(alloc, sup, rest, writer),
-        Err(OutOfMemory) => {
-            check_entries(rest, 2)?;
+        Err(OutOfMemory) => Err(refusal(rest)),
+    }
+}
+
+/// The fault of a history text for which there is no memory to begin with. One of the text itself goes first, so its rest is read.
+fn refusal(rest: &[u8]) -> ScriptFault
+    requires { length rest.now ≤ 16777216 }
+    ensures given { (text : List ℕ) (template : ATemplate) (contents : Option (List ℕ)) → IsReadTo text rest.now template [] 2 →
+        TextGives text contents contents (Err result) }
+    ensures cause { (has_refused : Bool) → HasLineCause has_refused result.fault }
+{
+    match check_entries(rest, 2) {
+        Ok(()) => {
             let fault = Fault::OutOfMemory;
-            Err(ScriptFault { fault, line: 1 })
+            ScriptFault { fault, line: 1 }
         }
+        Err(HistoryFault { fault, line }) => ScriptFault { fault, line },
     }
 }
 
@@ -120,7 +133,10 @@ fn answer_by<A: Allocator + Copy, W: Write>(
     ensures cause { IfErr result (λ e. HasLineCause writer.new.has_refused e.fault) }
 {
     let mut outbox = Outbox::new(alloc, writer);
-    let outcome = answer_from(&mut sup, &mut outbox, rest);
+    let outcome = match outbox.make_room() {
+        Ok(()) => answer_from(&mut sup, &mut outbox, rest),
+        Err(OutOfMemory) => Err(refusal(rest)),
+    };
     // Taken apart, the outbox gives the writer back, and with it what is known of it.
     let Outbox {
         bytes,

@@ -11,6 +11,9 @@ use std::io::{Read, Write};
 use sup_format::{Fault, MOST_BYTES, Outbox, PIECE, ScriptFault, WatchedReader, WatchedWriter};
 use sup_types::FixedStarter;
 
+/// Room for the part of a line that comes before a piece: more bytes than a line has that means something.
+const PART: usize = 1_024;
+
 /// Reads a script to its end and writes the replies of its commands, those of each piece that is read before the next
 /// one is asked for.
 ///
@@ -55,7 +58,10 @@ pub fn run_with_line<A: Allocator + Copy, R: Read, W: Write, S: FixedStarter>(
 {
     let mut session = Session::new(alloc, starter, writer);
     let mut part = Vec::new(alloc);
-    let outcome = answer_pieces(&mut session, &mut part, reader);
+    let outcome = match (session.outbox.make_room(), part.reserve_exact(PART + PIECE)) {
+        (Ok(()), Ok(())) => answer_pieces(&mut session, &mut part, reader),
+        _ => Err(session.fault(Fault::OutOfMemory)),
+    };
     // Taken apart, the session gives the writer back, and with it what is known of it.
     let Session {
         alloc: _alloc,
