@@ -103,11 +103,11 @@ fn time_batches(shared: &RwLock<Supervisor>, handles: u64) {
     println!("operation in a batch of 64, {handles} handles: {took} ns, {} times, answer {ended}", 64 * BATCHES);
 }
 
-fn time_reads(shared: &RwLock<Supervisor>, threads: usize) {
+fn time_reads(shared: &RwLock<Supervisor>, threads: usize, handles: u64) {
     let start = Instant::now();
     let sum = read_all(shared, threads);
     let took = start.elapsed().as_nanos();
-    println!("count, {threads} threads: {took} ns, {COUNTS} times, answer {sum}");
+    println!("count, {threads} threads, {handles} handles: {took} ns, {COUNTS} times, answer {sum}");
     let over = AtomicBool::new(false);
     let start = Instant::now();
     thread::scope(|scope| {
@@ -116,7 +116,7 @@ fn time_reads(shared: &RwLock<Supervisor>, threads: usize) {
         over.store(true, Ordering::SeqCst);
     });
     let took = start.elapsed().as_nanos();
-    println!("count, {threads} threads beside a writer: {took} ns, {COUNTS} times, answer -");
+    println!("count, {threads} threads beside a writer, {handles} handles: {took} ns, {COUNTS} times, answer -");
 }
 
 fn made() -> RwLock<Supervisor> {
@@ -142,9 +142,11 @@ fn main() {
     for (handles, room) in [(3, 1024), (16, 16), (33, 1024), (1024, 1024)] {
         time_places(&made(), handles, room);
     }
-    let shared = made();
-    fill(&shared);
-    for threads in [1, 2, 4] {
-        time_reads(&shared, threads);
+    for handles in [16, 1024] {
+        let shared = made();
+        fill(&shared);
+        for threads in [1, 2, 4] {
+            time_reads(&shared, threads, handles);
+        }
     }
 }
