@@ -12,8 +12,8 @@ pub enum CrewFault {
     /// A growth was refused, or the start of a thread.
     #[error("out of memory")]
     OutOfMemory,
-    /// The desk has not enough handles left.
-    #[error("the desk has not enough handles left for a crew")]
+    /// All handles of the desk were made, and the run was to have one of its own.
+    #[error("all handles of the desk were made")]
     NoHandle,
     /// The press has no place for a lens, or no memory for one.
     #[error("no place for a lens is left")]

@@ -1,5 +1,5 @@
 //! Workers: what one does, and its thread.
-ghost use Rattle.std.specs.Prelude.{◌≡◌, [], ◌++◌, ◌∷◌, length, MatchResult, ℕ, ◌+◌, ◌<◌, ◌≤◌, IfOk, vec_len, vec_capacity, slice_index_or};
+ghost use Rattle.std.specs.Prelude.{◌≡◌, [], ◌++◌, ◌∷◌, length, MatchResult, ℕ, ◌+◌, ◌<◌, ◌≤◌, IfOk, IfErr, IfNone, vec_len, vec_capacity, slice_index_or};
 ghost use Rattle.sup_work.specs.Births.{IsBorn};
 ghost use Rattle.sup_work.specs.Jobs.{permission};
 ghost use Rattle.sup_work.specs.Work.{IsWorked, AreWorked};
@@ -196,9 +196,11 @@ where
     requires poster { (poster.inbox ≡ crew.now.inbox.id) × (poster.posted ≡ []) }
     ensures endpoint { IfOk result (λ _. (endpoint.new.queue ≡ crew.now.jobs) × (endpoint.new.permission.parts + 1 ≡ endpoint.old.permission.parts) × (endpoint.new.permission.put ≡ endpoint.old.permission.put) × (endpoint.new.permission.taken ≡ endpoint.old.permission.taken)) }
     ensures worker { IfOk result (λ w. (w.promise.crew.now ≡ crew.now) × (w.promise.body.now ≡ body.now) × (w.promise.number ≡ poster.number)) }
+    ensures place { IfErr result (λ e. e ≡ CrewFault.NoHandle → ⊥) }
+    ensures asker { IfNone asker (result ≡ Err CrewFault.NoPlace) }
 {
     let Some(asker) = asker else {
-        return Err(CrewFault::NoHandle);
+        return Err(CrewFault::NoPlace);
     };
     let number = poster.number();
     let promise = Works { crew, body, number };
@@ -209,7 +211,8 @@ where
     }
 }
 
-/// Starts a worker for each poster. Where one can't be started, the run is over, and the started ones are joined.
+/// Starts a worker for each poster. Where one can't be started, the run is over, and the started ones are joined: NoPlace where
+/// the desk has no place for a worker's asker or no memory for it, and else OutOfMemory.
 pub fn start<'s, E, N, S, P, J, B, R>(
     scope: &Scope<'s, E>,
     rt: &'s R,
@@ -232,6 +235,7 @@ where
     ensures endpoint { IfOk result (λ r. (r.0 ≡ record { queue = crew.now.jobs; permission = permission r.0.permission.parts [] [] }) × (r.0.permission.parts + vec_len posters ≡ 1024)) }
     ensures len { IfOk result (λ r. vec_len r.1 ≡ vec_len posters) }
     ensures each { IfOk result (λ r. (k : ℕ) (d : _) → k < vec_len posters → ((slice_index_or r.1.items k d).promise.crew.now ≡ crew.now) × ((slice_index_or r.1.items k d).promise.body.now ≡ body.now) × ((slice_index_or r.1.items k d).promise.number ≡ k + 1)) }
+    ensures place { IfErr result (λ e. e ≡ CrewFault.NoHandle → ⊥) }
 {
     let mut endpoint = endpoint;
     let Ok(mut workers) = Vec::with_capacity(alloc, posters.len()) else {
