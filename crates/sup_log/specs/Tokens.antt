@@ -75,3 +75,9 @@ IsLawful v = v.standing ≡ standing v.standing.template v.front
 -- the copy of a supervisor of this template, by a front of no entry
 abbrev pub IsFresh : Told → Template → Sight → Type 0
 IsFresh t template v = (v.press ≡ t.press) × (v.editions ≡ t.editions) × (v.front ≡ t.front) × (v.standing.template ≡ template) × IsLawful v
+
+-- the copy that is shown, the supervisor of the one that was shown before, and whether that one is still where lenses may look at it
+pub record Staged : Type 0 where
+  pub shown : Sight
+  pub spare : State
+  pub has_both : Bool

@@ -1,171 +1,107 @@
-//! The two copies: the writer's side of `left_right`.
+//! The two copies, as the press has them.
 //!
-//! An update decides on the copy that is not shown, and steps there. So that copy is taken from the writer first: a lens that still
-//! looks at it is waited for. A publication shows it.
+//! An update decides on the copy that is not shown, and steps there. So that copy is taken out of lenses' reach first: a lens that
+//! still looks at it is waited for. A publication shows it.
 //!
-//! The queue of `left_right`'s writer stays empty. In it each publication would be an operation with a list of its own, for which
-//! memory is taken and given back. Here two lists change places: that of the pending entries, and that of the last publication,
-//! which the copy lacks that is shown no more.
+//! Two lists of entries change places: that of the pending ones, and that of the last publication, which the copy lacks that is
+//! shown no more.
 //!
-//! Lenses have their places in tables ([`crate::wider`]), each with a writer of its own. One table is in use, and its writer has the
-//! copies. What the others show was never stepped, and no lens enters them before they are in use.
+//! Few lenses have places in tables ([`crate::wider`]), each with a writer of its own. More of them share slots
+//! ([`crate::pairs`]). The copies are in one of these. What the others show was never stepped, and no lens enters them before they are
+//! in use.
 ghost use Rattle.std.specs.Prelude.{◌≡◌, ◌==◌, ◌<◌, ◌≤◌, List, [], ◌∷◌, ◌++◌, fold, is_some, true, false, Some, None, IfOk, IfSome};
-ghost use Rattle.std.specs.Option.{option_map_or};
+ghost use Rattle.std.specs.Arc.{arc_value};
 ghost use Rattle.left_right.specs.Sides.{view};
+ghost use Rattle.logbook.specs.Pages.{Book};
 ghost use Rattle.sup_types.specs.declared.history.Entry.{Entry};
+ghost use Rattle.sup_types.specs.declared.template.Template.{Template};
 ghost use Rattle.sup_core.specs.Replies.{asked_argument};
 ghost use Rattle.sup_core.specs.Account.{IsAfter, state_after, reply_after};
 ghost use Rattle.sup_log.specs.Absorbing.{taken, grown};
-ghost use Rattle.sup_log.specs.Fronts.{Follows, IsPlaceFor, IsReserveFor, known};
+ghost use Rattle.sup_log.specs.Fronts.{Follows, IsPlaceOf};
+ghost use Rattle.sup_log.specs.Pairs.{IsPairOf};
+ghost use Rattle.sup_log.specs.Stages.{staged, IsReserveFor};
 ghost use Rattle.sup_log.specs.Tables.{AllOf};
 ghost use Rattle.sup_log.specs.Tokens.{Sight, IsFresh, IsLawful};
 
 use crate::faults::NoPlace;
 use crate::lens::Seat;
-use crate::publication::{Known, Published, Sees, Takes, Tells};
+use crate::pair_writer::PairWriter;
+use crate::pairs::Pairs;
+use crate::stage::Stage;
+use crate::table::Table;
 use crate::ticket::Ticket;
 use crate::view::View;
-use crate::wider::{FIRST, NEXT, SECOND, THIRD, Wider};
-use core::mem::{replace, replace_with, swap};
-use left_right::writer::Writer;
+use crate::wider::{FIRST, LAST, NEXT, Wider};
+use core::mem::{replace, swap};
 use std::alloc::Global;
 use std::marker::Model;
-use std::sync::Wait;
+use std::sync::{Arc, Wait};
 use sup_core::Asked;
 use sup_types::{Entry, Operation, OutOfMemory, Reply, Template};
-
-type Ends = Writer<View, (), Known, Published>;
 
 /// A list that has room for more entries than this gives its memory back once its entries were taken.
 const FEW_ENTRIES: usize = 64;
 
+/// Who has the slots beside the lenses: the copies, and their writer.
+const OWNERS: usize = 2;
+
 /// The two copies, of which lenses look at one. It is not `Drop`: end it by `close`.
 pub struct Copies {
-    writer: Ends,
-    // The writers of the tables that are not in use yet.
-    wider: Wider<Ends>,
+    stage: Stage,
+    // The tables that are not in use yet.
+    wider: Wider<Table>,
+    // The slots that lenses share once there are more than tables have places, if there may be so many.
+    pairs: Option<Arc<Pairs>>,
+    places: usize,
+    // How many lenses were made.
+    made: usize,
+    template: Template,
     other: Other,
 }
 
-/// A lens's places: in the table in use, and in those that are not in use yet.
+/// What a lens looks through: its place in the table in use, those in the tables that are not in use yet, and the slots of its group.
 pub struct Seats {
-    pub reader: Seat,
+    pub reader: Option<Seat>,
     pub wider: Wider<Seat>,
+    pub pairs: Option<Arc<Pairs>>,
+    pub group: usize,
 }
 
 /// The copy that is not shown.
 #[derive(Drop)]
 struct Other {
-    // None while the writer has it, since lenses may still look at it.
+    // None while lenses may still look at it.
     next: Option<Box<View>>,
-    // What the writer has in its place otherwise. It is never shown.
-    stand_in: Option<Box<View>>,
-    // The entries of the last publication. The copy lacks them until it is taken from the writer.
+    // The entries of the last publication. The copy lacks them until it is taken out of lenses' reach.
     lacks: Vec<Entry>,
 }
 
 impl Model for Copies {
-    ghost use Rattle.std.specs.Prelude.{◌≡◌, true, None, IfSome, is_some, fold};
+    ghost use Rattle.std.specs.Prelude.{◌≡◌, true, false, IfSome, MatchOption, is_some, fold};
+    ghost use Rattle.std.specs.Arc.{arc_value};
     ghost use Rattle.std.specs.Option.{option_map_or};
     ghost use Rattle.sup_log.specs.Absorbing.{taken};
-    ghost use Rattle.sup_log.specs.Fronts.{IsReserveFor, known};
+    ghost use Rattle.sup_log.specs.Pairs.{IsPairOf};
+    ghost use Rattle.sup_log.specs.Stages.{staged, IsReserveFor};
     ghost use Rattle.sup_log.specs.Tables.{AllOf};
     ghost use Rattle.sup_log.specs.Tokens.{Sides};
 
     ghost Value = { Sides };
 
     ghost view = { λ c. record {
-      shown = c.writer.desk.shown.value;
-      next = option_map_or (λ b. b.value.standing) c.other.next (fold taken c.writer.desk.spare.value.standing c.other.lacks.items);
+      shown = (staged c.stage).shown;
+      next = option_map_or (λ b. b.value.standing) c.other.next (fold taken (staged c.stage).spare c.other.lacks.items);
       is_out = is_some c.other.next;
     } };
 
-    ghost invariant = { λ c. (c.writer.desk.place.me.0.client ≡ known c.writer.desk.shown.value)
-        × (c.other.next ≡ None → is_some c.other.stand_in ≡ true)
-        × AllOf (λ w. IsReserveFor c.writer.desk.shown.value w.desk.shown.value w.desk.place.me.0.client) c.wider };
+    ghost invariant = { λ c. MatchOption c.other.next ((staged c.stage).has_both ≡ true) (λ _. (staged c.stage).has_both ≡ false)
+        × ((staged c.stage).shown.standing.template ≡ c.template)
+        × AllOf (λ t. IsReserveFor (staged c.stage).shown t) c.wider
+        × IfSome c.pairs (λ p. IsPairOf (staged c.stage).shown.press (staged c.stage).shown.standing.template (arc_value p)) };
 }
 
-/// Takes the copy that is not shown from the writer, and leaves this one in its place. It waits for those that look at it. The
-/// writer is handed over by reference, so that it is turned where it stands and never moved.
-fn exchange<R: Wait>(rt: &R, writer: &mut Ends, stand_in: Box<View>) -> Box<View>
-    ensures kept { (writer.new.desk.shown.value ≡ writer.old.desk.shown.value) × (view writer.new.desk.place ≡ view writer.old.desk.place) }
-    ensures other { result.value ≡ writer.old.desk.spare.value }
-{
-    replace_with(
-        &mut writer.desk,
-        stand_in,
-        |desk, stand_in: Box<View>|
-            ensures kept { (result.0.shown.value ≡ desk.shown.value) × (view result.0.place ≡ view desk.place) }
-            ensures other { result.1.value ≡ desk.spare.value }
-        {
-            let (open, spare) = desk.open(rt);
-            (open.shelve(stand_in), spare)
-        },
-    )
-}
-
-/// Shows this copy. It answers what the writer had in its place.
-fn turn<R: Wait>(rt: &R, writer: &mut Ends, next: Box<View>) -> Box<View>
-    requires { Follows writer.old.desk.shown.value next.value }
-    ensures known { view writer.new.desk.place ≡ known writer.new.desk.shown.value }
-    ensures shown { writer.new.desk.shown.value ≡ next.value }
-    ensures spare { writer.new.desk.spare.value ≡ writer.old.desk.shown.value }
-{
-    replace_with(
-        &mut writer.desk,
-        next,
-        |desk, next: Box<View>|
-            requires { Follows desk.shown.value next.value }
-            ensures known { view result.0.place ≡ known result.0.shown.value }
-            ensures shown { result.0.shown.value ≡ next.value }
-            ensures spare { result.0.spare.value ≡ desk.shown.value }
-        {
-            let (open, stand_in) = desk.open(rt);
-            (open.show_as::<Sees>(next), stand_in)
-        },
-    )
-}
-
-/// A writer of two copies, for so many lenses at a time. It says nothing of the copy that is not shown.
-fn opened(
-    alloc: Global,
-    template: Template,
-    places: usize,
-    front: &Ticket,
-) -> Result<Ends, OutOfMemory>
-    requires front { front.now.front ≡ [] }
-    requires places { (0 < places) × (places ≤ 1024) }
-    ensures { IfOk result (λ w. IsFresh front.now template w.desk.shown.value) }
-{
-    let first = View::new(alloc, template, front.copied())?;
-    let second = View::new(alloc, template, front.copied())?;
-    Ok(Writer::new(alloc, first, second, places)?)
-}
-
-/// A writer of two copies that have taken no entry, for so many lenses at a time, and a third one to stand in.
-fn table<R: Wait>(
-    alloc: Global,
-    rt: &R,
-    template: Template,
-    places: usize,
-    front: &Ticket,
-) -> Result<(Ends, Box<View>), OutOfMemory>
-    requires front { front.now.front ≡ [] }
-    requires places { (0 < places) × (places ≤ 1024) }
-    ensures known { IfOk result (λ t. view t.0.desk.place ≡ known t.0.desk.shown.value) }
-    ensures shown { IfOk result (λ t. IsFresh front.now template t.0.desk.shown.value) }
-    ensures spare { IfOk result (λ t. t.0.desk.spare.value.standing ≡ t.0.desk.shown.value.standing) }
-{
-    // No clause of the writer says what its second copy is. So that copy is the stand-in, and one that is known is shown.
-    let Ok(next) = Box::new(alloc, View::new(alloc, template, front.copied())?) else {
-        return Err(OutOfMemory);
-    };
-    let mut writer = opened(alloc, template, places, front)?;
-    let stand_in = turn(rt, &mut writer, next);
-    Ok((writer, stand_in))
-}
-
-/// The writer of a table that is not in use yet, where there may be more lenses than the one before has places.
+/// A table that is not in use yet, where there may be more lenses than the one before has places.
 fn reserve<R: Wait>(
     alloc: Global,
     rt: &R,
@@ -173,56 +109,35 @@ fn reserve<R: Wait>(
     before: usize,
     places: usize,
     front: &Ticket,
-) -> Result<Option<Ends>, OutOfMemory>
+) -> Result<Option<Table>, OutOfMemory>
     requires front { front.now.front ≡ [] }
     requires places { places ≤ 1024 }
-    ensures { IfOk result (λ o. IfSome o (λ w. (view w.desk.place ≡ known w.desk.shown.value) × IsFresh front.now template w.desk.shown.value)) }
+    ensures { IfOk result (λ o. IfSome o (λ t. IsFresh front.now template t.shown × (t.has_both ≡ false))) }
 {
     if places <= before {
         return Ok(None);
     }
-    let (writer, _stand_in) = table(alloc, rt, template, places, front)?;
-    Ok(Some(writer))
+    let mut table = Table::new(alloc, rt, template, places, front)?;
+    drop(table.take_out(rt));
+    Ok(Some(table))
 }
 
-/// The writers of the tables that are not in use yet, for so many lenses at a time.
+/// The tables that are not in use yet, for so many lenses at a time.
 fn reserves<R: Wait>(
     alloc: Global,
     rt: &R,
     template: Template,
     places: usize,
     front: &Ticket,
-) -> Result<Wider<Ends>, OutOfMemory>
+) -> Result<Wider<Table>, OutOfMemory>
     requires front { front.now.front ≡ [] }
     requires places { places ≤ 1024 }
-    ensures { IfOk result (λ r. AllOf (λ w. (view w.desk.place ≡ known w.desk.shown.value) × IsFresh front.now template w.desk.shown.value) r) }
+    ensures { IfOk result (λ r. AllOf (λ t. IsFresh front.now template t.shown × (t.has_both ≡ false)) r) }
 {
     let next = reserve(alloc, rt, template, FIRST, places.min(NEXT), front)?;
-    let second = match reserve(alloc, rt, template, NEXT, places.min(SECOND), front) {
-        Ok(second) => second,
+    match reserve(alloc, rt, template, NEXT, places.min(LAST), front) {
+        Ok(last) => Ok(Wider { last, next }),
         Err(fault) => {
-            end(rt, next);
-            return Err(fault);
-        }
-    };
-    let third = match reserve(alloc, rt, template, SECOND, places.min(THIRD), front) {
-        Ok(third) => third,
-        Err(fault) => {
-            end(rt, second);
-            end(rt, next);
-            return Err(fault);
-        }
-    };
-    match reserve(alloc, rt, template, THIRD, places, front) {
-        Ok(last) => Ok(Wider {
-            last,
-            third,
-            second,
-            next,
-        }),
-        Err(fault) => {
-            end(rt, third);
-            end(rt, second);
             end(rt, next);
             Err(fault)
         }
@@ -230,68 +145,105 @@ fn reserves<R: Wait>(
 }
 
 /// Closes a table, if there is one. It waits for the lenses that look there.
-fn end<R: Wait>(rt: &R, table: Option<Ends>) {
-    if let Some(writer) = table {
-        drop(writer.take(rt));
+fn end<R: Wait>(rt: &R, table: Option<Table>) {
+    if let Some(table) = table {
+        drop(table.close(rt));
     }
 }
 
-/// A place in this table, which knows the copy that is shown there.
-fn seat_of(writer: &mut Ends) -> Result<Seat, NoPlace>
-    requires { view writer.old.desk.place ≡ known writer.old.desk.shown.value }
-    ensures shown { writer.new.desk.shown ≡ writer.old.desk.shown }
-    ensures spare { writer.new.desk.spare ≡ writer.old.desk.spare }
-    ensures known { view writer.new.desk.place ≡ view writer.old.desk.place }
-    ensures seat { IfOk result (λ s. view s.place ≡ known writer.old.desk.shown.value) }
+/// The slots that lenses share, where there may be more of them than tables have places.
+fn shared(
+    alloc: Global,
+    template: Template,
+    places: usize,
+    front: &Ticket,
+) -> Result<Option<Arc<Pairs>>, OutOfMemory>
+    ensures { IfOk result (λ o. IfSome o (λ p. IsPairOf front.now.press template (arc_value p))) }
 {
-    match writer.factory().reader() {
-        Ok(mut seat) => {
-            seat.learn::<Takes>(writer.desk.tell::<Tells>());
-            Ok(seat)
-        }
-        Err(_) => Err(NoPlace),
+    if places <= LAST {
+        return Ok(None);
+    }
+    match Arc::new(alloc, Pairs::new(front, template)) {
+        Ok(pairs) => Ok(Some(pairs)),
+        Err(_) => Err(OutOfMemory),
+    }
+}
+
+/// The same slots once more, if there are any.
+fn again(pairs: &Option<Arc<Pairs>>) -> Result<Option<Arc<Pairs>>, NoPlace>
+    ensures { (press : Book) (template : Template) → IfSome pairs.now (λ p. IsPairOf press template (arc_value p)) → IfOk result (λ o. IfSome o (λ p. IsPairOf press template (arc_value p))) }
+{
+    match pairs {
+        Some(pairs) => match Arc::try_clone(pairs) {
+            Ok(pairs) => Ok(Some(pairs)),
+            Err(_) => Err(NoPlace),
+        },
+        None => Ok(None),
+    }
+}
+
+/// How many have these slots.
+fn count(pairs: &Option<Arc<Pairs>>) -> usize {
+    match pairs {
+        Some(pairs) => Arc::strong_count(pairs),
+        None => 0,
     }
 }
 
 /// A place in a table that is not in use yet, if there is one.
-fn seat_in(table: &mut Option<Ends>) -> Result<Option<Seat>, NoPlace>
-    requires { IfSome table.old (λ w. view w.desk.place ≡ known w.desk.shown.value) }
-    ensures kept { (shown : Sight) → IfSome table.old (λ w. IsReserveFor shown w.desk.shown.value (view w.desk.place)) → IfSome table.new (λ w. IsReserveFor shown w.desk.shown.value (view w.desk.place)) }
-    ensures seat { (shown : Sight) → IfSome table.old (λ w. IsReserveFor shown w.desk.shown.value (view w.desk.place)) → IfOk result (λ o. IfSome o (λ s. IsPlaceFor shown (view s.place))) }
+fn seat_in(table: &mut Option<Table>) -> Result<Option<Seat>, NoPlace>
+    ensures kept { table.new ≡ table.old }
+    ensures seat { (shown : Sight) → IfSome table.old (λ t. IsReserveFor shown t) → IfOk result (λ o. IfSome o (λ s. IsPlaceOf shown.press shown.standing.template (view s.place))) }
 {
     match table {
-        Some(writer) => Ok(Some(seat_of(writer)?)),
+        Some(table) => Ok(Some(table.seat()?)),
         None => Ok(None),
     }
 }
 
 /// The places of a lens in the tables that are not in use yet.
-fn seats_in(wider: &mut Wider<Ends>) -> Result<Wider<Seat>, NoPlace>
-    requires { AllOf (λ w. view w.desk.place ≡ known w.desk.shown.value) wider.old }
-    ensures kept { (shown : Sight) → AllOf (λ w. IsReserveFor shown w.desk.shown.value (view w.desk.place)) wider.old → AllOf (λ w. IsReserveFor shown w.desk.shown.value (view w.desk.place)) wider.new }
-    ensures seats { (shown : Sight) → AllOf (λ w. IsReserveFor shown w.desk.shown.value (view w.desk.place)) wider.old → IfOk result (λ s. AllOf (λ seat. IsPlaceFor shown (view seat.place)) s) }
+fn seats_in(wider: &mut Wider<Table>) -> Result<Wider<Seat>, NoPlace>
+    ensures kept { wider.new ≡ wider.old }
+    ensures seats { (shown : Sight) → AllOf (λ t. IsReserveFor shown t) wider.old → IfOk result (λ s. AllOf (λ seat. IsPlaceOf shown.press shown.standing.template (view seat.place)) s) }
 {
     Ok(Wider {
         last: seat_in(&mut wider.last)?,
-        third: seat_in(&mut wider.third)?,
-        second: seat_in(&mut wider.second)?,
         next: seat_in(&mut wider.next)?,
     })
 }
 
-/// Takes the copy that is not shown from the writer, and brings it up to date. It waits for those that look at it.
-fn take_out<R: Wait>(rt: &R, writer: &mut Ends, other: &mut Other)
-    requires { is_some other.old.stand_in ≡ true }
-    ensures kept { (writer.new.desk.shown.value ≡ writer.old.desk.shown.value) × (view writer.new.desk.place ≡ view writer.old.desk.place) }
+/// Takes the copy that is not shown out of lenses' reach, and brings it up to date. It waits for those that look at it.
+fn take_out<R: Wait>(rt: &R, stage: &mut Stage, other: &mut Other)
+    requires { (staged stage.old).has_both ≡ true }
+    ensures kept { ((staged stage.new).shown ≡ (staged stage.old).shown) × ((staged stage.new).has_both ≡ false) }
     ensures there { is_some other.new.next ≡ true }
-    ensures next { IfSome other.new.next (λ b. b.value.standing ≡ fold taken writer.old.desk.spare.value.standing other.old.lacks.items) }
+    ensures next { IfSome other.new.next (λ b. b.value.standing ≡ fold taken (staged stage.old).spare other.old.lacks.items) }
 {
-    let Some(stand_in) = other.stand_in.take() else {
-        unreachable!()
-    };
-    let mut next = exchange(rt, writer, stand_in);
+    let mut next = stage.take_out(rt);
     next.take_all(other.lacks.as_slice());
     other.next = Some(next);
+}
+
+/// The copy that is not shown, which tells this front from now on.
+fn told(other: &mut Other, front: &Ticket) -> Box<View>
+    requires { is_some other.old.next ≡ true }
+    ensures next { IfSome other.old.next (λ b. result.value ≡ record { press = front.now.press; standing = b.value.standing; editions = front.now.editions; front = front.now.front }) }
+    ensures lacks { other.new.lacks ≡ other.old.lacks }
+{
+    let Some(mut copy) = other.next.take() else {
+        unreachable!()
+    };
+    copy.tell(front);
+    copy
+}
+
+/// Ends what is in use, and goes on there. The copy that was shown. It is called once the copies are there, so that a lens which
+/// finds its table closed finds them.
+fn move_on<R: Wait>(rt: &R, stage: &mut Stage, to: Stage) -> Box<View>
+    ensures stage { stage.new ≡ to }
+    ensures copy { result.value.standing ≡ (staged stage.old).shown.standing }
+{
+    replace(stage, to).close(rt)
 }
 
 impl Copies {
@@ -307,69 +259,137 @@ impl Copies {
         requires places { (0 < places) × (places ≤ 1024) }
         ensures { IfOk result (λ c. IsFresh front.now template c.shown × (c.next ≡ c.shown.standing) × (c.is_out ≡ false)) }
     {
-        let few = places.min(FIRST);
-        let (writer, stand_in) = table(alloc, rt, template, few, front)?;
+        let pairs = shared(alloc, template, places, front)?;
+        let table = Table::new(alloc, rt, template, places.min(FIRST), front)?;
         match reserves(alloc, rt, template, places, front) {
             Ok(wider) => Ok(Copies {
-                writer,
+                stage: Stage::Places(table),
                 wider,
+                pairs,
+                places,
+                made: 0,
+                template,
                 other: Other {
                     next: None,
-                    stand_in: Some(stand_in),
                     lacks: Vec::new(alloc),
                 },
             }),
             Err(fault) => {
-                end(rt, Some(writer));
+                end(rt, Some(table));
                 Err(fault)
             }
         }
     }
 
-    /// The places of a lens, which know what is shown.
-    pub fn seats(&mut self) -> Result<Seats, NoPlace>
-        ensures kept { self.new ≡ self.old }
-        ensures reader { IfOk result (λ s. view s.reader.place ≡ known self.old.shown) }
-        ensures wider { IfOk result (λ s. AllOf (λ seat. IsPlaceFor self.old.shown (view seat.place)) s.wider) }
+    /// Of which template they are.
+    pub fn template(&self) -> &Template
+        ensures { result.now ≡ self.now.shown.standing.template }
     {
-        let reader = seat_of(&mut self.writer)?;
-        let wider = seats_in(&mut self.wider)?;
-        Ok(Seats { reader, wider })
+        &self.template
     }
 
-    /// Puts the next table to use, which has more places: whether there was one. The copies move there, where the one that is
-    /// shown tells the same front. It waits for the lenses that look.
-    pub fn widen<R: Wait>(&mut self, rt: &R, front: &Ticket) -> bool
+    /// What a lens looks through, which knows what is shown.
+    pub fn seats(&mut self) -> Result<Seats, NoPlace>
+        ensures kept { self.new ≡ self.old }
+        ensures reader { IfOk result (λ s. IfSome s.reader (λ seat. IsPlaceOf self.old.shown.press self.old.shown.standing.template (view seat.place))) }
+        ensures wider { IfOk result (λ s. AllOf (λ seat. IsPlaceOf self.old.shown.press self.old.shown.standing.template (view seat.place)) s.wider) }
+        ensures pairs { IfOk result (λ s. IfSome s.pairs (λ p. IsPairOf self.old.shown.press self.old.shown.standing.template (arc_value p))) }
+    {
+        let pairs = again(&self.pairs)?;
+        self.made = self.made.wrapping_add(1);
+        let group = self.made;
+        match &mut self.stage {
+            Stage::Places(table) => {
+                let reader = Some(table.seat()?);
+                let wider = seats_in(&mut self.wider)?;
+                Ok(Seats {
+                    reader,
+                    wider,
+                    pairs,
+                    group,
+                })
+            }
+            Stage::Slots(_) => {
+                if count(&pairs).saturating_sub(OWNERS) > self.places {
+                    return Err(NoPlace);
+                }
+                Ok(Seats {
+                    reader: None,
+                    wider: Wider::none(),
+                    pairs,
+                    group,
+                })
+            }
+        }
+    }
+
+    /// Goes on where there are more places: whether there are. The copies move there, where the one that is shown tells the same
+    /// front. It waits for the lenses that look.
+    pub fn widen<R: Wait>(&mut self, alloc: Global, rt: &R, front: &Ticket) -> bool
         requires next { self.old.next ≡ self.old.shown.standing }
         requires front { front.now ≡ record { press = self.old.shown.press; editions = self.old.shown.editions; front = self.old.shown.front } }
         requires lawful { IsLawful self.old.shown }
         ensures shown { self.new.shown ≡ self.old.shown }
         ensures next { self.new.next ≡ self.old.next }
     {
-        let Some(mut writer) = self.wider.take() else {
+        match self.wider.take() {
+            Some(table) => {
+                self.go_on_in(rt, table, front);
+                true
+            }
+            None => self.share(alloc, rt, front),
+        }
+    }
+
+    /// Goes on in this table.
+    fn go_on_in<R: Wait>(&mut self, rt: &R, table: Table, front: &Ticket)
+        requires reserve { IsReserveFor self.old.shown table }
+        requires next { self.old.next ≡ self.old.shown.standing }
+        requires front { front.now ≡ record { press = self.old.shown.press; editions = self.old.shown.editions; front = self.old.shown.front } }
+        requires lawful { IsLawful self.old.shown }
+        ensures shown { self.new.shown ≡ self.old.shown }
+        ensures next { self.new.next ≡ self.old.next }
+    {
+        self.ready(rt);
+        let mut table = table;
+        table.show(rt, told(&mut self.other, front));
+        drop(table.take_out(rt));
+        self.other.next = Some(move_on(rt, &mut self.stage, Stage::Places(table)));
+    }
+
+    /// Goes on in the slots that lenses share, unless there are none, they are in use or there is no memory.
+    fn share<R: Wait>(&mut self, alloc: Global, rt: &R, front: &Ticket) -> bool
+        requires next { self.old.next ≡ self.old.shown.standing }
+        requires front { front.now ≡ record { press = self.old.shown.press; editions = self.old.shown.editions; front = self.old.shown.front } }
+        requires lawful { IsLawful self.old.shown }
+        ensures shown { self.new.shown ≡ self.old.shown }
+        ensures next { self.new.next ≡ self.old.next }
+    {
+        if let Stage::Slots(_) = &self.stage {
+            return false;
+        }
+        let Ok(Some(pairs)) = again(&self.pairs) else {
+            return false;
+        };
+        let Ok(shown) = Arc::new(alloc, None) else {
+            return false;
+        };
+        let Ok(before) = Arc::new(alloc, None) else {
             return false;
         };
         self.ready(rt);
-        match self.other.next.take() {
-            Some(mut copy) => {
-                copy.tell(front);
-                drop(turn(rt, &mut writer, copy));
-            }
-            None => unreachable!(),
-        }
-        // The table of before is closed only now, so that a lens which finds it closed finds the copies here.
-        let before = replace(&mut self.writer, writer);
-        self.other.next = Some(before.take(rt));
+        let writer = PairWriter::open(rt, pairs, shown, before, told(&mut self.other, front));
+        self.other.next = Some(move_on(rt, &mut self.stage, Stage::Slots(writer)));
         true
     }
 
-    /// Has the copy that is not shown taken from the writer, and brought up to date. It waits for those that still look at it.
+    /// Has the copy that is not shown taken out of lenses' reach, and brought up to date. It waits for those that still look at it.
     #[inline(always)]
     pub fn ready<R: Wait>(&mut self, rt: &R)
         ensures { self.new ≡ record self.old { is_out = true } }
     {
         if self.other.next.is_none() {
-            take_out(rt, &mut self.writer, &mut self.other);
+            take_out(rt, &mut self.stage, &mut self.other);
         }
     }
 
@@ -434,11 +454,11 @@ impl Copies {
         ensures next { (self.new.next ≡ self.old.next) × (self.new.is_out ≡ false) }
         ensures none { entries.new.items ≡ [] }
     {
-        let Copies { writer, other, .. } = self;
+        let Copies { stage, other, .. } = self;
         match other.next.take() {
             Some(mut next) => {
                 next.tell(front);
-                other.stand_in = Some(turn(rt, writer, next));
+                stage.show(rt, next);
             }
             None => unreachable!(),
         }
@@ -451,21 +471,22 @@ impl Copies {
     /// Ends them. It waits for the lenses that look.
     pub fn close<R: Wait>(self, rt: &R) {
         let Copies {
-            writer,
+            stage,
             wider,
+            pairs,
+            places: _,
+            made: _,
+            template: _,
             other: _other,
         } = self;
-        // (A lens goes on to the next table where it finds one closed, so the table in use is the last to be closed.)
-        let Wider {
-            last,
-            third,
-            second,
-            next,
-        } = wider;
+        // (A lens goes on to the next table where it finds one closed, and then to the slots, so what is in use is the last to be
+        // closed.)
+        let Wider { last, next } = wider;
+        if let (Stage::Places(_), Some(pairs)) = (&stage, &pairs) {
+            pairs.close(rt);
+        }
         end(rt, last);
-        end(rt, third);
-        end(rt, second);
         end(rt, next);
-        drop(writer.take(rt));
+        drop(stage.close(rt));
     }
 }

@@ -1,13 +1,16 @@
-//! Lenses: the readers' side of `left_right`.
+//! Lenses: the readers' side of the tables and of the slots.
 ghost use Rattle.std.specs.Prelude.{◌≡◌, ◌⊎◌, true, IfOk, IfErr, IfSome, OnErr, IsOk};
+ghost use Rattle.std.specs.Arc.{arc_value};
 ghost use Rattle.std.specs.Fn.{FnOnceReturnsAt};
 ghost use mathlib.Core.List.{IsPrefix};
 ghost use Rattle.left_right.specs.Sides.{view};
-ghost use Rattle.sup_log.specs.Fronts.{Fits, IsPlaceFor};
+ghost use Rattle.sup_log.specs.Fronts.{Fits, IsPlaceOf};
+ghost use Rattle.sup_log.specs.Pairs.{IsPairOf};
 ghost use Rattle.sup_log.specs.Tables.{AllOf};
 ghost use Rattle.sup_log.specs.Tokens.{sight};
 
 use crate::faults::Gone;
+use crate::pairs::Pairs;
 use crate::publication::{Known, Published, Sees};
 use crate::ticket::Ticket;
 use crate::view::View;
@@ -15,6 +18,8 @@ use crate::wider::Wider;
 use core::mem::replace_with;
 use left_right::reader::Reader;
 use std::marker::Model;
+use std::sync::Arc;
+use sup_types::Template;
 
 pub(crate) type Seat = Reader<View, Known, Published>;
 
@@ -25,23 +30,32 @@ pub(crate) type Later = Option<Box<Wider<Reader<View, Known, Published>>>>;
 /// A reader's place: it looks at what was published, with no lock, and never goes back.
 #[derive(Drop)]
 pub struct Lens {
+    // Its place in the table in use. None once it found that one closed, and no other.
+    pub(crate) reader: Option<Reader<View, Known, Published>>,
     pub(crate) wider: Option<Box<Wider<Reader<View, Known, Published>>>>,
-    pub(crate) reader: Reader<View, Known, Published>,
+    pub(crate) pairs: Option<Arc<Pairs>>,
+    // Which slots it shares.
+    pub(crate) group: usize,
     pub(crate) front: Ticket,
+    // No code reads it: the contracts name it where the lens has no place any more.
+    pub(crate) template: Template,
 }
 
 impl Model for Lens {
-    ghost use Rattle.std.specs.Prelude.{◌≡◌, true, IfSome};
-    ghost use Rattle.sup_log.specs.Fronts.{IsPlaceFor};
+    ghost use Rattle.std.specs.Prelude.{◌≡◌, IfSome};
+    ghost use Rattle.std.specs.Arc.{arc_value};
+    ghost use Rattle.sup_log.specs.Fronts.{IsPlaceOf};
+    ghost use Rattle.sup_log.specs.Pairs.{IsPairOf};
     ghost use Rattle.sup_log.specs.Tables.{AllOf};
     ghost use Rattle.sup_log.specs.Tokens.{Sighted};
 
     ghost Value = { Sighted };
 
-    ghost view = { λ l. record { press = l.front.press; template = l.reader.place.me.0.client.view.standing.template; editions = l.front.editions; front = l.front.front } };
+    ghost view = { λ l. record { press = l.front.press; template = l.template; editions = l.front.editions; front = l.front.front } };
 
-    ghost invariant = { λ l. (l.reader.place.me.0.client.named ≡ true) × (l.reader.place.me.0.client.view.press ≡ l.front.press)
-        × IfSome l.wider (λ b. AllOf (λ s. IsPlaceFor l.reader.place.me.0.client.view s.place.me.0.client) b.value) };
+    ghost invariant = { λ l. IfSome l.reader (λ s. IsPlaceOf l.front.press l.template s.place.me.0.client)
+        × IfSome l.wider (λ b. AllOf (λ s. IsPlaceOf l.front.press l.template s.place.me.0.client) b.value)
+        × IfSome l.pairs (λ p. IsPairOf l.front.press l.template (arc_value p)) };
 }
 
 /// Why a look called nothing.
@@ -81,92 +95,117 @@ fn read<T, F: FnOnce(&View) -> T>(
     }
 }
 
-/// The same with the reader in its place.
+/// The same with the reader in its place, where there is one.
+#[inline(always)]
 fn read_in_place<T, F: FnOnce(&View) -> T>(
-    reader: &mut Seat,
+    reader: &mut Option<Seat>,
+    template: &Template,
     front: Ticket,
     f: F,
 ) -> Result<(Ticket, T), Missed<F>>
-    requires named { (view reader.old.place).named ≡ true }
-    requires press { (view reader.old.place).view.press ≡ front.press }
+    requires place { IfSome reader.old (λ s. IsPlaceOf front.press template.now (view s.place)) }
     requires callable { F.IsAlwaysCallable f }
-    ensures named { (view reader.new.place).named ≡ true }
-    ensures fits { Fits (view reader.old.place).view (view reader.new.place).view }
+    ensures place { IfSome reader.new (λ s. IsPlaceOf front.press template.now (view s.place)) }
     ensures front { IfOk result (λ r. (r.0.press ≡ front.press) × IsPrefix front.front r.0.front × IsPrefix front.editions r.0.editions) }
-    ensures answer { IfOk result (λ r. FnOnceReturnsAt F.FnOnce f (sight (record { press = r.0.press; template = (view reader.old.place).view.standing.template; editions = r.0.editions; front = r.0.front })) r.1) }
+    ensures answer { IfOk result (λ r. FnOnceReturnsAt F.FnOnce f (sight (record { press = r.0.press; template = template.now; editions = r.0.editions; front = r.0.front })) r.1) }
     ensures back { IfErr result (λ m. (g : F) → m ≡ Missed.Closed g → g ≡ f) }
 {
-    replace_with(
-        reader,
-        (front, f),
-        |reader, (front, f)| read(reader, front, f),
-    )
-}
-
-/// The same in the next table, and in those behind it where that is closed, too. No look comes here but the first one after the
-/// copies moved.
-#[inline(never)]
-fn read_on<T, F: FnOnce(&View) -> T>(
-    reader: Seat,
-    wider: Later,
-    front: Ticket,
-    f: F,
-) -> (Seat, (Later, Result<(Ticket, T), Gone>))
-    requires named { (view reader.place).named ≡ true }
-    requires wider { IfSome wider (λ b. AllOf (λ s. IsPlaceFor (view reader.place).view (view s.place)) b.value) }
-    requires press { (view reader.place).view.press ≡ front.press }
-    requires callable { F.IsAlwaysCallable f }
-    ensures named { (view result.0.place).named ≡ true }
-    ensures fits { Fits (view reader.place).view (view result.0.place).view }
-    ensures wider { IfSome result.1.0 (λ b. AllOf (λ s. IsPlaceFor (view result.0.place).view (view s.place)) b.value) }
-    ensures front { IfOk result.1.1 (λ r. (r.0.press ≡ front.press) × IsPrefix front.front r.0.front × IsPrefix front.editions r.0.editions) }
-    ensures answer { IfOk result.1.1 (λ r. FnOnceReturnsAt F.FnOnce f (sight (record { press = r.0.press; template = (view reader.place).view.standing.template; editions = r.0.editions; front = r.0.front })) r.1) }
-{
-    let Some(mut wider) = wider else {
-        return (reader, (None, Err(Gone)));
-    };
-    let Some(next) = wider.take() else {
-        return (reader, (Some(wider), Err(Gone)));
-    };
-    let (reader, seen) = read(next, front.copied(), f);
-    match seen {
-        Ok(seen) => (reader, (Some(wider), Ok(seen))),
-        Err(Missed::Behind) => (reader, (Some(wider), Err(Gone))),
-        Err(Missed::Closed(f)) => read_on(reader, Some(wider), front, f),
+    let _ = template;
+    match reader {
+        Some(reader) => replace_with(
+            reader,
+            (front, f),
+            |reader, (front, f)| read(reader, front, f),
+        ),
+        None => Err(Missed::Closed(f)),
     }
 }
 
-/// The same with the places where they are.
-#[inline(always)]
-fn read_on_in_place<T, F: FnOnce(&View) -> T>(
-    reader: &mut Seat,
-    wider: &mut Later,
+/// The same in the next table, and in those behind it where that is closed, too. The place where it ended, and what is behind it.
+fn read_on<T, F: FnOnce(&View) -> T>(
+    wider: Later,
+    template: &Template,
+    front: Ticket,
+    f: F,
+) -> (Option<Seat>, (Later, Result<(Ticket, T), Missed<F>>))
+    requires wider { IfSome wider (λ b. AllOf (λ s. IsPlaceOf front.press template.now (view s.place)) b.value) }
+    requires callable { F.IsAlwaysCallable f }
+    ensures place { IfSome result.0 (λ s. IsPlaceOf front.press template.now (view s.place)) }
+    ensures wider { IfSome result.1.0 (λ b. AllOf (λ s. IsPlaceOf front.press template.now (view s.place)) b.value) }
+    ensures front { IfOk result.1.1 (λ r. (r.0.press ≡ front.press) × IsPrefix front.front r.0.front × IsPrefix front.editions r.0.editions) }
+    ensures answer { IfOk result.1.1 (λ r. FnOnceReturnsAt F.FnOnce f (sight (record { press = r.0.press; template = template.now; editions = r.0.editions; front = r.0.front })) r.1) }
+    ensures back { IfErr result.1.1 (λ m. (g : F) → m ≡ Missed.Closed g → g ≡ f) }
+{
+    let Some(mut wider) = wider else {
+        return (None, (None, Err(Missed::Closed(f))));
+    };
+    let Some(next) = wider.take() else {
+        return (None, (None, Err(Missed::Closed(f))));
+    };
+    let (reader, seen) = read(next, front.copied(), f);
+    match seen {
+        Ok(seen) => (Some(reader), (Some(wider), Ok(seen))),
+        Err(Missed::Behind) => (Some(reader), (Some(wider), Err(Missed::Behind))),
+        Err(Missed::Closed(f)) => read_on(Some(wider), template, front, f),
+    }
+}
+
+/// The same in the slots of this group, if there are any.
+fn read_shared<T, F: FnOnce(&View) -> T>(
+    pairs: &Option<Arc<Pairs>>,
+    group: usize,
+    template: &Template,
     front: &Ticket,
     f: F,
 ) -> Result<(Ticket, T), Gone>
-    requires named { (view reader.old.place).named ≡ true }
-    requires wider { IfSome wider.old (λ b. AllOf (λ s. IsPlaceFor (view reader.old.place).view (view s.place)) b.value) }
-    requires press { (view reader.old.place).view.press ≡ front.now.press }
+    requires pairs { IfSome pairs.now (λ p. IsPairOf front.now.press template.now (arc_value p)) }
     requires callable { F.IsAlwaysCallable f }
-    ensures named { (view reader.new.place).named ≡ true }
-    ensures fits { Fits (view reader.old.place).view (view reader.new.place).view }
-    ensures wider { IfSome wider.new (λ b. AllOf (λ s. IsPlaceFor (view reader.new.place).view (view s.place)) b.value) }
     ensures front { IfOk result (λ r. (r.0.press ≡ front.now.press) × IsPrefix front.now.front r.0.front × IsPrefix front.now.editions r.0.editions) }
-    ensures answer { IfOk result (λ r. FnOnceReturnsAt F.FnOnce f (sight (record { press = r.0.press; template = (view reader.old.place).view.standing.template; editions = r.0.editions; front = r.0.front })) r.1) }
+    ensures answer { IfOk result (λ r. FnOnceReturnsAt F.FnOnce f (sight (record { press = r.0.press; template = template.now; editions = r.0.editions; front = r.0.front })) r.1) }
 {
-    let (later, seen) = replace_with(
-        reader,
-        (wider.take(), front.copied(), f),
-        |reader, (wider, front, f)| read_on(reader, wider, front, f),
-    );
-    *wider = later;
-    seen
+    let _ = template;
+    match pairs {
+        Some(pairs) => pairs.look(group, front, f),
+        None => Err(Gone),
+    }
+}
+
+/// The same in the tables that are not in use yet, and then in the slots.
+fn read_further<T, F: FnOnce(&View) -> T>(
+    wider: Later,
+    pairs: &Option<Arc<Pairs>>,
+    group: usize,
+    template: &Template,
+    front: &Ticket,
+    f: F,
+) -> (Option<Seat>, (Later, Result<(Ticket, T), Gone>))
+    requires wider { IfSome wider (λ b. AllOf (λ s. IsPlaceOf front.now.press template.now (view s.place)) b.value) }
+    requires pairs { IfSome pairs.now (λ p. IsPairOf front.now.press template.now (arc_value p)) }
+    requires callable { F.IsAlwaysCallable f }
+    ensures place { IfSome result.0 (λ s. IsPlaceOf front.now.press template.now (view s.place)) }
+    ensures wider { IfSome result.1.0 (λ b. AllOf (λ s. IsPlaceOf front.now.press template.now (view s.place)) b.value) }
+    ensures front { IfOk result.1.1 (λ r. (r.0.press ≡ front.now.press) × IsPrefix front.now.front r.0.front × IsPrefix front.now.editions r.0.editions) }
+    ensures answer { IfOk result.1.1 (λ r. FnOnceReturnsAt F.FnOnce f (sight (record { press = r.0.press; template = template.now; editions = r.0.editions; front = r.0.front })) r.1) }
+{
+    let Some(wider) = wider else {
+        return (None, (None, read_shared(pairs, group, template, front, f)));
+    };
+    let (reader, (wider, seen)) = read_on(Some(wider), template, front.copied(), f);
+    match seen {
+        Ok(seen) => (reader, (wider, Ok(seen))),
+        Err(Missed::Behind) => (reader, (wider, Err(Gone))),
+        Err(Missed::Closed(f)) => (
+            reader,
+            (wider, read_shared(pairs, group, template, front, f)),
+        ),
+    }
 }
 
 impl Lens {
     /// Enters, calls `f` once on a copy that has absorbed one front, and leaves. The front begins with all that the
     /// lens had seen or learnt, and is then what it has seen. Where the press is gone, `f` is not called and nothing
-    /// changes. `f` may not wait for the press, which may wait for this look.
+    /// changes. `f` may not wait for the press, which may wait for this look. Where there are more lenses than tables have places, it
+    /// tries again if another look or a publication came between.
     pub fn look<T, F: FnOnce(&View) -> T>(&mut self, f: F) -> Result<T, Gone>
         requires { F.IsAlwaysCallable f }
         ensures press { (self.new.press ≡ self.old.press) × (self.new.template ≡ self.old.template) }
@@ -176,23 +215,40 @@ impl Lens {
         ensures gone { OnErr result (self.new ≡ self.old) }
     {
         let front = self.front.copied();
-        match read_in_place(&mut self.reader, front, f) {
+        match read_in_place(&mut self.reader, &self.template, front, f) {
             Ok((seen, answer)) => {
                 self.front = seen;
                 Ok(answer)
             }
             Err(Missed::Behind) => Err(Gone),
-            Err(Missed::Closed(f)) => {
-                let (seen, answer) = read_on_in_place(
-                    &mut self.reader,
-                    &mut self.wider,
-                    &self.front,
-                    f,
-                )?;
-                self.front = seen;
-                Ok(answer)
-            }
+            Err(Missed::Closed(f)) => self.look_on(f),
         }
+    }
+
+    /// The same where its place is in use no more.
+    #[inline(never)]
+    fn look_on<T, F: FnOnce(&View) -> T>(&mut self, f: F) -> Result<T, Gone>
+        requires { F.IsAlwaysCallable f }
+        ensures press { (self.new.press ≡ self.old.press) × (self.new.template ≡ self.old.template) }
+        ensures front { IsPrefix self.old.front self.new.front }
+        ensures editions { IsPrefix self.old.editions self.new.editions }
+        ensures answer { IfOk result (λ r. FnOnceReturnsAt F.FnOnce f (sight self.new) r) }
+        ensures gone { OnErr result (self.new ≡ self.old) }
+    {
+        let wider = self.wider.take();
+        let (reader, (wider, seen)) = read_further(
+            wider,
+            &self.pairs,
+            self.group,
+            &self.template,
+            &self.front,
+            f,
+        );
+        self.reader = reader;
+        self.wider = wider;
+        let (seen, answer) = seen?;
+        self.front = seen;
+        Ok(answer)
     }
 
     /// From now on its front begins with the ticket's. It enters nothing and always succeeds.

@@ -22,23 +22,29 @@
 //! let (stamp, counts) = lens.look(|view| (view.stamp(), view.counts()))?;
 //! ```
 //!
-//! The log of the entries is that of a `logbook` book and stands in the proofs alone. The copies are `left_right`'s. There is no
+//! The log of the entries is that of a `logbook` book and stands in the proofs alone. The copies are `left_right`'s while there are few lenses. There is no
 //! supervisor beside them: the copy that no lens sees yet answers the entries as they come. The press keeps the entries of the last
 //! publication, which one copy lacks, and brings that copy up to date when it takes it from its readers. The queue of operations
 //! that `left_right`'s writer has stays empty. So a publication of up to 64 entries takes no memory.
 //!
-//! A publication visits each place for a lens. So a press begins with two places, and has more once a lens finds none: 8, 32, 128,
-//! and then all that it was made for. Up to two lenses, the room for others costs a publication nothing. Up to 128, it visits at
-//! most four times as many places as there were lenses at a time.
+//! A publication visits each place for a lens. So a press begins with two places, and has more once a lens finds none: 8, and then 32.
+//! Up to two lenses, the room for others costs a publication nothing. With the 33rd they come to share slots, each with one count of
+//! those that look at its copy (`counted_slot`): a quarter of them has two slots. Then a publication takes as long with 1,024 lenses as
+//! with 33, and a look tries again where another look or a publication came between.
 #![tactic(auto)]
 
 mod copies;
 mod faults;
 mod history;
 mod lens;
+mod pair;
+mod pair_writer;
+mod pairs;
 mod press;
 mod publication;
 mod right;
+mod stage;
+mod table;
 mod ticket;
 mod view;
 mod wider;

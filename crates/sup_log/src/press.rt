@@ -80,8 +80,8 @@ impl<R: Wait + Drop> Press<R> {
     }
 
     /// A lens that has seen all that was published. Refused where no place or no memory is left, with nothing changed. Where
-    /// the places of the table in use are taken, it puts one with more to use, unless entries were stepped that are not published
-    /// yet, and waits for the lenses that look.
+    /// no place is left that is in use, the copies move on to where there are more, unless entries were stepped that are not published
+    /// yet. That waits for the lenses that look.
     pub fn lens(&mut self) -> Result<Lens, NoPlace>
         ensures kept { self.new ≡ self.old }
         ensures lens { IfOk result (λ l. l ≡ record { press = self.old.press; template = self.old.template; editions = self.old.editions; front = self.old.published }) }
@@ -90,20 +90,28 @@ impl<R: Wait + Drop> Press<R> {
         let seats = match self.copies.seats() {
             Ok(seats) => seats,
             Err(NoPlace) => {
-                if self.stepped > 0 || !self.copies.widen(&self.rt, &front) {
+                if self.stepped > 0 || !self.copies.widen(self.alloc, &self.rt, &front) {
                     return Err(NoPlace);
                 }
                 self.copies.seats()?
             }
         };
-        let Seats { reader, wider } = seats;
+        let Seats {
+            reader,
+            wider,
+            pairs,
+            group,
+        } = seats;
         let Ok(wider) = wider.apart(self.alloc) else {
             return Err(NoPlace);
         };
         Ok(Lens {
             reader,
             wider,
+            pairs,
+            group,
             front,
+            template: *self.copies.template(),
         })
     }
 

@@ -8,4 +8,4 @@ abbrev one : {T : Type 0} → Option T → ℕ
 one o = option_map_or (λ _. 1) o 0
 
 abbrev pub decreases-read_on : goal.decreases-read_on
-decreases-read_on g l = option_map_or (λ b. one b.value.next + one b.value.second + one b.value.third + one b.value.last) l.wider 0
+decreases-read_on g l = option_map_or (λ b. one b.value.next + one b.value.last) l.wider 0

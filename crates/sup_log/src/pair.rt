@@ -1,0 +1,181 @@
+//! Slots: where the copies lie once there are more lenses than tables have places.
+//!
+//! A slot of `counted_slot` has one count of the lenses that look at its copy, however many lenses there are. It is free where no copy
+//! lies in it, and present where lenses may come to its copy. It is marked where no lens comes any more, and is freed once those
+//! that look there have left.
+ghost use Rattle.std.specs.Prelude.{◌≡◌, IfOk, IfErr, IfSome};
+ghost use Rattle.std.specs.Fn.{FnOnceReturnsAt};
+ghost use mathlib.Core.List.{IsPrefix};
+ghost use Rattle.sup_log.specs.Tokens.{IsLawful, sight};
+
+use crate::ticket::Ticket;
+use crate::view::View;
+use counted_slot::{Claim, Counted, FREE, Fits, MARKED, MOST_READERS, ONE_READER, PRESENT, TAKEN};
+use std::marker::Model;
+use std::sync::Arc;
+use std::sync::atomic::{AtomicU64, Ordering};
+use sup_types::Template;
+
+/// The word of a slot that was freed for the last time: the press is gone.
+pub const CLOSED: u64 = 1 << 32;
+
+/// What is added to the word of a marked slot where the last lens that leaves is to ring.
+pub const AWAITED: u64 = 1 << 32;
+
+/// Below this word a slot that is present has room for one lens more, and its press waits for none.
+pub const CROWDED: u64 = MOST_READERS * ONE_READER;
+
+/// Whose copies a pair has: those of this ticket's press, of supervisors of this template.
+#[derive(Drop)]
+pub struct Kin {
+    pub front: Ticket,
+    pub template: Template,
+}
+
+/// Where a copy lies that several slots have.
+pub type Shelf = Arc<Option<Box<View>>>;
+
+/// What lies in a slot.
+#[derive(Drop)]
+pub struct Shelved {
+    pub shelf: Arc<Option<Box<View>>>,
+}
+
+impl Fits for Shelved {
+    type Tag = Kin;
+
+    ghost use Rattle.std.specs.Prelude.{◌≡◌, IfSome};
+    ghost use Rattle.std.specs.Arc.{arc_value};
+    ghost use Rattle.sup_log.specs.Tokens.{IsLawful};
+
+    ghost fits = { λ kin s. IfSome (arc_value s.shelf) (λ b. (b.value.press ≡ kin.front.press) × (b.value.standing.template ≡ kin.template) × IsLawful b.value) };
+}
+
+pub type Slot = Counted<Option<Shelved>>;
+
+/// Two slots, of which lenses come to one.
+#[derive(Drop)]
+pub struct Pair {
+    left: Slot,
+    right: Slot,
+}
+
+impl Model for Pair {
+    ghost use Rattle.std.specs.Prelude.{◌≡◌};
+    ghost use Rattle.sup_log.specs.declared.pair.Kin.{Kin};
+
+    ghost Value = { Kin };
+
+    ghost view = { λ p. p.left };
+
+    ghost invariant = { λ p. p.right ≡ p.left };
+}
+
+impl Pair {
+    /// Two free slots, for copies of this kin.
+    pub fn new(kin: &Kin) -> Pair
+        ensures { result ≡ kin.now }
+    {
+        Pair {
+            left: Counted::new(None, kin),
+            right: Counted::new(None, kin),
+        }
+    }
+
+    /// One of the two slots.
+    #[inline(always)]
+    pub fn slot(&self, is_left: bool) -> &Slot
+        ensures { result.now ≡ self.now }
+    {
+        if is_left { &self.left } else { &self.right }
+    }
+}
+
+/// Calls `f` on a copy that has absorbed the front.
+fn read_copy<T, F: FnOnce(&View) -> T>(view: &View, front: &Ticket, f: F) -> Result<(Ticket, T), F>
+    requires press { view.now.press ≡ front.now.press }
+    requires lawful { IsLawful view.now }
+    requires callable { F.IsAlwaysCallable f }
+    ensures front { IfOk result (λ r. (r.0.press ≡ front.now.press) × IsPrefix front.now.front r.0.front × IsPrefix front.now.editions r.0.editions) }
+    ensures answer { IfOk result (λ r. FnOnceReturnsAt F.FnOnce f (sight (record { press = r.0.press; template = view.now.standing.template; editions = r.0.editions; front = r.0.front })) r.1) }
+    ensures back { IfErr result (λ g. g ≡ f) }
+{
+    if !front.begins(view.front()) {
+        return Err(f);
+    }
+    let seen = view.front().copied();
+    Ok((seen, f(view)))
+}
+
+/// Calls `f` on the copy in a slot that was entered, where it has absorbed the front.
+pub fn read_claimed<T, F: FnOnce(&View) -> T>(
+    claim: &Claim<'_, Option<Shelved>>,
+    front: &Ticket,
+    f: F,
+) -> Result<(Ticket, T), F>
+    requires entered { claim.now.right ≡ 1 }
+    requires press { claim.now.tag.front.press ≡ front.now.press }
+    requires callable { F.IsAlwaysCallable f }
+    ensures front { IfOk result (λ r. (r.0.press ≡ front.now.press) × IsPrefix front.now.front r.0.front × IsPrefix front.now.editions r.0.editions) }
+    ensures answer { IfOk result (λ r. FnOnceReturnsAt F.FnOnce f (sight (record { press = r.0.press; template = claim.now.tag.template; editions = r.0.editions; front = r.0.front })) r.1) }
+    ensures back { IfErr result (λ g. g ≡ f) }
+{
+    match claim.get() {
+        Some(shelved) => match &*shelved.shelf {
+            Some(copy) => read_copy(copy, front, f),
+            None => Err(f),
+        },
+        None => Err(f),
+    }
+}
+
+/// Enters a slot, if a copy is present, and says whether another lens looks there. It tries again where another look came between.
+pub fn entered(slot: &Slot) -> Option<(Claim<'_, Option<Shelved>>, bool)>
+    ensures { IfSome result (λ c. (c.0.right ≡ 1) × (c.0.tag ≡ slot.now)) }
+{
+    let mut word = slot.load();
+    for _ in 0..u64::MAX {
+        if word % 4 != PRESENT || word >= CROWDED {
+            return None;
+        }
+        let (found, claim) = slot.turn(word, word + ONE_READER);
+        if found == word {
+            return Some((claim, word != PRESENT));
+        }
+        claim.done();
+        word = found;
+    }
+    None
+}
+
+/// Puts what lies in a slot that was entered into this one, too, if this one is free.
+pub fn spread(claim: &Claim<'_, Option<Shelved>>, slot: &Slot)
+    requires entered { claim.now.right ≡ 1 }
+    requires kin { claim.now.tag ≡ slot.now }
+{
+    if slot.load() != FREE {
+        return;
+    }
+    let Some(shelved) = claim.get() else {
+        return;
+    };
+    let Ok(shelf) = Arc::try_clone(&shelved.shelf) else {
+        return;
+    };
+    let (found, right) = slot.turn(FREE, TAKEN);
+    if found == FREE {
+        drop(right.put(Some(Shelved { shelf }), PRESENT));
+    } else {
+        right.done();
+    }
+}
+
+/// Leaves a slot. The last lens rings where the press sleeps until it leaves.
+pub fn leave(claim: Claim<'_, Option<Shelved>>, bell: &AtomicU64)
+    requires { claim.right ≡ 1 }
+{
+    if claim.leave() == MARKED + AWAITED + ONE_READER {
+        bell.fetch_add(1, Ordering::SeqCst);
+        bell.wake_all();
+    }
+}

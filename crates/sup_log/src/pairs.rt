@@ -1,0 +1,166 @@
+//! The slots that lenses share once there are more of them than tables have places.
+//!
+//! A publication visits each place of a table. Slots have one count for many lenses, so a publication takes as long with any number
+//! of them. Looks pay for it: those at the same time change the same word. So the lenses are in four groups, and each group has a pair
+//! of slots of its own.
+//!
+//! A publication puts the next copy into the free slot of the first pair. Then it turns the side to which lenses come, and marks the
+//! other slot. All lenses come to the first pair's slot as long as they come one after the other. A lens that finds another there puts
+//! the copy into its own group's slot, too, while it looks. From then on its group comes to that one, until the next publication.
+//! A copy is taken back once it is in no slot: first from the first pair, so that no lens is left that might spread it, and then
+//! from the others where it was spread.
+//!
+//! A lens that comes to a slot looks once more which side is shown: the side is turned in one step for all groups, so that no lens
+//! sees a copy before each lens could.
+ghost use Rattle.std.specs.Prelude.{◌≡◌, IfOk, IfErr, IfSome};
+ghost use Rattle.std.specs.Fn.{FnOnceReturnsAt};
+ghost use mathlib.Core.List.{IsPrefix};
+ghost use Rattle.sup_log.specs.Tokens.{sight};
+
+use crate::faults::Gone;
+use crate::pair::{CLOSED, Kin, Pair, Slot, entered, leave, read_claimed, spread};
+use crate::ticket::Ticket;
+use crate::view::View;
+use counted_slot::PRESENT;
+use crossbeam_utils::CachePadded;
+use std::hint::spin_loop;
+use std::marker::Model;
+use std::sync::atomic::{AtomicBool, AtomicU64, Ordering};
+use sup_types::Template;
+
+/// How many groups there are.
+pub const GROUPS: usize = 4;
+
+/// The pairs of all groups, which side is shown, and the bell by which the last lens that leaves a slot wakes the press.
+#[derive(Drop)]
+pub struct Pairs {
+    first: CachePadded<Pair>,
+    second: CachePadded<Pair>,
+    third: CachePadded<Pair>,
+    fourth: CachePadded<Pair>,
+    pub is_left: CachePadded<AtomicBool>,
+    pub bell: AtomicU64,
+}
+
+impl Model for Pairs {
+    ghost use Rattle.std.specs.Prelude.{◌≡◌};
+    ghost use Rattle.crossbeam_utils.specs.Padded.{padded_value};
+    ghost use Rattle.sup_log.specs.declared.pair.Kin.{Kin};
+
+    ghost Value = { Kin };
+
+    ghost view = { λ p. padded_value p.first };
+
+    ghost invariant = { λ p. (padded_value p.second ≡ padded_value p.first) × (padded_value p.third ≡ padded_value p.first) × (padded_value p.fourth ≡ padded_value p.first) };
+}
+
+impl Pairs {
+    /// Free slots, for copies of such a supervisor.
+    pub fn new(front: &Ticket, template: Template) -> Pairs
+        ensures { (result.front ≡ front.now) × (result.template ≡ template) }
+    {
+        let kin = Kin {
+            front: front.copied(),
+            template,
+        };
+        Pairs {
+            first: CachePadded::new(Pair::new(&kin)),
+            second: CachePadded::new(Pair::new(&kin)),
+            third: CachePadded::new(Pair::new(&kin)),
+            fourth: CachePadded::new(Pair::new(&kin)),
+            is_left: CachePadded::new(AtomicBool::new(false)),
+            bell: AtomicU64::new(0),
+        }
+    }
+
+    /// The pair of a group.
+    #[inline(always)]
+    pub fn pair(&self, group: usize) -> &Pair
+        ensures { result.now ≡ self.now }
+    {
+        match group % GROUPS {
+            0 => &self.first,
+            1 => &self.second,
+            2 => &self.third,
+            _ => &self.fourth,
+        }
+    }
+
+    fn shows_left(&self) -> bool {
+        self.is_left.load(Ordering::SeqCst)
+    }
+
+    /// The slot of this side to which a group comes: its own where a copy was put there, and else the first pair's.
+    #[inline(always)]
+    fn slot(&self, group: usize, is_left: bool) -> &Slot
+        ensures { result.now ≡ self.now }
+    {
+        let own = self.pair(group).slot(is_left);
+        if own.load() % 4 == PRESENT {
+            own
+        } else {
+            self.first.slot(is_left)
+        }
+    }
+
+    /// Enters a slot, if its copy has absorbed the front, calls `f` on it and leaves. Otherwise `f` comes back, as where another side
+    /// is shown by then. Where another lens looks there, too, the group gets the copy into its own slot.
+    fn look_in<T, F: FnOnce(&View) -> T>(
+        &self,
+        slot: &Slot,
+        group: usize,
+        is_left: bool,
+        front: &Ticket,
+        f: F,
+    ) -> Result<(Ticket, T), F>
+        requires kin { slot.now ≡ self.now }
+        requires press { self.now.front.press ≡ front.now.press }
+        requires callable { F.IsAlwaysCallable f }
+        ensures front { IfOk result (λ r. (r.0.press ≡ front.now.press) × IsPrefix front.now.front r.0.front × IsPrefix front.now.editions r.0.editions) }
+        ensures answer { IfOk result (λ r. FnOnceReturnsAt F.FnOnce f (sight (record { press = r.0.press; template = slot.now.template; editions = r.0.editions; front = r.0.front })) r.1) }
+        ensures back { IfErr result (λ g. g ≡ f) }
+    {
+        let Some((claim, has_company)) = entered(slot) else {
+            return Err(f);
+        };
+        if self.shows_left() != is_left {
+            leave(claim, &self.bell);
+            return Err(f);
+        }
+        if has_company {
+            spread(&claim, self.pair(group).slot(is_left));
+        }
+        let seen = read_claimed(&claim, front, f);
+        leave(claim, &self.bell);
+        seen
+    }
+
+    /// Enters a slot that is shown, calls `f` once on a copy that has absorbed the front, and leaves. It tries again where
+    /// another look or a publication came between, and waits for none. Where the press is gone, `f` is not called.
+    pub fn look<T, F: FnOnce(&View) -> T>(
+        &self,
+        group: usize,
+        front: &Ticket,
+        f: F,
+    ) -> Result<(Ticket, T), Gone>
+        requires press { self.now.front.press ≡ front.now.press }
+        requires callable { F.IsAlwaysCallable f }
+        ensures front { IfOk result (λ r. (r.0.press ≡ front.now.press) × IsPrefix front.now.front r.0.front × IsPrefix front.now.editions r.0.editions) }
+        ensures answer { IfOk result (λ r. FnOnceReturnsAt F.FnOnce f (sight (record { press = r.0.press; template = self.now.template; editions = r.0.editions; front = r.0.front })) r.1) }
+    {
+        let mut f = f;
+        for _ in 0..u64::MAX {
+            let is_left = self.shows_left();
+            let slot = self.slot(group, is_left);
+            match self.look_in(slot, group, is_left, front, f) {
+                Ok(seen) => return Ok(seen),
+                Err(back) => f = back,
+            }
+            if slot.load() == CLOSED {
+                return Err(Gone);
+            }
+            spin_loop();
+        }
+        Err(Gone)
+    }
+}
