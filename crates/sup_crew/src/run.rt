@@ -1,5 +1,5 @@
 //! Runs: the workers in their threads, and the driver.
-ghost use Rattle.std.specs.Prelude.{◌≡◌, ◌<◌, ◌≤◌, ◌^◌, IfOk, OnErr, vec_len, MatchResult};
+ghost use Rattle.std.specs.Prelude.{◌≡◌, ◌<◌, ◌≤◌, ◌^◌, IfOk, IfErr, OnErr, vec_len, MatchResult};
 ghost use Rattle.sup_crew.specs.Drivers.{run_of, HasNotCalled};
 ghost use Rattle.sup_crew.specs.Reports.{IsRun, IsRunOfItsOwn};
 ghost use Rattle.sup_crew.specs.Runs.{IsRunOutcome, AreParts, AreParts-prop};
@@ -81,7 +81,8 @@ where
     J: Journal + Drop + Send + 's,
     B: Body + Sync,
     R: Threads + Wait + Sync,
-    ensures { MatchResult result.1 (λ j. IsRunOutcome (B.may_end body.now) (run_of N.template N.press run.entry.crew.now.moment caller) run.entry.crew.now.jobs run.entry.crew.now.inbox.id (vec_len run.entry.parts.posters) run.entry.crew.now.children.items result.0 j) (λ _. HasNotCalled caller result.0) }
+    ensures outcome { MatchResult result.1 (λ j. IsRunOutcome (B.may_end body.now) (run_of N.template N.press run.entry.crew.now.moment caller) run.entry.crew.now.jobs run.entry.crew.now.inbox.id (vec_len run.entry.parts.posters) run.entry.crew.now.children.items result.0 j) (λ _. HasNotCalled caller result.0) }
+    ensures place { IfErr result.1 (λ e. e ≡ CrewFault.NoHandle → ⊥) }
 {
     let Beginning { crew, parts } = run;
     let Parts {
@@ -142,6 +143,7 @@ where
     R: Threads + Wait + Sync,
     ensures outcome { IfOk result.1 (λ j. IsRunOutcome (B.may_end body.now) (run_of N.template N.press run.entry.crew.now.moment handle.entry) run.entry.crew.now.jobs run.entry.crew.now.inbox.id (vec_len run.entry.parts.posters) run.entry.crew.now.children.items result.0 j) }
     ensures kept { OnErr result.1 (HasNotCalled handle.entry result.0) }
+    ensures place { IfErr result.1 (λ e. e ≡ CrewFault.NoHandle → ⊥) }
 {
     let (caller, desk) = handle.unbind();
     let (caller, outcome) = thread::scope(
@@ -169,6 +171,7 @@ where
     R: Threads + Wait + Sync,
     ensures outcome { IfOk result (λ j. IsRunOutcome (B.may_end body.now) (run_of N.template N.press run.entry.crew.now.moment driver.old) run.entry.crew.now.jobs run.entry.crew.now.inbox.id (vec_len run.entry.parts.posters) run.entry.crew.now.children.items driver.new j) }
     ensures kept { OnErr result (HasNotCalled driver.old driver.new) }
+    ensures place { IfErr result (λ e. e ≡ CrewFault.NoHandle → ⊥) }
 {
     replace_with(
         driver,
@@ -207,6 +210,7 @@ where
     requires turns { (1 ≤ plan.turns) × (plan.turns ≤ 2 ^ 62) }
     ensures ran { IfOk result (λ r. IsRun (B.may_end body.now) (run_of N.template N.press plan.moment driver.old) plan.children.items driver.new r) }
     ensures kept { OnErr result ((driver.new.calls ≡ driver.old.calls) × (driver.new.number ≡ driver.old.number)) }
+    ensures place { IfErr result (λ e. e ≡ CrewFault.NoHandle → ⊥) }
 {
     let Prepared {
         crew,

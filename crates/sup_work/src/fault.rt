@@ -1,6 +1,7 @@
 //! Why a run could not begin.
 ghost use Rattle.std.specs.Prelude.{◌≡◌};
 ghost use Rattle.sup_work.specs.Faults.{crew_fault_number};
+ghost use Rattle.sup_work.specs.declared.fault.CrewFault.TheVariants as crew;
 
 use sup_desk::HandleFault;
 use sup_types::OutOfMemory;
@@ -34,6 +35,8 @@ impl CrewFault {
 }
 
 impl From<OutOfMemory> for CrewFault {
+    ghost from_gives = { λ _ f. f ≡ crew.OutOfMemory };
+
     fn from(_fault: OutOfMemory) -> Self {
         CrewFault::OutOfMemory
     }

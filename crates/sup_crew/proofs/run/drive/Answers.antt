@@ -5,8 +5,8 @@ use Rattle.sup_crew.specs.Drivers.{run_of, DriverModel, HasDriven, IsCause}
 use Rattle.sup_crew.proofs.Driven.{driven_begins, none_before}
 use Rattle.sup_crew.proofs.run.drive.Goals as goal
 
-pub returns : goal.returns
-returns g c =
+pub returns-clause-outcome : goal.returns-clause-outcome
+returns-clause-outcome g c =
     let h = c.in-Ok.ensures in
     let s = c.start_all-started.ensures in
     let f = c.drain_all-fault.ensures in
@@ -44,5 +44,5 @@ returns g c =
       worked = c.join_all-finished.ensures.each;
     }
 
-pub returns-in-Err : goal.returns-in-Err
-returns-in-Err g c = (refl, refl)
+pub returns-in-Err-clause-outcome : goal.returns-in-Err-clause-outcome
+returns-in-Err-clause-outcome g c = (refl, refl)
