@@ -109,10 +109,10 @@ impl<N: Name, S: Starter + Drop, R: Wait + Drop, J: Journal + Drop> Desk<N, S, R
 
     /// A handle that has seen all of the history and made no call. It waits for the lock. After a refusal nothing has changed.
     ///
-    /// With the third handle or asker at a time and with the 9th, a desk that has room for more puts more places to use, and each update
-    /// takes longer from then on. With the 33rd they come to share places. Then an update takes as long with however many,
-    /// and a query takes longer, the more so beside others. To change places waits for the queries which look, as an update does. A desk
-    /// whose journal broke off does not change any more: a handle that would need it is refused (NoPlace).
+    /// With the third handle or asker at a time, a desk that has room for more puts more places to use, and each update takes longer from
+    /// then on. With the 9th they come to share places. Then an update takes as long with however many, and a query takes longer, the
+    /// more so beside others. To change places waits for the queries which look, as an update does. A desk whose journal broke off does
+    /// not change any more: a handle that would need it is refused (NoPlace).
     pub fn handle<W: Wait>(&self, rt: &W) -> Result<HandleOf<'_, N, Desk<N, S, R, J>>, HandleFault>
         ensures { IfOk result (λ h. (h.calls ≡ []) × (entries_of h.front h.number ≡ []) × (1 ≤ h.number)) }
     {

@@ -6,10 +6,12 @@
 //! Two lists of entries change places: that of the pending ones, and that of the last publication, which the copy lacks that is
 //! shown no more.
 //!
-//! Few lenses have places in tables ([`crate::wider`]), each with a writer of its own. More of them share slots
-//! ([`crate::pairs`]). The copies are in one of these. What the others show was never stepped, and no lens enters them before they are
-//! in use.
-ghost use Rattle.std.specs.Prelude.{◌≡◌, ◌==◌, ◌<◌, ◌≤◌, List, [], ◌∷◌, ◌++◌, fold, is_some, true, false, Some, None, IfOk, IfSome};
+//! Few lenses have places in tables, each with a writer of its own. `left_right` visits each place for a lens in its table at each
+//! publication, whether a lens has it or not. So a press begins with a table of two places, and puts a wider one to use once a lens
+//! finds none. A lens has a place in both from the start, since nobody can reach it later: when its table is closed, it goes on to the
+//! other. More lenses share slots ([`crate::pairs`]). The copies are in one of these. What the others show was never stepped, and no
+//! lens enters them before they are in use.
+ghost use Rattle.std.specs.Prelude.{◌≡◌, ◌==◌, ◌<◌, ◌≤◌, List, [], fold, is_some, true, false, Some, None, IfOk, IfSome};
 ghost use Rattle.std.specs.Arc.{arc_value};
 ghost use Rattle.left_right.specs.Sides.{view};
 ghost use Rattle.logbook.specs.Pages.{Book};
@@ -21,7 +23,6 @@ ghost use Rattle.sup_log.specs.Absorbing.{taken, grown};
 ghost use Rattle.sup_log.specs.Fronts.{Follows, IsPlaceOf};
 ghost use Rattle.sup_log.specs.Pairs.{IsPairOf};
 ghost use Rattle.sup_log.specs.Stages.{staged, IsReserveFor};
-ghost use Rattle.sup_log.specs.Tables.{AllOf};
 ghost use Rattle.sup_log.specs.Tokens.{Sight, IsFresh, IsLawful};
 
 use crate::faults::NoPlace;
@@ -32,13 +33,18 @@ use crate::stage::Stage;
 use crate::table::Table;
 use crate::ticket::Ticket;
 use crate::view::View;
-use crate::wider::{FIRST, LAST, NEXT, Wider};
 use core::mem::{replace, swap};
 use std::alloc::Global;
 use std::marker::Model;
 use std::sync::{Arc, Wait};
 use sup_core::Asked;
 use sup_types::{Entry, Operation, OutOfMemory, Reply, Template};
+
+/// The places of the table that is in use first, where more are asked for.
+const FIRST: usize = 2;
+
+/// The places of the wider table, and the most that a table has. More lenses share slots.
+const MOST: usize = 8;
 
 /// A list that has room for more entries than this gives its memory back once its entries were taken.
 const FEW_ENTRIES: usize = 64;
@@ -49,8 +55,8 @@ const OWNERS: usize = 2;
 /// The two copies, of which lenses look at one. It is not `Drop`: end it by `close`.
 pub struct Copies {
     stage: Stage,
-    // The tables that are not in use yet.
-    wider: Wider<Table>,
+    // The wider table, until it is in use.
+    wider: Option<Table>,
     // The slots that lenses share once there are more than tables have places, if there may be so many.
     pairs: Option<Arc<Pairs>>,
     places: usize,
@@ -60,10 +66,10 @@ pub struct Copies {
     other: Other,
 }
 
-/// What a lens looks through: its place in the table in use, those in the tables that are not in use yet, and the slots of its group.
+/// What a lens looks through: its place in the table in use, that in the wider one which is not in use yet, and the slots of its group.
 pub struct Seats {
     pub reader: Option<Seat>,
-    pub wider: Wider<Seat>,
+    pub wider: Option<Seat>,
     pub pairs: Option<Arc<Pairs>>,
     pub group: usize,
 }
@@ -84,7 +90,6 @@ impl Model for Copies {
     ghost use Rattle.sup_log.specs.Absorbing.{taken};
     ghost use Rattle.sup_log.specs.Pairs.{IsPairOf};
     ghost use Rattle.sup_log.specs.Stages.{staged, IsReserveFor};
-    ghost use Rattle.sup_log.specs.Tables.{AllOf};
     ghost use Rattle.sup_log.specs.Tokens.{Sides};
 
     ghost Value = { Sides };
@@ -97,51 +102,27 @@ impl Model for Copies {
 
     ghost invariant = { λ c. MatchOption c.other.next ((staged c.stage).has_both ≡ true) (λ _. (staged c.stage).has_both ≡ false)
         × ((staged c.stage).shown.standing.template ≡ c.template)
-        × AllOf (λ t. IsReserveFor (staged c.stage).shown t) c.wider
+        × IfSome c.wider (λ t. IsReserveFor (staged c.stage).shown t)
         × IfSome c.pairs (λ p. IsPairOf (staged c.stage).shown.press (staged c.stage).shown.standing.template (arc_value p)) };
 }
 
-/// A table that is not in use yet, where there may be more lenses than the one before has places.
+/// The wider table, where there may be more lenses than the first has places.
 fn reserve<R: Wait>(
     alloc: Global,
     rt: &R,
     template: Template,
-    before: usize,
     places: usize,
     front: &Ticket,
 ) -> Result<Option<Table>, OutOfMemory>
     requires front { front.now.front ≡ [] }
-    requires places { places ≤ 1024 }
     ensures { IfOk result (λ o. IfSome o (λ t. IsFresh front.now template t.shown × (t.has_both ≡ false))) }
 {
-    if places <= before {
+    if places <= FIRST {
         return Ok(None);
     }
-    let mut table = Table::new(alloc, rt, template, places, front)?;
+    let mut table = Table::new(alloc, rt, template, places.min(MOST), front)?;
     drop(table.take_out(rt));
     Ok(Some(table))
-}
-
-/// The tables that are not in use yet, for so many lenses at a time.
-fn reserves<R: Wait>(
-    alloc: Global,
-    rt: &R,
-    template: Template,
-    places: usize,
-    front: &Ticket,
-) -> Result<Wider<Table>, OutOfMemory>
-    requires front { front.now.front ≡ [] }
-    requires places { places ≤ 1024 }
-    ensures { IfOk result (λ r. AllOf (λ t. IsFresh front.now template t.shown × (t.has_both ≡ false)) r) }
-{
-    let next = reserve(alloc, rt, template, FIRST, places.min(NEXT), front)?;
-    match reserve(alloc, rt, template, NEXT, places.min(LAST), front) {
-        Ok(last) => Ok(Wider { last, next }),
-        Err(fault) => {
-            end(rt, next);
-            Err(fault)
-        }
-    }
 }
 
 /// Closes a table, if there is one. It waits for the lenses that look there.
@@ -160,7 +141,7 @@ fn shared(
 ) -> Result<Option<Arc<Pairs>>, OutOfMemory>
     ensures { IfOk result (λ o. IfSome o (λ p. IsPairOf front.now.press template (arc_value p))) }
 {
-    if places <= LAST {
+    if places <= MOST {
         return Ok(None);
     }
     match Arc::new(alloc, Pairs::new(front, template)) {
@@ -190,26 +171,15 @@ fn count(pairs: &Option<Arc<Pairs>>) -> usize {
     }
 }
 
-/// A place in a table that is not in use yet, if there is one.
-fn seat_in(table: &mut Option<Table>) -> Result<Option<Seat>, NoPlace>
-    ensures kept { table.new ≡ table.old }
-    ensures seat { (shown : Sight) → IfSome table.old (λ t. IsReserveFor shown t) → IfOk result (λ o. IfSome o (λ s. IsPlaceOf shown.press shown.standing.template (view s.place))) }
+/// A place in the wider table, until that is in use.
+fn seat_in(wider: &mut Option<Table>) -> Result<Option<Seat>, NoPlace>
+    ensures kept { wider.new ≡ wider.old }
+    ensures seat { (shown : Sight) → IfSome wider.old (λ t. IsReserveFor shown t) → IfOk result (λ o. IfSome o (λ s. IsPlaceOf shown.press shown.standing.template (view s.place))) }
 {
-    match table {
+    match wider {
         Some(table) => Ok(Some(table.seat()?)),
         None => Ok(None),
     }
-}
-
-/// The places of a lens in the tables that are not in use yet.
-fn seats_in(wider: &mut Wider<Table>) -> Result<Wider<Seat>, NoPlace>
-    ensures kept { wider.new ≡ wider.old }
-    ensures seats { (shown : Sight) → AllOf (λ t. IsReserveFor shown t) wider.old → IfOk result (λ s. AllOf (λ seat. IsPlaceOf shown.press shown.standing.template (view seat.place)) s) }
-{
-    Ok(Wider {
-        last: seat_in(&mut wider.last)?,
-        next: seat_in(&mut wider.next)?,
-    })
 }
 
 /// Takes the copy that is not shown out of lenses' reach, and brings it up to date. It waits for those that look at it.
@@ -261,7 +231,7 @@ impl Copies {
     {
         let pairs = shared(alloc, template, places, front)?;
         let table = Table::new(alloc, rt, template, places.min(FIRST), front)?;
-        match reserves(alloc, rt, template, places, front) {
+        match reserve(alloc, rt, template, places, front) {
             Ok(wider) => Ok(Copies {
                 stage: Stage::Places(table),
                 wider,
@@ -292,35 +262,27 @@ impl Copies {
     pub fn seats(&mut self) -> Result<Seats, NoPlace>
         ensures kept { self.new ≡ self.old }
         ensures reader { IfOk result (λ s. IfSome s.reader (λ seat. IsPlaceOf self.old.shown.press self.old.shown.standing.template (view seat.place))) }
-        ensures wider { IfOk result (λ s. AllOf (λ seat. IsPlaceOf self.old.shown.press self.old.shown.standing.template (view seat.place)) s.wider) }
+        ensures wider { IfOk result (λ s. IfSome s.wider (λ seat. IsPlaceOf self.old.shown.press self.old.shown.standing.template (view seat.place))) }
         ensures pairs { IfOk result (λ s. IfSome s.pairs (λ p. IsPairOf self.old.shown.press self.old.shown.standing.template (arc_value p))) }
     {
         let pairs = again(&self.pairs)?;
-        self.made = self.made.wrapping_add(1);
         let group = self.made;
-        match &mut self.stage {
-            Stage::Places(table) => {
-                let reader = Some(table.seat()?);
-                let wider = seats_in(&mut self.wider)?;
-                Ok(Seats {
-                    reader,
-                    wider,
-                    pairs,
-                    group,
-                })
-            }
+        let (reader, wider) = match &mut self.stage {
+            Stage::Places(table) => (Some(table.seat()?), seat_in(&mut self.wider)?),
             Stage::Slots(_) => {
                 if count(&pairs).saturating_sub(OWNERS) > self.places {
                     return Err(NoPlace);
                 }
-                Ok(Seats {
-                    reader: None,
-                    wider: Wider::none(),
-                    pairs,
-                    group,
-                })
+                (None, None)
             }
-        }
+        };
+        self.made = group.wrapping_add(1);
+        Ok(Seats {
+            reader,
+            wider,
+            pairs,
+            group,
+        })
     }
 
     /// Goes on where there are more places: whether there are. The copies move there, where the one that is shown tells the same
@@ -479,14 +441,12 @@ impl Copies {
             template: _,
             other: _other,
         } = self;
-        // (A lens goes on to the next table where it finds one closed, and then to the slots, so what is in use is the last to be
+        // (A lens goes on to the wider table where it finds one closed, and then to the slots, so what is in use is the last to be
         // closed.)
-        let Wider { last, next } = wider;
         if let (Stage::Places(_), Some(pairs)) = (&stage, &pairs) {
-            pairs.close(rt);
+            drop(pairs.close(rt, true));
         }
-        end(rt, last);
-        end(rt, next);
+        end(rt, wider);
         drop(stage.close(rt));
     }
 }

@@ -6,7 +6,6 @@ ghost use mathlib.Core.List.{IsPrefix};
 ghost use Rattle.left_right.specs.Sides.{view};
 ghost use Rattle.sup_log.specs.Fronts.{Fits, IsPlaceOf};
 ghost use Rattle.sup_log.specs.Pairs.{IsPairOf};
-ghost use Rattle.sup_log.specs.Tables.{AllOf};
 ghost use Rattle.sup_log.specs.Tokens.{sight};
 
 use crate::faults::Gone;
@@ -14,7 +13,6 @@ use crate::pairs::Pairs;
 use crate::publication::{Known, Published, Sees};
 use crate::ticket::Ticket;
 use crate::view::View;
-use crate::wider::Wider;
 use core::mem::replace_with;
 use left_right::reader::Reader;
 use std::marker::Model;
@@ -23,16 +21,13 @@ use sup_types::Template;
 
 pub(crate) type Seat = Reader<View, Known, Published>;
 
-/// Its places in the tables that are not in use yet, if there are such tables. They lie apart: one word is handed on by value
-/// where the places themselves would be handed on by reference, and then a loop that looks could not keep its lens in registers.
-pub(crate) type Later = Option<Box<Wider<Reader<View, Known, Published>>>>;
-
 /// A reader's place: it looks at what was published, with no lock, and never goes back.
 #[derive(Drop)]
 pub struct Lens {
     // Its place in the table in use. None once it found that one closed, and no other.
     pub(crate) reader: Option<Reader<View, Known, Published>>,
-    pub(crate) wider: Option<Box<Wider<Reader<View, Known, Published>>>>,
+    // Its place in the wider table, until that is in use.
+    pub(crate) wider: Option<Reader<View, Known, Published>>,
     pub(crate) pairs: Option<Arc<Pairs>>,
     // Which slots it shares.
     pub(crate) group: usize,
@@ -46,7 +41,6 @@ impl Model for Lens {
     ghost use Rattle.std.specs.Arc.{arc_value};
     ghost use Rattle.sup_log.specs.Fronts.{IsPlaceOf};
     ghost use Rattle.sup_log.specs.Pairs.{IsPairOf};
-    ghost use Rattle.sup_log.specs.Tables.{AllOf};
     ghost use Rattle.sup_log.specs.Tokens.{Sighted};
 
     ghost Value = { Sighted };
@@ -54,7 +48,7 @@ impl Model for Lens {
     ghost view = { λ l. record { press = l.front.press; template = l.template; editions = l.front.editions; front = l.front.front } };
 
     ghost invariant = { λ l. IfSome l.reader (λ s. IsPlaceOf l.front.press l.template s.place.me.0.client)
-        × IfSome l.wider (λ b. AllOf (λ s. IsPlaceOf l.front.press l.template s.place.me.0.client) b.value)
+        × IfSome l.wider (λ s. IsPlaceOf l.front.press l.template s.place.me.0.client)
         × IfSome l.pairs (λ p. IsPairOf l.front.press l.template (arc_value p)) };
 }
 
@@ -121,86 +115,6 @@ fn read_in_place<T, F: FnOnce(&View) -> T>(
     }
 }
 
-/// The same in the next table, and in those behind it where that is closed, too. The place where it ended, and what is behind it.
-fn read_on<T, F: FnOnce(&View) -> T>(
-    wider: Later,
-    template: &Template,
-    front: Ticket,
-    f: F,
-) -> (Option<Seat>, (Later, Result<(Ticket, T), Missed<F>>))
-    requires wider { IfSome wider (λ b. AllOf (λ s. IsPlaceOf front.press template.now (view s.place)) b.value) }
-    requires callable { F.IsAlwaysCallable f }
-    ensures place { IfSome result.0 (λ s. IsPlaceOf front.press template.now (view s.place)) }
-    ensures wider { IfSome result.1.0 (λ b. AllOf (λ s. IsPlaceOf front.press template.now (view s.place)) b.value) }
-    ensures front { IfOk result.1.1 (λ r. (r.0.press ≡ front.press) × IsPrefix front.front r.0.front × IsPrefix front.editions r.0.editions) }
-    ensures answer { IfOk result.1.1 (λ r. FnOnceReturnsAt F.FnOnce f (sight (record { press = r.0.press; template = template.now; editions = r.0.editions; front = r.0.front })) r.1) }
-    ensures back { IfErr result.1.1 (λ m. (g : F) → m ≡ Missed.Closed g → g ≡ f) }
-{
-    let Some(mut wider) = wider else {
-        return (None, (None, Err(Missed::Closed(f))));
-    };
-    let Some(next) = wider.take() else {
-        return (None, (None, Err(Missed::Closed(f))));
-    };
-    let (reader, seen) = read(next, front.copied(), f);
-    match seen {
-        Ok(seen) => (Some(reader), (Some(wider), Ok(seen))),
-        Err(Missed::Behind) => (Some(reader), (Some(wider), Err(Missed::Behind))),
-        Err(Missed::Closed(f)) => read_on(Some(wider), template, front, f),
-    }
-}
-
-/// The same in the slots of this group, if there are any.
-fn read_shared<T, F: FnOnce(&View) -> T>(
-    pairs: &Option<Arc<Pairs>>,
-    group: usize,
-    template: &Template,
-    front: &Ticket,
-    f: F,
-) -> Result<(Ticket, T), Gone>
-    requires pairs { IfSome pairs.now (λ p. IsPairOf front.now.press template.now (arc_value p)) }
-    requires callable { F.IsAlwaysCallable f }
-    ensures front { IfOk result (λ r. (r.0.press ≡ front.now.press) × IsPrefix front.now.front r.0.front × IsPrefix front.now.editions r.0.editions) }
-    ensures answer { IfOk result (λ r. FnOnceReturnsAt F.FnOnce f (sight (record { press = r.0.press; template = template.now; editions = r.0.editions; front = r.0.front })) r.1) }
-{
-    let _ = template;
-    match pairs {
-        Some(pairs) => pairs.look(group, front, f),
-        None => Err(Gone),
-    }
-}
-
-/// The same in the tables that are not in use yet, and then in the slots.
-fn read_further<T, F: FnOnce(&View) -> T>(
-    wider: Later,
-    pairs: &Option<Arc<Pairs>>,
-    group: usize,
-    template: &Template,
-    front: &Ticket,
-    f: F,
-) -> (Option<Seat>, (Later, Result<(Ticket, T), Gone>))
-    requires wider { IfSome wider (λ b. AllOf (λ s. IsPlaceOf front.now.press template.now (view s.place)) b.value) }
-    requires pairs { IfSome pairs.now (λ p. IsPairOf front.now.press template.now (arc_value p)) }
-    requires callable { F.IsAlwaysCallable f }
-    ensures place { IfSome result.0 (λ s. IsPlaceOf front.now.press template.now (view s.place)) }
-    ensures wider { IfSome result.1.0 (λ b. AllOf (λ s. IsPlaceOf front.now.press template.now (view s.place)) b.value) }
-    ensures front { IfOk result.1.1 (λ r. (r.0.press ≡ front.now.press) × IsPrefix front.now.front r.0.front × IsPrefix front.now.editions r.0.editions) }
-    ensures answer { IfOk result.1.1 (λ r. FnOnceReturnsAt F.FnOnce f (sight (record { press = r.0.press; template = template.now; editions = r.0.editions; front = r.0.front })) r.1) }
-{
-    let Some(wider) = wider else {
-        return (None, (None, read_shared(pairs, group, template, front, f)));
-    };
-    let (reader, (wider, seen)) = read_on(Some(wider), template, front.copied(), f);
-    match seen {
-        Ok(seen) => (reader, (wider, Ok(seen))),
-        Err(Missed::Behind) => (reader, (wider, Err(Gone))),
-        Err(Missed::Closed(f)) => (
-            reader,
-            (wider, read_shared(pairs, group, template, front, f)),
-        ),
-    }
-}
-
 impl Lens {
     /// Enters, calls `f` once on a copy that has absorbed one front, and leaves. The front begins with all that the
     /// lens had seen or learnt, and is then what it has seen. Where the press is gone, `f` is not called and nothing
@@ -221,11 +135,36 @@ impl Lens {
                 Ok(answer)
             }
             Err(Missed::Behind) => Err(Gone),
-            Err(Missed::Closed(f)) => self.look_on(f),
+            Err(Missed::Closed(f)) => {
+                if self.reader.is_some() {
+                    self.look_on(f)
+                } else {
+                    self.look_shared(f)
+                }
+            }
         }
     }
 
-    /// The same where its place is in use no more.
+    /// The same in the slots of its group, if there are any. What it calls is inlined here: else what the lens has seen would be
+    /// written, and read again in larger pieces, for which the processor waits.
+    #[inline(never)]
+    fn look_shared<T, F: FnOnce(&View) -> T>(&mut self, f: F) -> Result<T, Gone>
+        requires { F.IsAlwaysCallable f }
+        ensures press { (self.new.press ≡ self.old.press) × (self.new.template ≡ self.old.template) }
+        ensures front { IsPrefix self.old.front self.new.front }
+        ensures editions { IsPrefix self.old.editions self.new.editions }
+        ensures answer { IfOk result (λ r. FnOnceReturnsAt F.FnOnce f (sight self.new) r) }
+        ensures gone { OnErr result (self.new ≡ self.old) }
+    {
+        let Some(pairs) = &self.pairs else {
+            return Err(Gone);
+        };
+        let (seen, answer) = pairs.look(self.group, &self.front, f)?;
+        self.front = seen;
+        Ok(answer)
+    }
+
+    /// The same where its place is in use no more: in the wider table, and then in the slots.
     #[inline(never)]
     fn look_on<T, F: FnOnce(&View) -> T>(&mut self, f: F) -> Result<T, Gone>
         requires { F.IsAlwaysCallable f }
@@ -235,20 +174,18 @@ impl Lens {
         ensures answer { IfOk result (λ r. FnOnceReturnsAt F.FnOnce f (sight self.new) r) }
         ensures gone { OnErr result (self.new ≡ self.old) }
     {
-        let wider = self.wider.take();
-        let (reader, (wider, seen)) = read_further(
-            wider,
-            &self.pairs,
-            self.group,
-            &self.template,
-            &self.front,
-            f,
-        );
-        self.reader = reader;
-        self.wider = wider;
-        let (seen, answer) = seen?;
-        self.front = seen;
-        Ok(answer)
+        self.reader = self.wider.take();
+        match read_in_place(&mut self.reader, &self.template, self.front.copied(), f) {
+            Ok((front, answer)) => {
+                self.front = front;
+                Ok(answer)
+            }
+            Err(Missed::Behind) => Err(Gone),
+            Err(Missed::Closed(f)) => {
+                self.reader = None;
+                self.look_shared(f)
+            }
+        }
     }
 
     /// From now on its front begins with the ticket's. It enters nothing and always succeeds.

@@ -27,10 +27,11 @@
 //! publication, which one copy lacks, and brings that copy up to date when it takes it from its readers. The queue of operations
 //! that `left_right`'s writer has stays empty. So a publication of up to 64 entries takes no memory.
 //!
-//! A publication visits each place for a lens. So a press begins with two places, and has more once a lens finds none: 8, and then 32.
-//! Up to two lenses, the room for others costs a publication nothing. With the 33rd they come to share slots, each with one count of
-//! those that look at its copy (`counted_slot`): a quarter of them has two slots. Then a publication takes as long with 1,024 lenses as
-//! with 33, and a look tries again where another look or a publication came between.
+//! A publication visits each place for a lens. So a press begins with two places, and has 8 once a lens finds none. Up to two lenses,
+//! the room for others costs a publication nothing. With the 9th they come to share slots, each with one count of those that look at its
+//! copy (`counted_slot`). All come to one slot until looks meet there; then each quarter of the lenses has its own, until the next
+//! publication. So a publication takes as long with 1,024 lenses as with 9, and a look tries again where another look or a publication
+//! came between.
 #![tactic(auto)]
 
 mod copies;
@@ -47,7 +48,6 @@ mod stage;
 mod table;
 mod ticket;
 mod view;
-mod wider;
 
 pub use faults::{Gone, NoPlace};
 pub use lens::Lens;

@@ -1,8 +1,8 @@
 //! Slots: where the copies lie once there are more lenses than tables have places.
 //!
 //! A slot of `counted_slot` has one count of the lenses that look at its copy, however many lenses there are. It is free where no copy
-//! lies in it, and present where lenses may come to its copy. It is marked where no lens comes any more, and is freed once those
-//! that look there have left.
+//! lies in it, and present where lenses may come to its copy. Where lenses still look at a copy that the press wants back, it marks the
+//! slot: no other lens comes then, and the press waits until those have left.
 ghost use Rattle.std.specs.Prelude.{◌≡◌, IfOk, IfErr, IfSome};
 ghost use Rattle.std.specs.Fn.{FnOnceReturnsAt};
 ghost use mathlib.Core.List.{IsPrefix};
@@ -129,11 +129,12 @@ pub fn read_claimed<T, F: FnOnce(&View) -> T>(
     }
 }
 
-/// Enters a slot, if a copy is present, and says whether another lens looks there. It tries again where another look came between.
-pub fn entered(slot: &Slot) -> Option<(Claim<'_, Option<Shelved>>, bool)>
+/// Enters a slot whose word was this, if a copy is present, and says whether another lens looks there. It tries again where another
+/// look came between.
+pub fn entered(slot: &Slot, word: u64) -> Option<(Claim<'_, Option<Shelved>>, bool)>
     ensures { IfSome result (λ c. (c.0.right ≡ 1) × (c.0.tag ≡ slot.now)) }
 {
-    let mut word = slot.load();
+    let mut word = word;
     for _ in 0..u64::MAX {
         if word % 4 != PRESENT || word >= CROWDED {
             return None;

@@ -1,47 +1,55 @@
 //! The writer's side of the slots: it shows one copy after the other, and takes back the one that is shown no more.
-ghost use Rattle.std.specs.Prelude.{◌≡◌, ◌%◌, true, false, is_some, Some, None, IfSome};
+ghost use Rattle.std.specs.Prelude.{◌≡◌, ◌%◌, true, false, IfSome};
 ghost use Rattle.std.specs.Arc.{arc_value};
 ghost use Rattle.sup_log.specs.Fronts.{Follows};
-ghost use Rattle.sup_log.specs.Tokens.{IsLawful};
+ghost use Rattle.sup_log.specs.Pairs.{IsShelfOf};
+ghost use Rattle.sup_log.specs.Tokens.{IsLawful, standing};
 
 use crate::pair::{AWAITED, CLOSED, CROWDED, Shelf, Shelved, Slot};
 use crate::pairs::{GROUPS, Pairs};
+use crate::ticket::Ticket;
 use crate::view::View;
-use core::mem::swap;
+use core::mem::replace;
 use counted_slot::{Claim, FREE, MARKED, PRESENT, TAKEN};
 use crossbeam_utils::Backoff;
 use std::marker::Model;
 use std::sync::atomic::{AtomicU64, Ordering};
 use std::sync::{Arc, Wait};
 
-/// Shows copies in the slots of all groups. It is one owner of each shelf, and each slot in which it lies is another.
+/// Shows copies in the slots of all groups. It knows them by the fronts that they tell: a copy of its press and template is the
+/// supervisor after its front.
 #[derive(Drop)]
 pub struct PairWriter {
     pairs: Arc<Pairs>,
     is_left: bool,
-    shown: Arc<Option<Box<View>>>,
-    // That of the copy which was shown before. Nothing lies there once that copy was taken back.
-    before: Arc<Option<Box<View>>>,
+    shown: Ticket,
+    before: Before,
+}
+
+/// The copy that was shown before.
+#[derive(Drop)]
+pub enum Before {
+    /// It lies in the slots of its side, and tells this front.
+    There(Ticket),
+    /// It was taken back, and its shelf is free.
+    Back(Arc<Option<Box<View>>>),
 }
 
 impl Model for PairWriter {
-    ghost use Rattle.std.specs.Prelude.{◌≡◌, true, is_some};
+    ghost use Rattle.std.specs.Prelude.{◌≡◌};
     ghost use Rattle.std.specs.Arc.{arc_value};
-    ghost use Rattle.std.specs.Option.{option_map_or};
-    ghost use Rattle.sup_log.specs.Fronts.{unknown};
+    ghost use Rattle.sup_log.specs.Pairs.{shown_by, spare_of, is_there, IsBeforeOf};
     ghost use Rattle.sup_log.specs.Tokens.{Staged};
 
     ghost Value = { Staged };
 
     ghost view = { λ w. record {
-      shown = option_map_or (λ b. b.value) (arc_value w.shown) unknown.view;
-      spare = option_map_or (λ b. b.value.standing) (arc_value w.before) unknown.view.standing;
-      has_both = is_some (arc_value w.before);
+      shown = shown_by (arc_value w.pairs).template w.shown;
+      spare = spare_of (arc_value w.pairs).template w.before;
+      has_both = is_there w.before;
     } };
 
-    ghost invariant = { λ w. (is_some (arc_value w.shown) ≡ true)
-        × ((option_map_or (λ b. b.value) (arc_value w.shown) unknown.view).press ≡ (arc_value w.pairs).front.press)
-        × ((option_map_or (λ b. b.value) (arc_value w.shown) unknown.view).standing.template ≡ (arc_value w.pairs).template) };
+    ghost invariant = { λ w. (w.shown.press ≡ (arc_value w.pairs).front.press) × IsBeforeOf (arc_value w.pairs).front.press w.before };
 }
 
 /// Takes a free slot, to write there.
@@ -59,30 +67,18 @@ fn taken<'a, R: Wait>(rt: &R, slot: &'a Slot) -> Claim<'a, Option<Shelved>>
     unreachable!()
 }
 
-/// Puts the copy on this shelf into a free slot. Lenses may come to it once that side is shown.
-fn fill<R: Wait>(rt: &R, slot: &Slot, shelf: &Shelf)
-    requires { IfSome (arc_value shelf.now) (λ b. (b.value.press ≡ slot.now.front.press) × (b.value.standing.template ≡ slot.now.template) × IsLawful b.value) }
+/// Puts what lies on this shelf into a free slot. Lenses may come to it once that side is shown.
+fn fill<R: Wait>(rt: &R, slot: &Slot, shelf: Shelf)
+    requires { IsShelfOf slot.now (arc_value shelf) }
 {
-    for _ in rt.forever() {
-        // (There are never so many owners that it is refused.)
-        if let Ok(shelf) = Arc::try_clone(shelf) {
-            drop(taken(rt, slot).put(Some(Shelved { shelf }), PRESENT));
-            return;
-        }
-    }
+    drop(taken(rt, slot).put(Some(Shelved { shelf }), PRESENT));
 }
 
-/// Marks a slot, to which lenses come no more. It tries again where a lens came or went meanwhile.
-fn mark<R: Wait>(rt: &R, slot: &Slot) {
-    for _ in rt.forever() {
-        let word = slot.load();
-        if word % 4 == PRESENT && word < CROWDED {
-            let (found, claim) = slot.turn(word, word + (MARKED - PRESENT));
-            claim.done();
-            if found == word {
-                return;
-            }
-        }
+/// Marks a slot in which lenses look, so that no other comes.
+fn mark(slot: &Slot, word: u64) {
+    if word % 4 == PRESENT && word < CROWDED {
+        let (_, claim) = slot.turn(word, word + (MARKED - PRESENT));
+        claim.done();
     }
 }
 
@@ -94,22 +90,24 @@ fn await_the_last(slot: &Slot, word: u64) {
     }
 }
 
-/// Takes what lies in a marked slot, once each lens that looks there has left, and leaves the slot with this word. For a while
-/// it yields and tries again, and then it sleeps.
-fn vacate<R: Wait>(rt: &R, slot: &Slot, bell: &AtomicU64, word: u64)
+/// Takes what lies in a slot that is shown no more, and leaves the slot with this word. Where lenses look there it marks the slot, and
+/// waits until each has left: for a while it yields and tries again, and then it sleeps.
+fn vacate<R: Wait>(rt: &R, slot: &Slot, bell: &AtomicU64, word: u64) -> Option<Shelved>
     requires { word % 4294967296 ≡ 0 }
+    ensures { IfSome result (λ s. IsShelfOf slot.now (arc_value s.shelf)) }
 {
     let backoff = Backoff::new();
     for _ in rt.forever() {
         let rung = bell.load(Ordering::SeqCst);
         let seen = slot.load();
-        if seen == MARKED || seen == MARKED + AWAITED {
+        if seen == PRESENT || seen == MARKED || seen == MARKED + AWAITED {
             let (found, claim) = slot.turn(seen, TAKEN);
             if found == seen {
-                drop(claim.put(None, word));
-                return;
+                return claim.put(None, word);
             }
             claim.done();
+        } else if seen % 4 == PRESENT {
+            mark(slot, seen);
         } else if !backoff.is_completed() {
             backoff.snooze();
         } else if seen < AWAITED {
@@ -118,17 +116,17 @@ fn vacate<R: Wait>(rt: &R, slot: &Slot, bell: &AtomicU64, word: u64)
             bell.park(rt, (rung % (1 << 32)) as u32);
         }
     }
+    unreachable!()
 }
 
-/// Ends a slot. It waits for the lenses that look there.
-fn end<R: Wait>(rt: &R, slot: &Slot, bell: &AtomicU64) {
-    match slot.load() % 4 {
-        FREE => drop(taken(rt, slot).put(None, CLOSED)),
-        PRESENT => {
-            mark(rt, slot);
-            vacate(rt, slot, bell, CLOSED);
-        }
-        _ => vacate(rt, slot, bell, CLOSED),
+/// Ends a slot. What lay there. It waits for the lenses that look there.
+fn end<R: Wait>(rt: &R, slot: &Slot, bell: &AtomicU64) -> Option<Shelved>
+    ensures { IfSome result (λ s. IsShelfOf slot.now (arc_value s.shelf)) }
+{
+    if slot.load() == FREE {
+        taken(rt, slot).put(None, CLOSED)
+    } else {
+        vacate(rt, slot, bell, CLOSED)
     }
 }
 
@@ -143,55 +141,82 @@ fn put<R: Wait>(rt: &R, shelf: &mut Shelf, copy: Box<View>)
     }
 }
 
-/// Takes the copy from a shelf that no slot has.
-fn taken_off<R: Wait>(rt: &R, shelf: &mut Shelf) -> Box<View>
-    requires { is_some (arc_value shelf.old) ≡ true }
-    ensures copy { arc_value shelf.old ≡ Some result }
-    ensures empty { arc_value shelf.new ≡ None }
+/// Takes the copy from a shelf that has one owner.
+fn copy_on(shelf: &mut Shelf) -> Option<Box<View>>
+    ensures { IfSome result (λ b. arc_value shelf.old ≡ Some b) }
 {
-    // (No slot has it, so it has no other owner. No clause says so.)
-    if let Some(place) = Arc::get_mut(shelf) {
-        match place.take() {
-            Some(copy) => return copy,
-            None => unreachable!(),
-        }
+    match Arc::get_mut(shelf) {
+        Some(place) => place.take(),
+        None => None,
     }
-    for _ in rt.forever() {}
-    unreachable!()
+}
+
+/// Whether this copy tells just this front.
+fn is_front_of(front: &Ticket, copy: &View) -> bool
+    requires { front.now.press ≡ copy.now.press }
+    ensures { result ≡ true → front.now.front ≡ copy.now.front }
+{
+    front.begins(copy.front()) && copy.front().begins(front)
 }
 
 impl Pairs {
-    /// Puts the copy on this shelf into the free slot of the first pair.
-    fn fill<R: Wait>(&self, rt: &R, is_left: bool, shelf: &Shelf)
-        requires { IfSome (arc_value shelf.now) (λ b. (b.value.press ≡ self.now.front.press) × (b.value.standing.template ≡ self.now.template) × IsLawful b.value) }
+    /// Puts what lies on this shelf into the free slot of the first pair.
+    fn fill<R: Wait>(&self, rt: &R, is_left: bool, shelf: Shelf)
+        requires { IsShelfOf self.now (arc_value shelf) }
     {
         fill(rt, self.pair(0).slot(is_left), shelf);
     }
 
-    /// Shows this side from now on, and marks the first pair's slot of the other.
-    fn turn<R: Wait>(&self, rt: &R, is_left: bool) {
-        self.is_left.store(is_left, Ordering::SeqCst);
-        mark(rt, self.pair(0).slot(!is_left));
+    /// Takes the copy that tells this front from its shelf.
+    fn taken_off<R: Wait>(
+        &self,
+        rt: &R,
+        shelved: Option<Shelved>,
+        front: &Ticket,
+    ) -> (Shelf, Box<View>)
+        requires shelf { IfSome shelved (λ s. IsShelfOf self.now (arc_value s.shelf)) }
+        requires press { front.now.press ≡ self.now.front.press }
+        ensures { result.1.value.standing ≡ standing self.now.template front.now.front }
+    {
+        if let Some(Shelved { shelf }) = shelved {
+            let mut shelf = shelf;
+            if let Some(copy) = copy_on(&mut shelf)
+                && is_front_of(front, &copy)
+            {
+                return (shelf, copy);
+            }
+        }
+        // (What lay in the first pair's slot tells that front, and no other slot has it any more. No clause says so.)
+        for _ in rt.forever() {}
+        unreachable!()
     }
 
-    /// Frees the slots of this side. It waits for the lenses that look there: first in the marked slot, from where they spread the copy.
-    fn vacate<R: Wait>(&self, rt: &R, is_left: bool) {
-        vacate(rt, self.pair(0).slot(is_left), &self.bell, FREE);
+    /// Frees the slots of this side. What lay in the first pair's slot. It waits for the lenses that look there: first in the first
+    /// pair's slot, from where they spread the copy.
+    fn vacate<R: Wait>(&self, rt: &R, is_left: bool) -> Option<Shelved>
+        ensures { IfSome result (λ s. IsShelfOf self.now (arc_value s.shelf)) }
+    {
+        let first = vacate(rt, self.pair(0).slot(is_left), &self.bell, FREE);
         for group in 1..GROUPS {
             let slot = self.pair(group).slot(is_left);
             if slot.load() != FREE {
-                mark(rt, slot);
-                vacate(rt, slot, &self.bell, FREE);
+                drop(vacate(rt, slot, &self.bell, FREE));
             }
         }
+        first
     }
 
-    /// Ends all slots, the first pair's first. It waits for the lenses that look there.
-    pub fn close<R: Wait>(&self, rt: &R) {
-        for group in 0..GROUPS {
-            end(rt, self.pair(group).slot(true), &self.bell);
-            end(rt, self.pair(group).slot(false), &self.bell);
+    /// Ends all slots, the first pair's first. What lay in the slot of this side there. It waits for the lenses that look there.
+    pub fn close<R: Wait>(&self, rt: &R, is_left: bool) -> Option<Shelved>
+        ensures { IfSome result (λ s. IsShelfOf self.now (arc_value s.shelf)) }
+    {
+        let first = end(rt, self.pair(0).slot(is_left), &self.bell);
+        drop(end(rt, self.pair(0).slot(!is_left), &self.bell));
+        for group in 1..GROUPS {
+            drop(end(rt, self.pair(group).slot(true), &self.bell));
+            drop(end(rt, self.pair(group).slot(false), &self.bell));
         }
+        first
     }
 }
 
@@ -207,19 +232,19 @@ impl PairWriter {
         requires press { copy.value.press ≡ (arc_value pairs).front.press }
         requires template { copy.value.standing.template ≡ (arc_value pairs).template }
         requires lawful { IsLawful copy.value }
-        requires none { arc_value before ≡ None }
         ensures shown { result.shown ≡ copy.value }
         ensures one { result.has_both ≡ false }
     {
-        let mut shown = shown;
-        put(rt, &mut shown, copy);
-        pairs.fill(rt, true, &shown);
+        let front = copy.front().copied();
+        let mut shelf = shown;
+        put(rt, &mut shelf, copy);
+        pairs.fill(rt, true, shelf);
         pairs.is_left.store(true, Ordering::SeqCst);
         PairWriter {
             pairs,
             is_left: true,
-            shown,
-            before,
+            shown: front,
+            before: Before::Back(before),
         }
     }
 
@@ -231,12 +256,19 @@ impl PairWriter {
         ensures spare { self.new.spare ≡ self.old.shown.standing }
         ensures both { self.new.has_both ≡ true }
     {
+        let front = copy.front().copied();
         let next = !self.is_left;
-        put(rt, &mut self.before, copy);
-        self.pairs.fill(rt, next, &self.before);
-        self.pairs.turn(rt, next);
+        let before = Before::There(replace(&mut self.shown, front));
+        let Before::Back(shelf) = replace(&mut self.before, before) else {
+            unreachable!()
+        };
+        let mut shelf = shelf;
+        put(rt, &mut shelf, copy);
+        self.pairs.fill(rt, next, shelf);
+        // (Release is enough. A lens that reads the new side finds the copy in its slot, and one that entered a slot then reads each side
+        // that was shown before the slot was filled, or a later one.)
+        self.pairs.is_left.store(next, Ordering::Release);
         self.is_left = next;
-        swap(&mut self.shown, &mut self.before);
     }
 
     /// Takes back the copy that is shown no more. It waits for those that look at it.
@@ -245,8 +277,13 @@ impl PairWriter {
         ensures one { self.new ≡ record self.old { has_both = false; spare = self.new.spare } }
         ensures copy { result.value.standing ≡ self.old.spare }
     {
-        self.pairs.vacate(rt, !self.is_left);
-        taken_off(rt, &mut self.before)
+        let Before::There(front) = &self.before else {
+            unreachable!()
+        };
+        let shelved = self.pairs.vacate(rt, !self.is_left);
+        let (shelf, copy) = self.pairs.taken_off(rt, shelved, front);
+        self.before = Before::Back(shelf);
+        copy
     }
 
     /// Ends the slots. It waits for the lenses that look there. The copy that was shown.
@@ -255,11 +292,12 @@ impl PairWriter {
     {
         let PairWriter {
             pairs,
-            is_left: _,
-            mut shown,
+            is_left,
+            shown,
             before: _before,
         } = self;
-        pairs.close(rt);
-        taken_off(rt, &mut shown)
+        let shelved = pairs.close(rt, is_left);
+        let (_, copy) = pairs.taken_off(rt, shelved, &shown);
+        copy
     }
 }

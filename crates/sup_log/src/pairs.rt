@@ -4,15 +4,15 @@
 //! of them. Looks pay for it: those at the same time change the same word. So the lenses are in four groups, and each group has a pair
 //! of slots of its own.
 //!
-//! A publication puts the next copy into the free slot of the first pair. Then it turns the side to which lenses come, and marks the
-//! other slot. All lenses come to the first pair's slot as long as they come one after the other. A lens that finds another there puts
-//! the copy into its own group's slot, too, while it looks. From then on its group comes to that one, until the next publication.
-//! A copy is taken back once it is in no slot: first from the first pair, so that no lens is left that might spread it, and then
-//! from the others where it was spread.
+//! A publication puts the next copy into the free slot of the first pair, and then turns the side to which lenses come. All lenses come
+//! to the first pair's slot as long as they come one after the other. A lens that finds another there puts the copy into its own group's
+//! slot, too, while it looks. From then on its group comes to that one, until the next publication. A copy is taken back once nobody
+//! looks at it in any slot: first from the first pair, so that no lens is left that might spread it, and then from the others where it
+//! was spread.
 //!
 //! A lens that comes to a slot looks once more which side is shown: the side is turned in one step for all groups, so that no lens
 //! sees a copy before each lens could.
-ghost use Rattle.std.specs.Prelude.{◌≡◌, IfOk, IfErr, IfSome};
+ghost use Rattle.std.specs.Prelude.{◌≡◌, IfOk, IfErr};
 ghost use Rattle.std.specs.Fn.{FnOnceReturnsAt};
 ghost use mathlib.Core.List.{IsPrefix};
 ghost use Rattle.sup_log.specs.Tokens.{sight};
@@ -90,37 +90,37 @@ impl Pairs {
         self.is_left.load(Ordering::SeqCst)
     }
 
-    /// The slot of this side to which a group comes: its own where a copy was put there, and else the first pair's.
+    /// The slot of this side to which a group comes, and its word: its own where a copy was put there, and else the first pair's.
     #[inline(always)]
-    fn slot(&self, group: usize, is_left: bool) -> &Slot
-        ensures { result.now ≡ self.now }
+    fn slot(&self, group: usize, is_left: bool) -> (&Slot, u64)
+        ensures { result.0.now ≡ self.now }
     {
         let own = self.pair(group).slot(is_left);
-        if own.load() % 4 == PRESENT {
-            own
-        } else {
-            self.first.slot(is_left)
+        let word = own.load();
+        if word % 4 == PRESENT {
+            return (own, word);
         }
+        let slot = self.first.slot(is_left);
+        (slot, slot.load())
     }
 
-    /// Enters a slot, if its copy has absorbed the front, calls `f` on it and leaves. Otherwise `f` comes back, as where another side
-    /// is shown by then. Where another lens looks there, too, the group gets the copy into its own slot.
+    /// Enters the slot of this side, if its copy has absorbed the front, calls `f` on it and leaves. Otherwise `f` comes back, as where
+    /// another side is shown by then. Where another lens looks there, too, the group gets the copy into its own slot.
     fn look_in<T, F: FnOnce(&View) -> T>(
         &self,
-        slot: &Slot,
         group: usize,
         is_left: bool,
         front: &Ticket,
         f: F,
     ) -> Result<(Ticket, T), F>
-        requires kin { slot.now ≡ self.now }
         requires press { self.now.front.press ≡ front.now.press }
         requires callable { F.IsAlwaysCallable f }
         ensures front { IfOk result (λ r. (r.0.press ≡ front.now.press) × IsPrefix front.now.front r.0.front × IsPrefix front.now.editions r.0.editions) }
-        ensures answer { IfOk result (λ r. FnOnceReturnsAt F.FnOnce f (sight (record { press = r.0.press; template = slot.now.template; editions = r.0.editions; front = r.0.front })) r.1) }
+        ensures answer { IfOk result (λ r. FnOnceReturnsAt F.FnOnce f (sight (record { press = r.0.press; template = self.now.template; editions = r.0.editions; front = r.0.front })) r.1) }
         ensures back { IfErr result (λ g. g ≡ f) }
     {
-        let Some((claim, has_company)) = entered(slot) else {
+        let (slot, word) = self.slot(group, is_left);
+        let Some((claim, has_company)) = entered(slot, word) else {
             return Err(f);
         };
         if self.shows_left() != is_left {
@@ -137,6 +137,7 @@ impl Pairs {
 
     /// Enters a slot that is shown, calls `f` once on a copy that has absorbed the front, and leaves. It tries again where
     /// another look or a publication came between, and waits for none. Where the press is gone, `f` is not called.
+    #[inline(always)]
     pub fn look<T, F: FnOnce(&View) -> T>(
         &self,
         group: usize,
@@ -151,12 +152,11 @@ impl Pairs {
         let mut f = f;
         for _ in 0..u64::MAX {
             let is_left = self.shows_left();
-            let slot = self.slot(group, is_left);
-            match self.look_in(slot, group, is_left, front, f) {
+            match self.look_in(group, is_left, front, f) {
                 Ok(seen) => return Ok(seen),
                 Err(back) => f = back,
             }
-            if slot.load() == CLOSED {
+            if self.first.slot(is_left).load() == CLOSED {
                 return Err(Gone);
             }
             spin_loop();

@@ -102,9 +102,6 @@ impl<R: Wait + Drop> Press<R> {
             pairs,
             group,
         } = seats;
-        let Ok(wider) = wider.apart(self.alloc) else {
-            return Err(NoPlace);
-        };
         Ok(Lens {
             reader,
             wider,

@@ -3,8 +3,5 @@ use Rattle.std.proofs.Common.{ap, sym}
 use Rattle.sup_log.specs.Tokens.{Sides}
 use Rattle.sup_log.proofs.copies.Copies.seats.Goals as goal
 
-pub returns-in_ok-wider-in-Places-clause-pairs : goal.returns-in_ok-wider-in-Places-clause-pairs
-returns-in_ok-wider-in-Places-clause-pairs c = rw (sym (ap (λ (s : Sides). s.shown) c.self.view_is)) (c.in_ok-pairs.ensures _ _ c.self.invariant.3)
-
-pub returns-else-saturating_sub-self-clause-pairs : goal.returns-else-saturating_sub-self-clause-pairs
-returns-else-saturating_sub-self-clause-pairs c = rw (sym (ap (λ (s : Sides). s.shown) c.self.view_is)) (c.in_ok-pairs.ensures _ _ c.self.invariant.3)
+pub returns-clause-pairs : goal.returns-clause-pairs
+returns-clause-pairs c = rw (sym (ap (λ (s : Sides). s.shown) c.self.view_is)) (c.in_ok-pairs.ensures _ _ c.self.invariant.3)
