@@ -139,7 +139,7 @@ fn main() {
         time_drawn(&shared, handles);
         time_batches(&shared, handles);
     }
-    for (handles, room) in [(3, 1024), (16, 16), (33, 1024), (1024, 1024)] {
+    for (handles, room) in [(3, 1024), (9, 1024), (16, 16), (33, 1024), (1024, 1024)] {
         time_places(&made(), handles, room);
     }
     for handles in [16, 1024] {

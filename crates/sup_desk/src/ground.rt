@@ -36,8 +36,8 @@ impl<R: Wait + Drop> Model for Ground<R> {
 }
 
 impl<R: Wait + Drop> Ground<R> {
-    /// A ground for a supervisor of this template and so many handles: 1 to 1024. While at most two are made, the room for others costs
-    /// an update nothing, and then no more than the room for 8 does.
+    /// A ground for a supervisor of this template and so many handles: 1 to 1024. While at most three are made, the room for others costs
+    /// an update nothing, and then no more than the room for 9 does.
     pub fn new(
         alloc: Global,
         rt: R,

@@ -7,7 +7,7 @@
 //! shown no more.
 //!
 //! Few lenses have places in tables, each with a writer of its own. `left_right` visits each place for a lens in its table at each
-//! publication, whether a lens has it or not. So a press begins with a table of two places, and puts a wider one to use once a lens
+//! publication, whether a lens has it or not. So a press begins with a table of three places, and puts a wider one to use once a lens
 //! finds none. A lens has a place in both from the start, since nobody can reach it later: when its table is closed, it goes on to the
 //! other. More lenses share slots ([`crate::pairs`]). The copies are in one of these. What the others show was never stepped, and no
 //! lens enters them before they are in use.
@@ -41,10 +41,10 @@ use sup_core::Asked;
 use sup_types::{Entry, Operation, OutOfMemory, Reply, Template};
 
 /// The places of the table that is in use first, where more are asked for.
-const FIRST: usize = 2;
+const FIRST: usize = 3;
 
 /// The places of the wider table, and the most that a table has. More lenses share slots.
-const MOST: usize = 8;
+const MOST: usize = 9;
 
 /// A list that has room for more entries than this gives its memory back once its entries were taken.
 const FEW_ENTRIES: usize = 64;
