@@ -23,12 +23,13 @@
 //! ```
 //!
 //! `supervisor` has the supervisor, `asked` what it asks of its caller, `table` its rows by their numbers, `hints` where the
-//! last numbers stand, and `child` what is kept of one.
+//! last numbers stand, `place` what stands there, and `child` what is kept of one.
 #![tactic(auto)]
 
 mod asked;
 mod child;
 mod hints;
+mod place;
 mod supervisor;
 mod table;
 

@@ -299,7 +299,7 @@ impl<A: Allocator + Copy> Sup<A> {
             return Reply::Full;
         }
         match answer {
-            Answer::Running => Reply::Started(self.list(*arg)),
+            Answer::Running => Reply::Started(self.list(arg)),
             Answer::Ignore => Reply::Undefined,
             Answer::Failed(code) => Reply::StartFailed(code),
         }
@@ -421,7 +421,7 @@ impl<A: Allocator + Copy> Sup<A> {
         if !self.note_attempt() {
             return Some(self.give_up());
         }
-        Some(Reply::Restarted(number, self.table.list(arg)))
+        Some(Reply::Restarted(number, self.table.list(&arg)))
     }
 
     /// The restart was answered `Ignore`.
@@ -480,11 +480,11 @@ impl<A: Allocator + Copy> Sup<A> {
     }
 
     /// Lists a child that runs, under the next number.
-    fn list(&mut self, arg: Text) -> u64
+    fn list(&mut self, arg: &Text) -> u64
         requires room { self.old.made < self.old.steps }
         requires fits { length self.old.rows < self.old.template.max }
         ensures number { result ≡ self.old.made + 1 }
-        ensures next { self.new ≡ record self.old { made = self.old.made + 1; rows = self.old.rows ++ running (self.old.made + 1) arg ∷ [] } }
+        ensures next { self.new ≡ record self.old { made = self.old.made + 1; rows = self.old.rows ++ running (self.old.made + 1) arg.now ∷ [] } }
     {
         self.table.list(arg)
     }

@@ -21,12 +21,10 @@ ghost use Rattle.sup_core.specs.Hints.{Covers, Hinted, IsRight, hint_of};
 use crate::asked::{Asked, NO_PLACE};
 use crate::child::Child;
 use crate::hints::{Guess, Hints};
+use crate::place::Place;
 use std::alloc::{AllocError, Allocator};
 use std::marker::Model;
 use sup_types::{Row, Status, Text};
-
-/// A number, and the child that is listed under it, if it still is.
-type Place = (u64, Option<Child>);
 
 type Places<A> = Vec<Place, A>;
 
@@ -127,11 +125,11 @@ impl<A: Allocator + Copy> Table<A> {
     }
 
     /// Lists a child that runs, under the next number.
-    pub(crate) fn list(&mut self, arg: Text) -> u64
+    pub(crate) fn list(&mut self, arg: &Text) -> u64
         requires room { self.old.made + 1 < 2 ^ 64 }
         requires fits { length self.old.rows < self.old.max }
         ensures number { result ≡ self.old.made + 1 }
-        ensures next { self.new ≡ record self.old { rows = self.old.rows ++ running (self.old.made + 1) arg ∷ []; made = self.old.made + 1 } }
+        ensures next { self.new ≡ record self.old { rows = self.old.rows ++ running (self.old.made + 1) arg.now ∷ []; made = self.old.made + 1 } }
     {
         make_room(
             &mut self.places,
@@ -227,24 +225,20 @@ fn one_if(counts: bool) -> u64
 }
 
 /// Lists a child that runs, in the last place.
-fn put_next<A: Allocator>(places: &mut Places<A>, number: u64, arg: Text)
+fn put_next<A: Allocator>(places: &mut Places<A>, number: u64, arg: &Text)
     requires { vec_len places.old < vec_capacity places.old }
-    ensures rows { listed places.new.items ≡ listed places.old.items ++ running number arg ∷ [] }
+    ensures rows { listed places.new.items ≡ listed places.old.items ++ running number arg.now ∷ [] }
     ensures rises { (low high : ℕ) → high < number → Rises low places.old.items high → Rises low places.new.items number }
     ensures keys { keys_of places.new.items ≡ keys_of places.old.items ++ number ∷ [] }
     ensures capacity { vec_capacity places.old ≤ vec_capacity places.new }
 {
-    let child = Child {
-        status: Status::Running,
-        arg,
-    };
-    let _ = places.push((number, Some(child)));
+    let _ = places.push(Place::new(number, arg));
 }
 
-fn child_at<A: Allocator>(places: &Places<A>, number: u64, guess: Guess) -> Option<&Child>
+fn child_at<A: Allocator>(places: &Places<A>, number: u64, guess: Guess) -> Option<Child>
     requires rises { (high : ℕ) × Rises 0 places.now.items high }
     requires right { IsRight guess number places.now.items }
-    ensures { option_copied result ≡ found (lookup (nat_eq number) places.now.items) }
+    ensures { result ≡ found (lookup (nat_eq number) places.now.items) }
 {
     match found_at(places, number, guess) {
         Some((_, child)) => Some(child),
@@ -253,22 +247,16 @@ fn child_at<A: Allocator>(places: &Places<A>, number: u64, guess: Guess) -> Opti
 }
 
 /// The child of this number, and the index of its place.
-fn found_at<A: Allocator>(places: &Places<A>, number: u64, guess: Guess) -> Option<(usize, &Child)>
+fn found_at<A: Allocator>(places: &Places<A>, number: u64, guess: Guess) -> Option<(usize, Child)>
     requires rises { (high : ℕ) × Rises 0 places.now.items high }
     requires right { IsRight guess number places.now.items }
-    ensures { option_map (λ p. p.1.now) result ≡ found (lookup (nat_eq number) places.now.items) }
+    ensures { option_map (λ p. p.1) result ≡ found (lookup (nat_eq number) places.now.items) }
 {
     let index = index_of(places, number, guess)?;
-    match child_of(&places[index]) {
+    match places[index].child() {
         Some(child) => Some((index, child)),
         None => None,
     }
-}
-
-fn child_of(place: &Place) -> Option<&Child>
-    ensures { option_copied result ≡ place.now.1 }
-{
-    place.1.as_ref()
 }
 
 /// The index of this number's place, if it has one.
@@ -311,13 +299,13 @@ fn stands_at<A: Allocator>(places: &Places<A>, number: u64, index: usize) -> boo
     ensures yes { result ≡ true → (index < vec_len places.now) × (slice_get (keys_of places.now.items) index ≡ Some number) }
     ensures no { result ≡ false → slice_get (keys_of places.now.items) index ≢ Some number }
 {
-    index < places.len() && places[index].0 == number
+    index < places.len() && places[index].number() == number
 }
 
 /// Where this number stands if none in front of it is missing, or else the last place.
 fn likely_index<A: Allocator>(places: &Places<A>, number: u64) -> usize {
     match places.first() {
-        Some((first, _)) => (number.saturating_sub(*first) as usize).min(places.len() - 1),
+        Some(first) => (number.saturating_sub(first.number()) as usize).min(places.len() - 1),
         None => 0,
     }
 }
@@ -328,7 +316,7 @@ fn searched<A: Allocator>(places: &Places<A>, number: u64) -> Result<usize, usiz
     ensures found { IfOk result (λ i. (i < length places.now.items) × (slice_get (keys_of places.now.items) i ≡ Some number)) }
     ensures absent { IfErr result (λ _. lookup (nat_eq number) places.now.items ≡ None) }
 {
-    places.binary_search_by_key(&number, |place| place.0)
+    places.binary_search_by_key(&number, |place| place.number())
 }
 
 /// Empties the place of this number, and answers the child that was there.
@@ -340,16 +328,9 @@ fn take_child<A: Allocator>(places: &mut Places<A>, number: u64, guess: Guess) -
     ensures capacity { vec_capacity places.new ≡ vec_capacity places.old }
 {
     match index_of(places, number, guess) {
-        Some(index) => place_empties(&mut places[index]),
+        Some(index) => places[index].take(),
         None => None,
     }
-}
-
-fn place_empties(place: &mut Place) -> Option<Child>
-    ensures value { result ≡ place.old.1 }
-    ensures next { place.new ≡ (place.old.0, None) }
-{
-    place.1.take()
 }
 
 /// Empties the place of this number, if a child of this status is there, and answers that child.
@@ -366,18 +347,8 @@ fn take_child_as<A: Allocator>(
     ensures capacity { vec_capacity places.new ≡ vec_capacity places.old }
 {
     match index_of(places, number, guess) {
-        Some(index) => place_gives(&mut places[index], status),
+        Some(index) => places[index].take_as(status),
         None => None,
-    }
-}
-
-fn place_gives(place: &mut Place, status: Status) -> Option<Child>
-    ensures value { result ≡ taken_of status place.old.1 }
-    ensures next { place.new ≡ (place.old.0, left_of status place.old.1) }
-{
-    match &place.1 {
-        Some(child) if child.has_status(status) => place.1.take(),
-        _ => None,
     }
 }
 
@@ -390,21 +361,8 @@ fn let_wait<A: Allocator>(places: &mut Places<A>, number: u64, status: Status, g
     ensures capacity { vec_capacity places.new ≡ vec_capacity places.old }
 {
     match index_of(places, number, guess) {
-        Some(index) => place_waits(&mut places[index], status),
+        Some(index) => places[index].wait_as(status),
         None => false,
-    }
-}
-
-fn place_waits(place: &mut Place, status: Status) -> bool
-    ensures value { result ≡ is_some (taken_of status place.old.1) }
-    ensures next { place.new ≡ (place.old.0, waiting_of status place.old.1) }
-{
-    match &mut place.1 {
-        Some(child) if child.has_status(status) => {
-            child.status = Status::Restarting;
-            true
-        }
-        _ => false,
     }
 }
 
@@ -426,8 +384,8 @@ fn push_row<A: Allocator>(copy: &mut Vec<Row, A>, place: &Place)
     ensures items { copy.new.items ≡ copy.old.items ++ cons_option (place_row place.now) [] }
     ensures capacity { vec_capacity copy.old ≤ vec_capacity copy.new }
 {
-    if let Some(child) = &place.1 {
-        let _ = copy.push(child.row(place.0));
+    if let Some(child) = place.child() {
+        let _ = copy.push(child.row(place.number()));
     }
 }
 
@@ -473,7 +431,7 @@ fn ends_empty<A: Allocator>(places: &Places<A>) -> bool
     ensures no { result ≡ false → 0 < vec_len places.now → is_some (slice_index_or places.now.items (vec_len places.now - 1) (0, None)).1 ≡ true }
 {
     let len = places.len();
-    len > 0 && !is_listed(&places[len - 1])
+    len > 0 && !places[len - 1].is_listed()
 }
 
 /// Gives back the empty places, and notes where those that stay then stand.
@@ -484,7 +442,7 @@ fn compact<A: Allocator>(places: &mut Places<A>, hints: &mut Hints<A>)
     ensures size { hints.new.size ≡ hints.old.size }
     ensures hinted { (made : ℕ) → Rises 0 places.new.items made → Covers made hints.old → Covers made hints.new × Hinted places.new.items made hints.new }
 {
-    places.retain(|place| is_listed(place));
+    places.retain(|place| place.is_listed());
     note_all(places, hints);
 }
 
@@ -495,13 +453,6 @@ fn note_all<A: Allocator>(places: &Places<A>, hints: &mut Hints<A>)
     ensures hinted { (made : ℕ) → Rises 0 places.now.items made → Covers made hints.old → Covers made hints.new × Hinted places.now.items made hints.new }
 {
     for index in 0..places.len() {
-        hints.note(places[index].0, index as u32);
+        hints.note(places[index].number(), index as u32);
     }
-}
-
-/// Whether a child is listed at this place.
-fn is_listed(place: &Place) -> bool
-    ensures { result ≡ is_some place.now.1 }
-{
-    place.1.is_some()
 }

@@ -4,7 +4,7 @@ use Rattle.std.specs.Map.{keys_of}
 use Rattle.std.proofs.lemmas.Option.{slice_get_read, slice_get_within}
 use Rattle.std.proofs.lemmas.List.{length-map}
 use Rattle.sup_core.specs.Children.{Place}
-use Rattle.sup_core.specs.Hints.{Noted, Covers, HintedTo}
+use Rattle.sup_core.specs.Hints.{Noted, Covers, HintedTo, noting}
 use Rattle.sup_core.proofs.IndexLemmas.{key-index}
 use Rattle.sup_core.proofs.HintLemmas.{covers-noting, hinted-more}
 use Rattle.sup_core.proofs.table.note_all.Goals as goal
@@ -20,7 +20,7 @@ loop-index-preserved g c =
       ap (λ (h : Noted). h.size) c.note.ensures ∙ c.loop-index.invariant.0,
       λ made rises covers.
           let before = c.loop-index.invariant.1 made rises covers in
-          subst (λ h. Covers made h × HintedTo (i + 1) places made h) (sym c.note.ensures) (
+          subst (λ h. Covers made h × HintedTo (i + 1) places made h) (sym (c.note.ensures ∙ ap (λ n. noting n i hints) c.number.ensures)) (
             covers-noting place.0 i made hints before.0,
             hinted-more i place.0 places made hints rises before.0 at before.1,
           ),

@@ -15,7 +15,7 @@ returns-in-Some-clause-value g c =
     let distinct = rises-distinct 0 places c.requires.rises.0 c.requires.rises.1 in
     let within : c.in-Some.index < length places = omega (arith, c.in-Some.ensures.within, c.args.places.now.ok.0) in
     let at = place-index k places c.in-Some.index c.index_mut.result.now distinct within c.in-Some.ensures.there c.index_mut.ensures.value in
-    c.place_gives.ensures.value ∙ ap (λ o. taken_of c.args.status o) (sym (ap found at.1))
+    c.take_as.ensures.value ∙ ap (λ o. taken_of c.args.status o) (sym (ap found at.1))
 
 pub returns-in-Some-clause-items : goal.returns-in-Some-clause-items
 returns-in-Some-clause-items g c =
@@ -25,7 +25,7 @@ returns-in-Some-clause-items g c =
     let within : c.in-Some.index < length places = omega (arith, c.in-Some.ensures.within, c.args.places.now.ok.0) in
     let at = place-index k places c.in-Some.index c.index_mut.result.now distinct within c.in-Some.ensures.there c.index_mut.ensures.value in
     ap (slice_set places c.in-Some.index)
-    (c.place_gives.ensures.next ∙ ap (λ n. (n, left_of c.args.status c.index_mut.result.now.1)) at.0 ∙ ap (λ o. (k, left_of c.args.status o)) (sym (ap found at.1)))
+    (c.take_as.ensures.next ∙ ap (λ n. (n, left_of c.args.status c.index_mut.result.now.1)) at.0 ∙ ap (λ o. (k, left_of c.args.status o)) (sym (ap found at.1)))
     ∙ set_value-index k places c.in-Some.index (left_of c.args.status (found (lookup (nat_eq k) places))) distinct c.in-Some.ensures.there
 
 pub returns-in-None-clause-items : goal.returns-in-None-clause-items

@@ -11,7 +11,7 @@ use Rattle.sup_core.proofs.table.Table.list.Goals as goal
 pub invariant_of-self : goal.invariant_of-self
 invariant_of-self g c =
     let before = c.self.inside.places.items in
-    let row : Row = running (c.self.inside.made + 1) c.args.arg in
+    let row : Row = running (c.self.inside.made + 1) c.args.arg.now in
     let rows : listed c.put_next.new.places.items ≡ listed before ++ row ∷ [] = c.put_next.ensures.rows ∙ ap (λ l. l ++ row ∷ []) c.make_room.ensures.rows in
     let made = c.self.inside.made in
     let rises = c.make_room.ensures.rises 0 made c.self.invariant.0 in
@@ -34,8 +34,8 @@ invariant_of-self g c =
 pub returns-clause-next : goal.returns-clause-next
 returns-clause-next g c =
     let before = c.self.inside.places.items in
-    let row : Row = running (c.self.inside.made + 1) c.args.arg in
+    let row : Row = running (c.self.inside.made + 1) c.args.arg.now in
     let rows : listed c.put_next.new.places.items ≡ listed before ++ row ∷ [] = c.put_next.ensures.rows ∙ ap (λ l. l ++ row ∷ []) c.make_room.ensures.rows in
     let state : List Row → Listed = λ rows. record { rows = rows; made = c.self.inside.made + 1; max = c.self.inside.max } in
     ap state rows
-    ∙ ap (λ (t : Listed). record { rows = t.rows ++ running (t.made + 1) c.args.arg ∷ []; made = t.made + 1; max = t.max }) c.self.view_is
+    ∙ ap (λ (t : Listed). record { rows = t.rows ++ running (t.made + 1) c.args.arg.now ∷ []; made = t.made + 1; max = t.max }) c.self.view_is
