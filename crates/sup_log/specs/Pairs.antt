@@ -1,4 +1,4 @@
--- Whose copies a pair of slots has.
+-- Whose copies a pair of slots has, and what their writer knows of them.
 use Rattle.std.specs.Prelude.{◌≡◌, Bool, true, false, Option, IfSome, Box}
 use Rattle.std.specs.Global.{Global}
 use Rattle.std.specs.Arc.{arc_value}
@@ -23,14 +23,17 @@ IsShelfOf kin o = IfSome o (λ b. (b.value.press ≡ kin.front.press) × (b.valu
 abbrev pub shown_by : Template → Told → Sight
 shown_by template t = sight record { press = t.press; template = template; editions = t.editions; front = t.front }
 
+-- the supervisor of the copy that was shown before; nobody asks once that copy was taken back
 abbrev pub spare_of : Template → Before → State
 spare_of template (There t) = standing template t.front
 spare_of template (Back s) = unknown.view.standing
 
+-- whether that copy still lies where lenses may look at it
 abbrev pub is_there : Before → Bool
 is_there (There t) = true
 is_there (Back s) = false
 
+-- the front that it tells, while it lies there, is of this press
 abbrev pub IsBeforeOf : Book → Before → Type 0
 IsBeforeOf press (There t) = t.press ≡ press
 IsBeforeOf press (Back s) = Unit {0}

@@ -29,6 +29,7 @@ use crate::faults::NoPlace;
 use crate::lens::Seat;
 use crate::pair_writer::PairWriter;
 use crate::pairs::Pairs;
+use crate::seldom::let_go;
 use crate::stage::Stage;
 use crate::table::Table;
 use crate::ticket::Ticket;
@@ -191,7 +192,7 @@ fn take_out<R: Wait>(rt: &R, stage: &mut Stage, other: &mut Other)
 {
     let mut next = stage.take_out(rt);
     next.take_all(other.lacks.as_slice());
-    other.next = Some(next);
+    let_go(replace(&mut other.next, Some(next)));
 }
 
 /// The copy that is not shown, which tells this front from now on.

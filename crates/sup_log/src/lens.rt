@@ -31,6 +31,8 @@ pub struct Lens {
     pub(crate) pairs: Option<Arc<Pairs>>,
     // Which slots it shares.
     pub(crate) group: usize,
+    // Whether it looks there: its last look in the first pair's slot met another.
+    pub(crate) is_apart: bool,
     pub(crate) front: Ticket,
     // No code reads it: the contracts name it where the lens has no place any more.
     pub(crate) template: Template,
@@ -159,7 +161,7 @@ impl Lens {
         let Some(pairs) = &self.pairs else {
             return Err(Gone);
         };
-        let (seen, answer) = pairs.look(self.group, &self.front, f)?;
+        let (seen, answer) = pairs.look(self.group, &mut self.is_apart, &self.front, f)?;
         self.front = seen;
         Ok(answer)
     }

@@ -44,6 +44,7 @@ mod pairs;
 mod press;
 mod publication;
 mod right;
+mod seldom;
 mod stage;
 mod table;
 mod ticket;

@@ -129,8 +129,8 @@ pub fn read_claimed<T, F: FnOnce(&View) -> T>(
     }
 }
 
-/// Enters a slot whose word was this, if a copy is present, and says whether another lens looks there. It tries again where another
-/// look came between.
+/// Enters a slot, if a copy is present, and says whether another lens looks there. It tries first as if this were the slot's word, and
+/// again where another was found.
 pub fn entered(slot: &Slot, word: u64) -> Option<(Claim<'_, Option<Shelved>>, bool)>
     ensures { IfSome result (λ c. (c.0.right ≡ 1) × (c.0.tag ≡ slot.now)) }
 {
@@ -149,19 +149,22 @@ pub fn entered(slot: &Slot, word: u64) -> Option<(Claim<'_, Option<Shelved>>, bo
     None
 }
 
-/// Puts what lies in a slot that was entered into this one, too, if this one is free.
-pub fn spread(claim: &Claim<'_, Option<Shelved>>, slot: &Slot)
-    requires entered { claim.now.right ≡ 1 }
-    requires kin { claim.now.tag ≡ slot.now }
+/// Puts what lies in a slot that was entered into this one, too, if this one is free. The claim is handed on by value: in a loop that
+/// looks it is then in a register.
+#[inline(never)]
+pub fn spread<'a>(claim: Claim<'a, Option<Shelved>>, slot: &Slot) -> Claim<'a, Option<Shelved>>
+    requires entered { claim.right ≡ 1 }
+    requires kin { claim.tag ≡ slot.now }
+    ensures { result ≡ claim.entry }
 {
     if slot.load() != FREE {
-        return;
+        return claim;
     }
     let Some(shelved) = claim.get() else {
-        return;
+        return claim;
     };
     let Ok(shelf) = Arc::try_clone(&shelved.shelf) else {
-        return;
+        return claim;
     };
     let (found, right) = slot.turn(FREE, TAKEN);
     if found == FREE {
@@ -169,6 +172,7 @@ pub fn spread(claim: &Claim<'_, Option<Shelved>>, slot: &Slot)
     } else {
         right.done();
     }
+    claim
 }
 
 /// Leaves a slot. The last lens rings where the press sleeps until it leaves.
@@ -176,7 +180,13 @@ pub fn leave(claim: Claim<'_, Option<Shelved>>, bell: &AtomicU64)
     requires { claim.right ≡ 1 }
 {
     if claim.leave() == MARKED + AWAITED + ONE_READER {
-        bell.fetch_add(1, Ordering::SeqCst);
-        bell.wake_all();
+        ring(bell);
     }
+}
+
+/// Wakes the press.
+#[inline(never)]
+fn ring(bell: &AtomicU64) {
+    bell.fetch_add(1, Ordering::SeqCst);
+    bell.wake_all();
 }

@@ -7,6 +7,7 @@ ghost use Rattle.sup_log.specs.Tokens.{IsLawful, standing};
 
 use crate::pair::{AWAITED, CLOSED, CROWDED, Shelf, Shelved, Slot};
 use crate::pairs::{GROUPS, Pairs};
+use crate::seldom::let_go;
 use crate::ticket::Ticket;
 use crate::view::View;
 use core::mem::replace;
@@ -67,11 +68,25 @@ fn taken<'a, R: Wait>(rt: &R, slot: &'a Slot) -> Claim<'a, Option<Shelved>>
     unreachable!()
 }
 
-/// Puts what lies on this shelf into a free slot. Lenses may come to it once that side is shown.
+/// Puts what lies on this shelf into a slot, which is free. Lenses may come to it once that side is shown.
 fn fill<R: Wait>(rt: &R, slot: &Slot, shelf: Shelf)
     requires { IsShelfOf slot.now (arc_value shelf) }
 {
-    drop(taken(rt, slot).put(Some(Shelved { shelf }), PRESENT));
+    let (found, claim) = slot.turn(FREE, TAKEN);
+    if found == FREE {
+        let_go(claim.put(Some(Shelved { shelf }), PRESENT));
+    } else {
+        claim.done();
+        fill_once_free(rt, slot, shelf);
+    }
+}
+
+/// The same where it is not free yet.
+#[inline(never)]
+fn fill_once_free<R: Wait>(rt: &R, slot: &Slot, shelf: Shelf)
+    requires { IsShelfOf slot.now (arc_value shelf) }
+{
+    let_go(taken(rt, slot).put(Some(Shelved { shelf }), PRESENT));
 }
 
 /// Marks a slot in which lenses look, so that no other comes.
@@ -90,9 +105,23 @@ fn await_the_last(slot: &Slot, word: u64) {
     }
 }
 
-/// Takes what lies in a slot that is shown no more, and leaves the slot with this word. Where lenses look there it marks the slot, and
-/// waits until each has left: for a while it yields and tries again, and then it sleeps.
+/// Takes what lies in a slot that is shown no more, and leaves the slot with this word. It tries first as if no lens looked there.
 fn vacate<R: Wait>(rt: &R, slot: &Slot, bell: &AtomicU64, word: u64) -> Option<Shelved>
+    requires { word % 4294967296 ≡ 0 }
+    ensures { IfSome result (λ s. IsShelfOf slot.now (arc_value s.shelf)) }
+{
+    let (found, claim) = slot.turn(PRESENT, TAKEN);
+    if found == PRESENT {
+        return claim.put(None, word);
+    }
+    claim.done();
+    vacate_once_left(rt, slot, bell, word)
+}
+
+/// The same where lenses look there. It marks the slot, and waits until each has left: for a while it yields and tries again, and then
+/// it sleeps.
+#[inline(never)]
+fn vacate_once_left<R: Wait>(rt: &R, slot: &Slot, bell: &AtomicU64, word: u64) -> Option<Shelved>
     requires { word % 4294967296 ≡ 0 }
     ensures { IfSome result (λ s. IsShelfOf slot.now (arc_value s.shelf)) }
 {
@@ -136,7 +165,7 @@ fn put<R: Wait>(rt: &R, shelf: &mut Shelf, copy: Box<View>)
 {
     // (No slot has it, so it has no other owner. No clause says so.)
     match Arc::get_mut(shelf) {
-        Some(place) => *place = Some(copy),
+        Some(place) => let_go(replace(place, Some(copy))),
         None => { for _ in rt.forever() {} }
     }
 }
@@ -200,7 +229,7 @@ impl Pairs {
         for group in 1..GROUPS {
             let slot = self.pair(group).slot(is_left);
             if slot.load() != FREE {
-                drop(vacate(rt, slot, &self.bell, FREE));
+                let_go(vacate(rt, slot, &self.bell, FREE));
             }
         }
         first
@@ -265,9 +294,7 @@ impl PairWriter {
         let mut shelf = shelf;
         put(rt, &mut shelf, copy);
         self.pairs.fill(rt, next, shelf);
-        // (Release is enough. A lens that reads the new side finds the copy in its slot, and one that entered a slot then reads each side
-        // that was shown before the slot was filled, or a later one.)
-        self.pairs.is_left.store(next, Ordering::Release);
+        self.pairs.is_left.store(next, Ordering::SeqCst);
         self.is_left = next;
     }
 
@@ -282,7 +309,9 @@ impl PairWriter {
         };
         let shelved = self.pairs.vacate(rt, !self.is_left);
         let (shelf, copy) = self.pairs.taken_off(rt, shelved, front);
-        self.before = Before::Back(shelf);
+        if let Before::Back(shelf) = replace(&mut self.before, Before::Back(shelf)) {
+            let_go(Some(shelf));
+        }
         copy
     }
 

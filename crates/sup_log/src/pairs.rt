@@ -6,9 +6,8 @@
 //!
 //! A publication puts the next copy into the free slot of the first pair, and then turns the side to which lenses come. All lenses come
 //! to the first pair's slot as long as they come one after the other. A lens that finds another there puts the copy into its own group's
-//! slot, too, while it looks. From then on its group comes to that one, until the next publication. A copy is taken back once nobody
-//! looks at it in any slot: first from the first pair, so that no lens is left that might spread it, and then from the others where it
-//! was spread.
+//! slot, too, while it looks, and comes to that one until the next publication. A copy is taken back once nobody looks at it in any slot:
+//! first from the first pair, so that no lens is left that might spread it, and then from the others where it was spread.
 //!
 //! A lens that comes to a slot looks once more which side is shown: the side is turned in one step for all groups, so that no lens
 //! sees a copy before each lens could.
@@ -18,10 +17,10 @@ ghost use mathlib.Core.List.{IsPrefix};
 ghost use Rattle.sup_log.specs.Tokens.{sight};
 
 use crate::faults::Gone;
-use crate::pair::{CLOSED, Kin, Pair, Slot, entered, leave, read_claimed, spread};
+use crate::pair::{CLOSED, Kin, Pair, Shelved, Slot, entered, leave, read_claimed, spread};
 use crate::ticket::Ticket;
 use crate::view::View;
-use counted_slot::PRESENT;
+use counted_slot::{Claim, PRESENT};
 use crossbeam_utils::CachePadded;
 use std::hint::spin_loop;
 use std::marker::Model;
@@ -90,26 +89,31 @@ impl Pairs {
         self.is_left.load(Ordering::SeqCst)
     }
 
-    /// The slot of this side to which a group comes, and its word: its own where a copy was put there, and else the first pair's.
+    /// The slot of this side to which a lens of this group comes, what is held to be its word, and whether it is the group's own. A lens
+    /// that is apart comes to its group's where a copy was put there. Otherwise it comes to the first pair's, and none is held to look
+    /// there: a word that is read first is waited for.
     #[inline(always)]
-    fn slot(&self, group: usize, is_left: bool) -> (&Slot, u64)
+    fn slot(&self, group: usize, is_left: bool, is_apart: bool) -> (&Slot, u64, bool)
         ensures { result.0.now ≡ self.now }
     {
-        let own = self.pair(group).slot(is_left);
-        let word = own.load();
-        if word % 4 == PRESENT {
-            return (own, word);
+        if is_apart {
+            let own = self.pair(group).slot(is_left);
+            let word = own.load();
+            if word % 4 == PRESENT {
+                return (own, word, true);
+            }
         }
-        let slot = self.first.slot(is_left);
-        (slot, slot.load())
+        (self.first.slot(is_left), PRESENT, false)
     }
 
     /// Enters the slot of this side, if its copy has absorbed the front, calls `f` on it and leaves. Otherwise `f` comes back, as where
-    /// another side is shown by then. Where another lens looks there, too, the group gets the copy into its own slot.
+    /// another side is shown by then. A lens that meets another in the first pair's slot is apart from then on, and its group gets the
+    /// copy into its own slot.
     fn look_in<T, F: FnOnce(&View) -> T>(
         &self,
         group: usize,
         is_left: bool,
+        is_apart: &mut bool,
         front: &Ticket,
         f: F,
     ) -> Result<(Ticket, T), F>
@@ -119,7 +123,7 @@ impl Pairs {
         ensures answer { IfOk result (λ r. FnOnceReturnsAt F.FnOnce f (sight (record { press = r.0.press; template = self.now.template; editions = r.0.editions; front = r.0.front })) r.1) }
         ensures back { IfErr result (λ g. g ≡ f) }
     {
-        let (slot, word) = self.slot(group, is_left);
+        let (slot, word, is_own) = self.slot(group, is_left, *is_apart);
         let Some((claim, has_company)) = entered(slot, word) else {
             return Err(f);
         };
@@ -127,12 +131,32 @@ impl Pairs {
             leave(claim, &self.bell);
             return Err(f);
         }
-        if has_company {
-            spread(&claim, self.pair(group).slot(is_left));
+        if !is_own {
+            *is_apart = has_company;
         }
+        let claim = self.spread_if(has_company && !is_own, claim, group, is_left);
         let seen = read_claimed(&claim, front, f);
         leave(claim, &self.bell);
         seen
+    }
+
+    /// Puts what lies in a slot that was entered into that of this group, too, where that is of use.
+    #[inline(always)]
+    fn spread_if<'a>(
+        &self,
+        is_of_use: bool,
+        claim: Claim<'a, Option<Shelved>>,
+        group: usize,
+        is_left: bool,
+    ) -> Claim<'a, Option<Shelved>>
+        requires entered { claim.right ≡ 1 }
+        requires kin { claim.tag ≡ self.now }
+        ensures { result ≡ claim.entry }
+    {
+        if !is_of_use {
+            return claim;
+        }
+        spread(claim, self.pair(group).slot(is_left))
     }
 
     /// Enters a slot that is shown, calls `f` once on a copy that has absorbed the front, and leaves. It tries again where
@@ -141,6 +165,7 @@ impl Pairs {
     pub fn look<T, F: FnOnce(&View) -> T>(
         &self,
         group: usize,
+        is_apart: &mut bool,
         front: &Ticket,
         f: F,
     ) -> Result<(Ticket, T), Gone>
@@ -152,7 +177,7 @@ impl Pairs {
         let mut f = f;
         for _ in 0..u64::MAX {
             let is_left = self.shows_left();
-            match self.look_in(group, is_left, front, f) {
+            match self.look_in(group, is_left, is_apart, front, f) {
                 Ok(seen) => return Ok(seen),
                 Err(back) => f = back,
             }

@@ -107,6 +107,7 @@ impl<R: Wait + Drop> Press<R> {
             wider,
             pairs,
             group,
+            is_apart: false,
             front,
             template: *self.copies.template(),
         })

@@ -13,9 +13,10 @@ ghost use Rattle.sup_log.specs.Tokens.{IsFresh};
 use crate::faults::NoPlace;
 use crate::lens::Seat;
 use crate::publication::{Known, Published, Sees, Takes, Tells};
+use crate::seldom::let_go;
 use crate::ticket::Ticket;
 use crate::view::View;
-use core::mem::replace_with;
+use core::mem::{replace, replace_with};
 use left_right::writer::Writer;
 use std::alloc::Global;
 use std::marker::Model;
@@ -160,7 +161,8 @@ impl Table {
         ensures spare { self.new.spare ≡ self.old.shown.standing }
         ensures both { self.new.has_both ≡ true }
     {
-        self.stand_in = Some(turn(rt, &mut self.writer, copy));
+        let stand_in = turn(rt, &mut self.writer, copy);
+        let_go(replace(&mut self.stand_in, Some(stand_in)));
     }
 
     /// Takes back the copy that is shown no more. It waits for those that look at it.

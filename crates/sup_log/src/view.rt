@@ -34,7 +34,9 @@ impl<A: Allocator> Model for View<A> {
     ghost invariant = { λ v. IsEmptyWhenDown v.sup };
 }
 
-/// Takes a step, where the supervisor is not spent.
+/// Takes a step, where the supervisor is not spent. (It stands by itself, so that a publication that has nothing to take makes a test and
+/// no more.)
+#[inline(never)]
 fn take<A: Allocator + Copy>(sup: &mut Sup<A>, entry: &Entry)
     ensures next { sup.new ≡ taken sup.old entry.now }
     ensures empty { IsEmptyWhenDown sup.old → IsEmptyWhenDown sup.new }
@@ -127,6 +129,7 @@ impl<A: Allocator + Copy> View<A> {
     }
 
     /// Takes these entries, in order. It goes on telling the front that it told.
+    #[inline(always)]
     pub(crate) fn take_all(&mut self, entries: &[Entry])
         ensures { self.new ≡ record self.old { standing = fold taken self.old.standing entries.now } }
     {

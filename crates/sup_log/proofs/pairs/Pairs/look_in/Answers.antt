@@ -4,5 +4,5 @@ use Rattle.sup_log.proofs.pairs.Pairs.look_in.Goals as goal
 
 pub returns-clause-answer : goal.returns-clause-answer
 returns-clause-answer g c =
-    let same : c.args.self.now.template ≡ c.in-Some.claim.tag.template = search rules in
+    let same : c.args.self.now.template ≡ c.spread_if-claim.result.tag.template = search rules in
     rw same c.read_claimed-seen.ensures.answer
