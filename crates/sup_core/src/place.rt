@@ -39,6 +39,7 @@ impl Place {
         }
     }
 
+    /// Whose place it is.
     pub fn number(&self) -> u64
         ensures { result ≡ self.now.0 }
     {
