@@ -35,6 +35,15 @@ fn start_and_terminate(shared: &RwLock<Supervisor>) -> bool {
     }
 }
 
+/// Makes updates until it is over. How many it made.
+fn write_until(shared: &RwLock<Supervisor>, over: &AtomicBool) -> u64 {
+    let mut done = 0;
+    while !over.load(Ordering::SeqCst) && start_and_terminate(shared) {
+        done += 2;
+    }
+    done
+}
+
 fn read_all(shared: &RwLock<Supervisor>, threads: usize) -> u64 {
     thread::scope(|scope| {
         let readers: Vec<_> = (0..threads).map(|_| scope.spawn(|| count_all(shared))).collect();
@@ -110,13 +119,15 @@ fn time_reads(shared: &RwLock<Supervisor>, threads: usize, handles: u64) {
     println!("count, {threads} threads, {handles} handles: {took} ns, {COUNTS} times, answer {sum}");
     let over = AtomicBool::new(false);
     let start = Instant::now();
-    thread::scope(|scope| {
-        scope.spawn(|| while !over.load(Ordering::SeqCst) && start_and_terminate(shared) {});
+    let updates = thread::scope(|scope| {
+        let writer = scope.spawn(|| write_until(shared, &over));
         black_box(read_all(shared, threads));
         over.store(true, Ordering::SeqCst);
+        writer.join().unwrap()
     });
     let took = start.elapsed().as_nanos();
     println!("count, {threads} threads beside a writer, {handles} handles: {took} ns, {COUNTS} times, answer -");
+    println!("update beside {threads} threads that count, {handles} handles: {took} ns, {updates} times, answer -");
 }
 
 fn made() -> RwLock<Supervisor> {
@@ -139,7 +150,7 @@ fn main() {
         time_drawn(&shared, handles);
         time_batches(&shared, handles);
     }
-    for (handles, room) in [(3, 1024), (9, 1024), (16, 16), (33, 1024), (1024, 1024)] {
+    for (handles, room) in [(3, 1024), (6, 1024), (9, 1024), (16, 16), (33, 1024), (1024, 1024)] {
         time_places(&made(), handles, room);
     }
     for handles in [16, 1024] {

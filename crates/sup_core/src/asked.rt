@@ -1,22 +1,31 @@
 //! What an operation asks of the start function before it is entered, and where its child was found.
+ghost use Rattle.std.specs.Prelude.{◌≡◌, None};
+
 use sup_types::Text;
+
+/// Where a child was found, if it was looked up. It is a hint: no reply depends on it.
+///
+/// Supervisors after the same history have each child in the same place. So what one of them found, the others need not look for.
+#[derive(Clone, Copy, Debug)]
+pub struct Spot {
+    place: usize,
+}
 
 /// Whether the start function is to be asked, and about which argument.
 ///
-/// It also has the place where the child was found, so that the entry with the answer needs no second look-up.
+/// It also says where the operation's child was found, so that the entry with the answer needs no second look-up.
 #[derive(Clone, Copy, Debug)]
 pub struct Asked {
     /// The argument whose start decides the reply, if there is one.
     pub arg: Option<Text>,
-    place: usize,
+    /// Where the child was found.
+    pub spot: Spot,
 }
 
 /// The place of a child that was not looked up.
 pub const NO_PLACE: usize = usize::MAX;
 
 impl Asked {
-    ghost use Rattle.std.specs.Prelude.{◌≡◌, None};
-
     /// Nothing is asked.
     pub(crate) fn nothing() -> Asked
         ensures { result.arg ≡ None }
@@ -28,10 +37,19 @@ impl Asked {
     pub(crate) fn new(arg: Option<Text>, place: usize) -> Asked
         ensures { result.arg ≡ arg }
     {
-        Asked { arg, place }
+        Asked {
+            arg,
+            spot: Spot { place },
+        }
+    }
+}
+
+impl Spot {
+    /// Of a child that was not looked up.
+    pub fn unknown() -> Spot {
+        Spot { place: NO_PLACE }
     }
 
-    /// Where the child was found.
     pub(crate) fn place(&self) -> usize
         ensures { result ≡ self.now.place }
     {

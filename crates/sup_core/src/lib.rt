@@ -8,7 +8,7 @@
 //! the history is not full: the supervisor makes room at first for all that its template allows.
 //!
 //! The supervisor asks no start function. Its caller asks, where [`Sup::asks`] says so, and hands the answer in with the entry.
-//! It reads no clock: the caller gives the moment, too. [`Sup::step_asked`] goes on from what `asks` found, so a restart takes
+//! It reads no clock: the caller gives the moment, too. [`Sup::step_at`] goes on from what `asks` found, so a restart takes
 //! one look-up; [`Sup::step`] looks for itself, as for an entry of a history.
 //!
 //! ```text
@@ -19,7 +19,7 @@
 //!     None => Answer::Ignore,
 //! };
 //! let entry = Entry { handle: 0, serial: sup.stamp(), moment, operation, answer };
-//! let reply = sup.step_asked(&entry, &asked);
+//! let reply = sup.step_at(&entry, asked.spot);
 //! ```
 //!
 //! `supervisor` has the supervisor, `asked` what it asks of its caller, `table` its rows by their numbers, `hints` where the
@@ -33,5 +33,5 @@ mod place;
 mod supervisor;
 mod table;
 
-pub use asked::Asked;
+pub use asked::{Asked, Spot};
 pub use supervisor::Sup;

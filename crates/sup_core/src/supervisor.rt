@@ -1,10 +1,10 @@
 //! The supervisor: its entries and its queries.
 //!
 //! Some public functions only call a private one: `counts` calls `count`, `child` calls `find`, `rows` calls `copied`,
-//! `wants_answer` and `asks` call `asked_argument`, and `step` and `step_asked` call `advance`. The private one is proved of the supervisor's state,
+//! `wants_answer` and `asks` call `asked_argument`, and `step` and `step_at` call `advance`. The private one is proved of the supervisor's state,
 //! by its code. The public one is proved from that of the whole history, by lemmas on the reference semantics. So no proof
 //! walks through code and history at once.
-ghost use Rattle.std.specs.Prelude.{◌≡◌, ◌==◌, ◌<◌, ◌≤◌, ℕ, ◌+◌, List, [], ◌∷◌, ◌++◌, IsTrue, IfOk, IsOk, ◌⊎◌, MatchOption, false, true, length, if◌then◌else◌};
+ghost use Rattle.std.specs.Prelude.{◌≡◌, ◌==◌, ◌<◌, ◌≤◌, ℕ, ◌+◌, List, [], ◌∷◌, ◌++◌, None, IsTrue, IfOk, IsOk, ◌⊎◌, MatchOption, false, true, length, if◌then◌else◌};
 ghost use Rattle.std.specs.List.{list_any};
 ghost use Rattle.sup_window.specs.Attempts.{remembered};
 ghost use Rattle.sup_types.specs.declared.history.Entry.{Entry};
@@ -17,7 +17,7 @@ ghost use Rattle.sup_core.specs.Changes.{running, changed, next_state};
 ghost use Rattle.sup_core.specs.Account.{IsAfter, reply_after, state_after, account, is_down};
 ghost use Rattle.sup_core.specs.Queries.{which, count, child};
 
-use crate::asked::{Asked, NO_PLACE};
+use crate::asked::{Asked, NO_PLACE, Spot};
 use crate::table::Table;
 use std::alloc::{Allocator, Global};
 use std::marker::Model;
@@ -177,7 +177,7 @@ impl<A: Allocator + Copy> Sup<A> {
     }
 
     /// What an entry with this operation and moment asks: the argument whose start decides the reply, if there is one. The
-    /// entry with the answer is then entered by [`Sup::step_asked`], which does not look for the child again.
+    /// entry with the answer is then entered by [`Sup::step_at`], which does not look for the child again.
     #[inline(always)]
     pub fn asks(&self, operation: &Operation, moment: u64) -> Asked
         ensures value { result.arg ≡ asked_argument self.now operation.now moment }
@@ -203,13 +203,22 @@ impl<A: Allocator + Copy> Sup<A> {
             }
             Operation::Exit(number, reason) => {
                 if !self.template.restart.restarts_after(reason) {
-                    return Asked::nothing();
+                    return self.found(*number);
                 }
                 self.asked_again(Status::Running, *number, moment)
             }
             Operation::Retry(number) => self.asked_again(Status::Restarting, *number, moment),
-            Operation::Terminate(_) | Operation::Stop => Asked::nothing(),
+            Operation::Terminate(number) => self.found(*number),
+            Operation::Stop => Asked::nothing(),
         }
+    }
+
+    /// Nothing is asked of the child with this number, which is looked up.
+    #[inline(always)]
+    fn found(&self, number: u64) -> Asked
+        ensures { result.arg ≡ None }
+    {
+        Asked::new(None, self.table.place_of(number))
     }
 
     /// The argument of the listed child with this number and status, if one more attempt is allowed.
@@ -224,7 +233,7 @@ impl<A: Allocator + Copy> Sup<A> {
 
     /// Enters the next entry of the history, and answers the reply to it.
     ///
-    /// Where the start function was asked for this entry, [`Sup::step_asked`] takes a look-up less.
+    /// Where [`Sup::asks`] was called for this entry, [`Sup::step_at`] takes a look-up less.
     pub fn step(&mut self, entry: &Entry) -> Reply
         requires { self.old.steps < self.old.template.entries }
         ensures reply { result ≡ reply_to self.old entry.now }
@@ -237,16 +246,17 @@ impl<A: Allocator + Copy> Sup<A> {
         self.advance(entry, NO_PLACE)
     }
 
-    /// Enters an entry as [`Sup::step`] does, for which [`Sup::asks`] was called before. The child is looked for where that found it, and by
-    /// its number only if it stands there no more. So the reply is right whatever was asked.
-    pub fn step_asked(&mut self, entry: &Entry, asked: &Asked) -> Reply
+    /// Enters an entry as [`Sup::step`] does. The child is looked for where [`Sup::asks`] found it, of this supervisor or of another after
+    /// the same history, and by its number only if it does not stand there. So the reply is right whatever was asked.
+    #[inline(always)]
+    pub fn step_at(&mut self, entry: &Entry, spot: Spot) -> Reply
         requires { self.old.steps < self.old.template.entries }
         ensures reply { result ≡ reply_to self.old entry.now }
         ensures next { self.new ≡ next_state self.old entry.now }
         ensures history { (history : List Entry) → IsAfter self.old history
             → (result ≡ reply_after self.old.template history entry.now) × IsAfter self.new (history ++ entry.now ∷ []) }
     {
-        self.advance(entry, asked.place())
+        self.advance(entry, spot.place())
     }
 
     // (Inlined, as `perform` and `terminate` are, so that the reply is not written in pieces and then read as one, which takes time.)
@@ -275,7 +285,7 @@ impl<A: Allocator + Copy> Sup<A> {
             Operation::Start(arg) => self.start(arg, answer),
             Operation::Exit(number, reason) => self.exit(*number, reason, answer, place),
             Operation::Retry(number) => self.retry(*number, answer, place),
-            Operation::Terminate(number) => self.terminate(*number),
+            Operation::Terminate(number) => self.terminate(*number, place),
             Operation::Stop => self.stop(),
         }
     }
@@ -312,7 +322,7 @@ impl<A: Allocator + Copy> Sup<A> {
         ensures next { self.new ≡ changed self.old (Operation.Exit number reason.now) result }
     {
         if !self.template.restart.restarts_after(reason) {
-            return self.let_go(number);
+            return self.let_go(number, place);
         }
         match self.restart(Status::Running, number, answer, place) {
             Some(reply) => reply,
@@ -321,16 +331,12 @@ impl<A: Allocator + Copy> Sup<A> {
     }
 
     /// A child ended, and is not started again.
-    fn let_go(&mut self, number: u64) -> Reply
+    fn let_go(&mut self, number: u64, place: usize) -> Reply
         requires { self.old.down ≡ false }
         ensures reply { result ≡ if list_any (runs_as number) self.old.rows then let_go self.old number else Reply.Stray number }
         ensures next { (operation : Operation) → self.new ≡ changed self.old operation result }
     {
-        if self
-            .table
-            .take_as(Status::Running, number, NO_PLACE)
-            .is_none()
-        {
+        if self.table.take_as(Status::Running, number, place).is_none() {
             return Reply::Stray(number);
         }
         if !self.shuts_down() {
@@ -365,12 +371,12 @@ impl<A: Allocator + Copy> Sup<A> {
     }
 
     #[inline(always)]
-    fn terminate(&mut self, number: u64) -> Reply
+    fn terminate(&mut self, number: u64, place: usize) -> Reply
         requires { self.old.down ≡ false }
         ensures reply { result ≡ if list_any (has_number number) self.old.rows then Reply.Ended else Reply.NotFound }
         ensures next { self.new ≡ changed self.old (Operation.Terminate number) result }
     {
-        if self.table.take(number) {
+        if self.table.take(number, place) {
             Reply::Ended
         } else {
             Reply::NotFound

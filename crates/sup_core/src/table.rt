@@ -145,13 +145,21 @@ impl<A: Allocator + Copy> Table<A> {
         self.made
     }
 
-    /// Takes the row with this number out, and answers whether there was one.
-    pub(crate) fn take(&mut self, number: u64) -> bool
+    /// The place of this number, or `NO_PLACE`.
+    pub(crate) fn place_of(&self, number: u64) -> usize {
+        match index_of(&self.places, number, self.hints.guess(number, self.made)) {
+            Some(place) => place,
+            None => NO_PLACE,
+        }
+    }
+
+    /// Takes the row with this number out, and answers whether there was one. `place` is where it may have been found.
+    pub(crate) fn take(&mut self, number: u64, place: usize) -> bool
         ensures { MatchBool result
             ((list_any (has_number number) self.old.rows ≡ true) × (self.new ≡ record self.old { rows = without number self.old.rows }))
             ((list_any (has_number number) self.old.rows ≡ false) × (self.new ≡ self.old)) }
     {
-        let guess = self.hints.guess(number, self.made);
+        let guess = guess_or(place, &self.hints, number, self.made);
         let Some(child) = take_child(&mut self.places, number, guess) else {
             return false;
         };

@@ -110,7 +110,7 @@ impl<N: Name, S: Starter + Drop, R: Wait + Drop, J: Journal + Drop> Desk<N, S, R
     /// A handle that has seen all of the history and made no call. It waits for the lock. After a refusal nothing has changed.
     ///
     /// With the fourth handle or asker at a time, a desk that has room for more puts more places to use, and each update takes longer from
-    /// then on. With the 10th they come to share places. Then an update takes as long with however many, and a query takes longer, the
+    /// then on. With the 7th they come to share places. Then an update takes as long with however many, and a query takes longer, the
     /// more so beside others. To change places waits for the queries which look, as an update does. A desk whose journal broke off does
     /// not change any more: a handle that would need it is refused (NoPlace).
     pub fn handle<W: Wait>(&self, rt: &W) -> Result<HandleOf<'_, N, Desk<N, S, R, J>>, HandleFault>

@@ -38,14 +38,14 @@ use core::mem::{replace, swap};
 use std::alloc::Global;
 use std::marker::Model;
 use std::sync::{Arc, Wait};
-use sup_core::Asked;
+use sup_core::{Asked, Spot};
 use sup_types::{Entry, Operation, OutOfMemory, Reply, Template};
 
 /// The places of the table that is in use first, where more are asked for.
 const FIRST: usize = 3;
 
 /// The places of the wider table, and the most that a table has. More lenses share slots.
-const MOST: usize = 9;
+const MOST: usize = 6;
 
 /// A list that has room for more entries than this gives its memory back once its entries were taken.
 const FEW_ENTRIES: usize = 64;
@@ -82,6 +82,8 @@ struct Other {
     next: Option<Box<View>>,
     // The entries of the last publication. The copy lacks them until it is taken out of lenses' reach.
     lacks: Vec<Entry>,
+    // Where the copy that stepped them found the children of the first of these entries. The other has them there, too.
+    spots: Vec<Spot>,
 }
 
 impl Model for Copies {
@@ -191,8 +193,16 @@ fn take_out<R: Wait>(rt: &R, stage: &mut Stage, other: &mut Other)
     ensures next { IfSome other.new.next (λ b. b.value.standing ≡ fold taken (staged stage.old).spare other.old.lacks.items) }
 {
     let mut next = stage.take_out(rt);
-    next.take_all(other.lacks.as_slice());
+    next.take_all(other.lacks.as_slice(), other.spots.as_slice());
+    other.spots.clear();
     let_go(replace(&mut other.next, Some(next)));
+}
+
+/// Notes where a child was found, of the first entries of a publication. That takes no memory.
+fn note(spots: &mut Vec<Spot>, spot: Spot) {
+    if spots.len() < FEW_ENTRIES {
+        let _ = spots.push(spot);
+    }
 }
 
 /// The copy that is not shown, which tells this front from now on.
@@ -231,6 +241,7 @@ impl Copies {
         ensures { IfOk result (λ c. IsFresh front.now template c.shown × (c.next ≡ c.shown.standing) × (c.is_out ≡ false)) }
     {
         let pairs = shared(alloc, template, places, front)?;
+        let spots = Vec::with_capacity(alloc, FEW_ENTRIES)?;
         let table = Table::new(alloc, rt, template, places.min(FIRST), front)?;
         match reserve(alloc, rt, template, places, front) {
             Ok(wider) => Ok(Copies {
@@ -243,6 +254,7 @@ impl Copies {
                 other: Other {
                     next: None,
                     lacks: Vec::new(alloc),
+                    spots,
                 },
             }),
             Err(fault) => {
@@ -390,7 +402,9 @@ impl Copies {
             → result ≡ reply_after self.old.next.template history entry.now }
         ensures next { self.new ≡ record self.old { next = taken self.old.next entry.now } }
     {
-        match &mut self.other.next {
+        let Other { next, spots, .. } = &mut self.other;
+        note(spots, asked.spot);
+        match next {
             Some(next) => next.step(entry, asked),
             None => unreachable!(),
         }
@@ -403,7 +417,7 @@ impl Copies {
         ensures { self.new ≡ record self.old { next = fold taken self.old.next entries.now } }
     {
         match &mut self.other.next {
-            Some(next) => next.take_all(entries),
+            Some(next) => next.take_all(entries, &[]),
             None => unreachable!(),
         }
     }

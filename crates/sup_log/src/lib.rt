@@ -27,10 +27,10 @@
 //! publication, which one copy lacks, and brings that copy up to date when it takes it from its readers. The queue of operations
 //! that `left_right`'s writer has stays empty. So a publication of up to 64 entries takes no memory.
 //!
-//! A publication visits each place for a lens. So a press begins with three places, and has 9 once a lens finds none. Up to three lenses,
-//! the room for others costs a publication nothing. With the 10th they come to share slots, each with one count of those that look at its
+//! A publication visits each place for a lens. So a press begins with three places, and has 6 once a lens finds none. Up to three lenses,
+//! the room for others costs a publication nothing. With the 7th they come to share slots, each with one count of those that look at its
 //! copy (`counted_slot`). All come to one slot until looks meet there; then each quarter of the lenses has its own, until the next
-//! publication. So a publication takes as long with 1,024 lenses as with 10, and a look tries again where another look or a publication
+//! publications. So a publication takes as long with 1,024 lenses as with 7, and a look tries again where another look or a publication
 //! came between.
 #![tactic(auto)]
 

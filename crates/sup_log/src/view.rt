@@ -12,7 +12,8 @@ use crate::ticket::Ticket;
 use left_right::Absorb;
 use std::alloc::{AllocError, Allocator, Global};
 use std::marker::Model;
-use sup_core::{Asked, Sup};
+use std::slice::Iter;
+use sup_core::{Asked, Spot, Sup};
 use sup_types::{Counts, Entry, Operation, OutOfMemory, Reply, Row, Seen, Template};
 
 /// One copy of the supervisor, which has absorbed one front of the published history. When it is down there is no row.
@@ -34,15 +35,23 @@ impl<A: Allocator> Model for View<A> {
     ghost invariant = { λ v. IsEmptyWhenDown v.sup };
 }
 
-/// Takes a step, where the supervisor is not spent. (It stands by itself, so that a publication that has nothing to take makes a test and
-/// no more.)
+/// Takes a step, where the supervisor is not spent. The child may stand at this spot. (It stands by itself, so that a publication that has
+/// nothing to take makes a test and no more.)
 #[inline(never)]
-fn take<A: Allocator + Copy>(sup: &mut Sup<A>, entry: &Entry)
+fn take<A: Allocator + Copy>(sup: &mut Sup<A>, entry: &Entry, spot: Spot)
     ensures next { sup.new ≡ taken sup.old entry.now }
     ensures empty { IsEmptyWhenDown sup.old → IsEmptyWhenDown sup.new }
 {
     if !sup.is_spent() {
-        sup.step(entry);
+        sup.step_at(entry, spot);
+    }
+}
+
+/// The next of these spots. Of a child that none of them is of, nothing is known.
+fn next_of(spots: &mut Iter<'_, Spot>) -> Spot {
+    match spots.next() {
+        Some(spot) => *spot,
+        None => Spot::unknown(),
     }
 }
 
@@ -54,7 +63,7 @@ fn take_asked<A: Allocator + Copy>(sup: &mut Sup<A>, entry: &Entry, asked: &Aske
     ensures history { (history : List Entry) → IsAfter sup.old history → result ≡ reply_after sup.old.template history entry.now }
     ensures empty { IsEmptyWhenDown sup.old → IsEmptyWhenDown sup.new }
 {
-    sup.step_asked(entry, asked)
+    sup.step_at(entry, asked.spot)
 }
 
 impl<A: Allocator + Copy> View<A> {
@@ -128,13 +137,15 @@ impl<A: Allocator + Copy> View<A> {
         self.sup.is_down()
     }
 
-    /// Takes these entries, in order. It goes on telling the front that it told.
+    /// Takes these entries, in order. It goes on telling the front that it told. The spots say of the first entries where a copy found
+    /// their children that had taken the same before; no reply depends on them.
     #[inline(always)]
-    pub(crate) fn take_all(&mut self, entries: &[Entry])
+    pub(crate) fn take_all(&mut self, entries: &[Entry], spots: &[Spot])
         ensures { self.new ≡ record self.old { standing = fold taken self.old.standing entries.now } }
     {
+        let mut spots = spots.iter();
         for entry in entries {
-            take(&mut self.sup, entry);
+            take(&mut self.sup, entry, next_of(&mut spots));
         }
     }
 

@@ -79,5 +79,5 @@ fn enter<S: FixedStarter, A: Allocator + Copy>(
         operation: *operation,
         answer,
     };
-    sup.step_asked(&entry, &asked)
+    sup.step_at(&entry, asked.spot)
 }

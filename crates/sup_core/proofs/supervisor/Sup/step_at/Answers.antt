@@ -2,7 +2,7 @@
 use Rattle.std.proofs.Common.{◌∙◌, sym, subst, ◌++◌, ◌∷◌, []}
 use Rattle.sup_core.specs.Account.{IsAfter}
 use Rattle.sup_core.specs.HistoryLaws.{after-step}
-use Rattle.sup_core.proofs.supervisor.Sup.step_asked.Goals as goal
+use Rattle.sup_core.proofs.supervisor.Sup.step_at.Goals as goal
 
 pub returns-clause-history : goal.returns-clause-history
 returns-clause-history g c = λ history after.
