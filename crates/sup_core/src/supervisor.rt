@@ -31,10 +31,11 @@ use sup_window::Window;
 #[derive(Drop)]
 pub struct Sup<A: Allocator = Global> {
     template: Template,
-    table: Table<A>,
-    window: Window<A>,
     alloc: A,
+    window: Window<A>,
     latest: u64,
+    // (What each entry writes and queries read stands together, on few lines of a cache: the table ends with its counts.)
+    table: Table<A>,
     steps: u64,
     down: bool,
 }

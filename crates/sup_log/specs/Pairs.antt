@@ -1,7 +1,8 @@
 -- Whose copies a pair of slots has, and what their writer knows of them.
 use Rattle.std.specs.Prelude.{◌≡◌, Bool, true, false, Option, IfSome, Box}
 use Rattle.std.specs.Global.{Global}
-use Rattle.std.specs.Arc.{arc_value}
+use Rattle.crossbeam_utils.specs.declared.cache_padded.CachePadded.{CachePadded}
+use Rattle.crossbeam_utils.specs.Padded.{padded_value}
 use Rattle.logbook.specs.Pages.{Book}
 use Rattle.sup_types.specs.declared.template.Template.{Template}
 use Rattle.sup_core.specs.State.{State}
@@ -16,8 +17,8 @@ abbrev pub IsPairOf : Book → Template → Kin → Type 0
 IsPairOf press template kin = (kin.front.press ≡ press) × (kin.template ≡ template)
 
 -- what lies on a shelf for such copies, if anything does
-abbrev pub IsShelfOf : Kin → Option (Box Sight Global) → Type 0
-IsShelfOf kin o = IfSome o (λ b. (b.value.press ≡ kin.front.press) × (b.value.standing.template ≡ kin.template) × IsLawful b.value)
+abbrev pub IsShelfOf : Kin → CachePadded (Option (Box Sight Global)) → Type 0
+IsShelfOf kin o = IfSome (padded_value o) (λ b. (b.value.press ≡ kin.front.press) × (b.value.standing.template ≡ kin.template) × IsLawful b.value)
 
 -- the copy of a supervisor of this template that tells this front
 abbrev pub shown_by : Template → Told → Sight

@@ -35,6 +35,7 @@ use crate::table::Table;
 use crate::ticket::Ticket;
 use crate::view::View;
 use core::mem::{replace, swap};
+use crossbeam_utils::CachePadded;
 use std::alloc::Global;
 use std::marker::Model;
 use std::sync::{Arc, Wait};
@@ -346,10 +347,10 @@ impl Copies {
         let Ok(Some(pairs)) = again(&self.pairs) else {
             return false;
         };
-        let Ok(shown) = Arc::new(alloc, None) else {
+        let Ok(shown) = Arc::new(alloc, CachePadded::new(None)) else {
             return false;
         };
-        let Ok(before) = Arc::new(alloc, None) else {
+        let Ok(before) = Arc::new(alloc, CachePadded::new(None)) else {
             return false;
         };
         self.ready(rt);

@@ -29,7 +29,7 @@
 //!
 //! A publication visits each place for a lens. So a press begins with three places, and has 6 once a lens finds none. Up to three lenses,
 //! the room for others costs a publication nothing. With the 7th they come to share slots, each with one count of those that look at its
-//! copy (`counted_slot`). All come to one slot until looks meet there; then each quarter of the lenses has its own, until the next
+//! copy (`counted_slot`). All come to one slot until looks meet there; then each quarter of the lenses has its own, for some
 //! publications. So a publication takes as long with 1,024 lenses as with 7, and a look tries again where another look or a publication
 //! came between.
 #![tactic(auto)]
@@ -38,6 +38,7 @@ mod copies;
 mod faults;
 mod history;
 mod lens;
+mod meetings;
 mod pair;
 mod pair_writer;
 mod pairs;

@@ -6,11 +6,15 @@
 ghost use Rattle.std.specs.Prelude.{◌≡◌, IfOk, IfErr, IfSome};
 ghost use Rattle.std.specs.Fn.{FnOnceReturnsAt};
 ghost use mathlib.Core.List.{IsPrefix};
+ghost use Rattle.std.specs.Arc.{arc_value};
+ghost use Rattle.sup_log.specs.Pairs.{IsShelfOf};
 ghost use Rattle.sup_log.specs.Tokens.{IsLawful, sight};
 
+use crate::seldom::let_go;
 use crate::ticket::Ticket;
 use crate::view::View;
 use counted_slot::{Claim, Counted, FREE, Fits, MARKED, MOST_READERS, ONE_READER, PRESENT, TAKEN};
+use crossbeam_utils::CachePadded;
 use std::marker::Model;
 use std::sync::Arc;
 use std::sync::atomic::{AtomicU64, Ordering};
@@ -32,13 +36,13 @@ pub struct Kin {
     pub template: Template,
 }
 
-/// Where a copy lies that several slots have.
-pub type Shelf = Arc<Option<Box<View>>>;
+/// Where a copy lies that several slots have. Lenses read one while the press writes to the other, so they lie apart.
+pub type Shelf = Arc<CachePadded<Option<Box<View>>>>;
 
 /// What lies in a slot.
 #[derive(Drop)]
 pub struct Shelved {
-    pub shelf: Arc<Option<Box<View>>>,
+    pub shelf: Arc<CachePadded<Option<Box<View>>>>,
 }
 
 impl Fits for Shelved {
@@ -46,29 +50,31 @@ impl Fits for Shelved {
 
     ghost use Rattle.std.specs.Prelude.{◌≡◌, IfSome};
     ghost use Rattle.std.specs.Arc.{arc_value};
+    ghost use Rattle.crossbeam_utils.specs.Padded.{padded_value};
     ghost use Rattle.sup_log.specs.Tokens.{IsLawful};
 
-    ghost fits = { λ kin s. IfSome (arc_value s.shelf) (λ b. (b.value.press ≡ kin.front.press) × (b.value.standing.template ≡ kin.template) × IsLawful b.value) };
+    ghost fits = { λ kin s. IfSome (padded_value (arc_value s.shelf)) (λ b. (b.value.press ≡ kin.front.press) × (b.value.standing.template ≡ kin.template) × IsLawful b.value) };
 }
 
 pub type Slot = Counted<Option<Shelved>>;
 
-/// Two slots, of which lenses come to one.
+/// Two slots, of which lenses come to one. The press writes to the other meanwhile, so they lie apart.
 #[derive(Drop)]
 pub struct Pair {
-    left: Slot,
-    right: Slot,
+    left: CachePadded<Counted<Option<Shelved>>>,
+    right: CachePadded<Counted<Option<Shelved>>>,
 }
 
 impl Model for Pair {
     ghost use Rattle.std.specs.Prelude.{◌≡◌};
+    ghost use Rattle.crossbeam_utils.specs.Padded.{padded_value};
     ghost use Rattle.sup_log.specs.declared.pair.Kin.{Kin};
 
     ghost Value = { Kin };
 
-    ghost view = { λ p. p.left };
+    ghost view = { λ p. padded_value p.left };
 
-    ghost invariant = { λ p. p.right ≡ p.left };
+    ghost invariant = { λ p. padded_value p.right ≡ padded_value p.left };
 }
 
 impl Pair {
@@ -77,8 +83,8 @@ impl Pair {
         ensures { result ≡ kin.now }
     {
         Pair {
-            left: Counted::new(None, kin),
-            right: Counted::new(None, kin),
+            left: CachePadded::new(Counted::new(None, kin)),
+            right: CachePadded::new(Counted::new(None, kin)),
         }
     }
 
@@ -121,7 +127,7 @@ pub fn read_claimed<T, F: FnOnce(&View) -> T>(
     ensures back { IfErr result (λ g. g ≡ f) }
 {
     match claim.get() {
-        Some(shelved) => match &*shelved.shelf {
+        Some(shelved) => match &**shelved.shelf {
             Some(copy) => read_copy(copy, front, f),
             None => Err(f),
         },
@@ -160,19 +166,25 @@ pub fn spread<'a>(claim: Claim<'a, Option<Shelved>>, slot: &Slot) -> Claim<'a, O
     if slot.load() != FREE {
         return claim;
     }
-    let Some(shelved) = claim.get() else {
-        return claim;
-    };
-    let Ok(shelf) = Arc::try_clone(&shelved.shelf) else {
-        return claim;
-    };
-    let (found, right) = slot.turn(FREE, TAKEN);
-    if found == FREE {
-        drop(right.put(Some(Shelved { shelf }), PRESENT));
-    } else {
-        right.done();
+    if let Some(shelved) = claim.get() {
+        lay(&shelved.shelf, slot);
     }
     claim
+}
+
+/// Puts what lies on this shelf into a slot, too, if the slot is free.
+pub fn lay(shelf: &Shelf, slot: &Slot)
+    requires { IsShelfOf slot.now (arc_value shelf.now) }
+{
+    let Ok(shelf) = Arc::try_clone(shelf) else {
+        return;
+    };
+    let (found, claim) = slot.turn(FREE, TAKEN);
+    if found == FREE {
+        let_go(claim.put(Some(Shelved { shelf }), PRESENT));
+    } else {
+        claim.done();
+    }
 }
 
 /// Leaves a slot. The last lens rings where the press sleeps until it leaves.

@@ -1,18 +1,20 @@
 //! The writer's side of the slots: it shows one copy after the other, and takes back the one that is shown no more.
 ghost use Rattle.std.specs.Prelude.{◌≡◌, ◌%◌, true, false, IfSome};
 ghost use Rattle.std.specs.Arc.{arc_value};
+ghost use Rattle.crossbeam_utils.specs.Padded.{padded_value};
 ghost use Rattle.sup_log.specs.Fronts.{Follows};
 ghost use Rattle.sup_log.specs.Pairs.{IsShelfOf};
 ghost use Rattle.sup_log.specs.Tokens.{IsLawful, standing};
 
-use crate::pair::{AWAITED, CLOSED, CROWDED, Shelf, Shelved, Slot};
+use crate::meetings::Meetings;
+use crate::pair::{AWAITED, CLOSED, CROWDED, Shelf, Shelved, Slot, lay};
 use crate::pairs::{GROUPS, Pairs};
 use crate::seldom::let_go;
 use crate::ticket::Ticket;
 use crate::view::View;
 use core::mem::replace;
 use counted_slot::{Claim, FREE, MARKED, PRESENT, TAKEN};
-use crossbeam_utils::Backoff;
+use crossbeam_utils::{Backoff, CachePadded};
 use std::marker::Model;
 use std::sync::atomic::{AtomicU64, Ordering};
 use std::sync::{Arc, Wait};
@@ -25,6 +27,7 @@ pub struct PairWriter {
     is_left: bool,
     shown: Ticket,
     before: Before,
+    meetings: Meetings,
 }
 
 /// The copy that was shown before.
@@ -33,7 +36,7 @@ pub enum Before {
     /// It lies in the slots of its side, and tells this front.
     There(Ticket),
     /// It was taken back, and its shelf is free.
-    Back(Arc<Option<Box<View>>>),
+    Back(Arc<CachePadded<Option<Box<View>>>>),
 }
 
 impl Model for PairWriter {
@@ -161,18 +164,18 @@ fn end<R: Wait>(rt: &R, slot: &Slot, bell: &AtomicU64) -> Option<Shelved>
 
 /// Puts a copy on a shelf that no slot has.
 fn put<R: Wait>(rt: &R, shelf: &mut Shelf, copy: Box<View>)
-    ensures { arc_value shelf.new ≡ Some copy }
+    ensures { padded_value (arc_value shelf.new) ≡ Some copy }
 {
     // (No slot has it, so it has no other owner. No clause says so.)
     match Arc::get_mut(shelf) {
-        Some(place) => let_go(replace(place, Some(copy))),
+        Some(place) => let_go(replace(&mut **place, Some(copy))),
         None => { for _ in rt.forever() {} }
     }
 }
 
 /// Takes the copy from a shelf that has one owner.
 fn copy_on(shelf: &mut Shelf) -> Option<Box<View>>
-    ensures { IfSome result (λ b. arc_value shelf.old ≡ Some b) }
+    ensures { IfSome result (λ b. padded_value (arc_value shelf.old) ≡ Some b) }
 {
     match Arc::get_mut(shelf) {
         Some(place) => place.take(),
@@ -189,11 +192,27 @@ fn is_front_of(front: &Ticket, copy: &View) -> bool
 }
 
 impl Pairs {
-    /// Puts what lies on this shelf into the free slot of the first pair.
-    fn fill<R: Wait>(&self, rt: &R, is_left: bool, shelf: Shelf)
+    /// Puts what lies on this shelf into the free slot of the first pair, and before that into those of the groups whose lenses met others
+    /// of late.
+    fn fill<R: Wait>(&self, rt: &R, is_left: bool, shelf: Shelf, meetings: &mut Meetings)
         requires { IsShelfOf self.now (arc_value shelf) }
     {
+        if meetings.take_turn(is_left) {
+            self.spread(is_left, &shelf, meetings);
+        }
         fill(rt, self.pair(0).slot(is_left), shelf);
+    }
+
+    /// Puts what lies on this shelf into the free slots of those groups.
+    #[inline(never)]
+    fn spread(&self, is_left: bool, shelf: &Shelf, meetings: &Meetings)
+        requires { IsShelfOf self.now (arc_value shelf.now) }
+    {
+        for group in 1..GROUPS {
+            if meetings.were_of(group) {
+                lay(shelf, self.pair(group).slot(is_left));
+            }
+        }
     }
 
     /// Takes the copy that tells this front from its shelf.
@@ -222,7 +241,7 @@ impl Pairs {
 
     /// Frees the slots of this side. What lay in the first pair's slot. It waits for the lenses that look there: first in the first
     /// pair's slot, from where they spread the copy.
-    fn vacate<R: Wait>(&self, rt: &R, is_left: bool) -> Option<Shelved>
+    fn vacate<R: Wait>(&self, rt: &R, is_left: bool, meetings: &mut Meetings) -> Option<Shelved>
         ensures { IfSome result (λ s. IsShelfOf self.now (arc_value s.shelf)) }
     {
         let first = vacate(rt, self.pair(0).slot(is_left), &self.bell, FREE);
@@ -230,6 +249,7 @@ impl Pairs {
             let slot = self.pair(group).slot(is_left);
             if slot.load() != FREE {
                 let_go(vacate(rt, slot, &self.bell, FREE));
+                meetings.note(group, is_left);
             }
         }
         first
@@ -267,13 +287,15 @@ impl PairWriter {
         let front = copy.front().copied();
         let mut shelf = shown;
         put(rt, &mut shelf, copy);
-        pairs.fill(rt, true, shelf);
+        let mut meetings = Meetings::none();
+        pairs.fill(rt, true, shelf, &mut meetings);
         pairs.is_left.store(true, Ordering::SeqCst);
         PairWriter {
             pairs,
             is_left: true,
             shown: front,
             before: Before::Back(before),
+            meetings,
         }
     }
 
@@ -293,7 +315,7 @@ impl PairWriter {
         };
         let mut shelf = shelf;
         put(rt, &mut shelf, copy);
-        self.pairs.fill(rt, next, shelf);
+        self.pairs.fill(rt, next, shelf, &mut self.meetings);
         self.pairs.is_left.store(next, Ordering::SeqCst);
         self.is_left = next;
     }
@@ -307,7 +329,7 @@ impl PairWriter {
         let Before::There(front) = &self.before else {
             unreachable!()
         };
-        let shelved = self.pairs.vacate(rt, !self.is_left);
+        let shelved = self.pairs.vacate(rt, !self.is_left, &mut self.meetings);
         let (shelf, copy) = self.pairs.taken_off(rt, shelved, front);
         if let Before::Back(shelf) = replace(&mut self.before, Before::Back(shelf)) {
             let_go(Some(shelf));
@@ -324,6 +346,7 @@ impl PairWriter {
             is_left,
             shown,
             before: _before,
+            meetings: _,
         } = self;
         let shelved = pairs.close(rt, is_left);
         let (_, copy) = pairs.taken_off(rt, shelved, &shown);

@@ -6,8 +6,9 @@
 //!
 //! A publication puts the next copy into the free slot of the first pair, and then turns the side to which lenses come. All lenses come
 //! to the first pair's slot as long as they come one after the other. A lens that finds another there puts the copy into its own group's
-//! slot, too, while it looks, and comes to that one until the next publication. A copy is taken back once nobody looks at it in any slot:
-//! first from the first pair, so that no lens is left that might spread it, and then from the others where it was spread.
+//! slot, too, while it looks, and comes to that one from then on where it has a copy. The press finds out by that which groups look at once,
+//! and puts the copies of the next publications into their slots itself ([`crate::meetings`]). A copy is taken back once nobody looks at it
+//! in any slot: first from the first pair, so that no lens is left that might spread it, and then from the others.
 //!
 //! A lens that comes to a slot looks once more which side is shown: the side is turned in one step for all groups, so that no lens
 //! sees a copy before each lens could.
@@ -33,24 +34,23 @@ pub const GROUPS: usize = 4;
 /// The pairs of all groups, which side is shown, and the bell by which the last lens that leaves a slot wakes the press.
 #[derive(Drop)]
 pub struct Pairs {
-    first: CachePadded<Pair>,
-    second: CachePadded<Pair>,
-    third: CachePadded<Pair>,
-    fourth: CachePadded<Pair>,
+    first: Pair,
+    second: Pair,
+    third: Pair,
+    fourth: Pair,
     pub is_left: CachePadded<AtomicBool>,
     pub bell: AtomicU64,
 }
 
 impl Model for Pairs {
     ghost use Rattle.std.specs.Prelude.{◌≡◌};
-    ghost use Rattle.crossbeam_utils.specs.Padded.{padded_value};
     ghost use Rattle.sup_log.specs.declared.pair.Kin.{Kin};
 
     ghost Value = { Kin };
 
-    ghost view = { λ p. padded_value p.first };
+    ghost view = { λ p. p.first };
 
-    ghost invariant = { λ p. (padded_value p.second ≡ padded_value p.first) × (padded_value p.third ≡ padded_value p.first) × (padded_value p.fourth ≡ padded_value p.first) };
+    ghost invariant = { λ p. (p.second ≡ p.first) × (p.third ≡ p.first) × (p.fourth ≡ p.first) };
 }
 
 impl Pairs {
@@ -63,10 +63,10 @@ impl Pairs {
             template,
         };
         Pairs {
-            first: CachePadded::new(Pair::new(&kin)),
-            second: CachePadded::new(Pair::new(&kin)),
-            third: CachePadded::new(Pair::new(&kin)),
-            fourth: CachePadded::new(Pair::new(&kin)),
+            first: Pair::new(&kin),
+            second: Pair::new(&kin),
+            third: Pair::new(&kin),
+            fourth: Pair::new(&kin),
             is_left: CachePadded::new(AtomicBool::new(false)),
             bell: AtomicU64::new(0),
         }

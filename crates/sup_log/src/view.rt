@@ -9,6 +9,7 @@ ghost use Rattle.sup_log.specs.Rows.{IsEmptyWhenDown};
 ghost use Rattle.sup_log.specs.Tokens.{IsLawful};
 
 use crate::ticket::Ticket;
+use crossbeam_utils::CachePadded;
 use left_right::Absorb;
 use std::alloc::{AllocError, Allocator, Global};
 use std::marker::Model;
@@ -19,6 +20,8 @@ use sup_types::{Counts, Entry, Operation, OutOfMemory, Reply, Row, Seen, Templat
 /// One copy of the supervisor, which has absorbed one front of the published history. When it is down there is no row.
 #[derive(Drop)]
 pub struct View<A: Allocator = Global> {
+    // Lenses read one copy while the press writes to the other, so the two have no line of a cache in common.
+    apart: CachePadded<()>,
     sup: Sup<A>,
     alloc: A,
     front: Ticket,
@@ -74,6 +77,7 @@ impl<A: Allocator + Copy> View<A> {
         ensures { IfOk result (λ v. (v.press ≡ front.press) × (v.editions ≡ front.editions) × (v.front ≡ front.front) × (v.standing.template ≡ template) × IsLawful v) }
     {
         Ok(View {
+            apart: CachePadded::new(()),
             sup: Sup::new(alloc, template)?,
             alloc,
             front,

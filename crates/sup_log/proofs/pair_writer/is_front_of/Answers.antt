@@ -1,5 +1,5 @@
 -- Each of two fronts begins the other.
-use Rattle.std.proofs.Common.{◌≡◌, rules}
+use Rattle.std.proofs.Common.{rules}
 use mathlib.Core.List.{IsPrefix}
 use Rattle.sup_log.specs.PrefixLaws.{prefix_both}
 use Rattle.sup_log.proofs.pair_writer.is_front_of.Goals as goal
