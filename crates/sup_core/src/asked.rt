@@ -39,7 +39,7 @@ impl Asked {
     {
         Asked {
             arg,
-            spot: Spot { place },
+            spot: Spot::at(place),
         }
     }
 }
@@ -48,6 +48,11 @@ impl Spot {
     /// Of a child that was not looked up.
     pub fn unknown() -> Spot {
         Spot { place: NO_PLACE }
+    }
+
+    /// Of a child that stands there.
+    pub(crate) fn at(place: usize) -> Spot {
+        Spot { place }
     }
 
     pub(crate) fn place(&self) -> usize

@@ -7,12 +7,17 @@
 //! with the entry; every query answers as the reference semantics does. A step needs no memory, and is never refused while
 //! the history is not full: the supervisor makes room at first for all that its template allows.
 //!
-//! The supervisor asks no start function. Its caller asks, where [`Sup::asks`] says so, and hands the answer in with the entry.
-//! It reads no clock: the caller gives the moment, too. [`Sup::step_at`] goes on from what `asks` found, so a restart takes
-//! one look-up; [`Sup::step`] looks for itself, as for an entry of a history.
+//! It reads no clock: the caller gives the moment. [`Sup::update`] asks the start function itself, where the rules ask it:
 //!
 //! ```text
 //! let mut sup = Sup::new(alloc, template)?;
+//! let reply = sup.update(&starter, moment, &operation);
+//! ```
+//!
+//! A caller that keeps the entries asks itself, where [`Sup::asks`] says so, and hands the answer in with the entry. [`Sup::step_at`] goes
+//! on from what `asks` found, so a restart takes one look-up; [`Sup::step`] looks for itself, as for an entry of a history.
+//!
+//! ```text
 //! let asked = sup.asks(&operation, moment);
 //! let answer = match &asked.arg {
 //!     Some(arg) => starter.start(arg, moment),
@@ -22,12 +27,13 @@
 //! let reply = sup.step_at(&entry, asked.spot);
 //! ```
 //!
-//! `supervisor` has the supervisor, `asked` what it asks of its caller, `table` its rows by their numbers, `hints` where the
-//! last numbers stand, `place` what stands there, and `child` what is kept of one.
+//! `supervisor` has the supervisor, `entering` how entries come in, `asked` what it asks of its caller, `table` its rows by
+//! their numbers, `hints` where the last numbers stand, `place` what stands there, and `child` what is kept of one.
 #![tactic(auto)]
 
 mod asked;
 mod child;
+mod entering;
 mod hints;
 mod place;
 mod supervisor;

@@ -1,9 +1,9 @@
 //! The supervisor: its entries and its queries.
 //!
 //! Some public functions only call a private one: `counts` calls `count`, `child` calls `find`, `rows` calls `copied`,
-//! `wants_answer` and `asks` call `asked_argument`, and `step` and `step_at` call `advance`. The private one is proved of the supervisor's state,
-//! by its code. The public one is proved from that of the whole history, by lemmas on the reference semantics. So no proof
-//! walks through code and history at once.
+//! `wants_answer` and `asks` call `asked_argument`, and `step`, `step_at` and `update` ([`crate::entering`]) call `advance`. The private
+//! one is proved of the supervisor's state, by its code. The public one is proved from that of the whole history, by lemmas on the
+//! reference semantics. So no proof walks through code and history at once.
 ghost use Rattle.std.specs.Prelude.{◌≡◌, ◌==◌, ◌<◌, ◌≤◌, ℕ, ◌+◌, List, [], ◌∷◌, ◌++◌, None, IsTrue, IfOk, IsOk, ◌⊎◌, MatchOption, false, true, length, if◌then◌else◌};
 ghost use Rattle.std.specs.List.{list_any};
 ghost use Rattle.sup_window.specs.Attempts.{remembered};
@@ -189,7 +189,7 @@ impl<A: Allocator + Copy> Sup<A> {
     }
 
     #[inline(always)]
-    fn asked_argument(&self, operation: &Operation, moment: u64) -> Asked
+    pub(crate) fn asked_argument(&self, operation: &Operation, moment: u64) -> Asked
         ensures { result.arg ≡ asked_argument self.now operation.now moment }
     {
         if self.down {
@@ -204,22 +204,13 @@ impl<A: Allocator + Copy> Sup<A> {
             }
             Operation::Exit(number, reason) => {
                 if !self.template.restart.restarts_after(reason) {
-                    return self.found(*number);
+                    return Asked::nothing();
                 }
                 self.asked_again(Status::Running, *number, moment)
             }
             Operation::Retry(number) => self.asked_again(Status::Restarting, *number, moment),
-            Operation::Terminate(number) => self.found(*number),
-            Operation::Stop => Asked::nothing(),
+            Operation::Terminate(_) | Operation::Stop => Asked::nothing(),
         }
-    }
-
-    /// Nothing is asked of the child with this number, which is looked up.
-    #[inline(always)]
-    fn found(&self, number: u64) -> Asked
-        ensures { result.arg ≡ None }
-    {
-        Asked::new(None, self.table.place_of(number))
     }
 
     /// The argument of the listed child with this number and status, if one more attempt is allowed.
@@ -232,46 +223,33 @@ impl<A: Allocator + Copy> Sup<A> {
         self.table.asked_of(status, number)
     }
 
-    /// Enters the next entry of the history, and answers the reply to it.
-    ///
-    /// Where [`Sup::asks`] was called for this entry, [`Sup::step_at`] takes a look-up less.
-    pub fn step(&mut self, entry: &Entry) -> Reply
-        requires { self.old.steps < self.old.template.entries }
-        ensures reply { result ≡ reply_to self.old entry.now }
-        ensures next { self.new ≡ next_state self.old entry.now }
-
-        // By the reference semantics: from the whole history.
-        ensures history { (history : List Entry) → IsAfter self.old history
-            → (result ≡ reply_after self.old.template history entry.now) × IsAfter self.new (history ++ entry.now ∷ []) }
-    {
-        self.advance(entry, NO_PLACE)
+    /// Where the child stood that the last entry took out or let wait. A supervisor that lacks just this entry has it there, so that
+    /// [`Sup::step_at`] need not look for it. An entry of no child leaves what the one before it found.
+    #[inline(always)]
+    pub fn spot(&self) -> Spot {
+        Spot::at(self.table.stood())
     }
 
-    /// Enters an entry as [`Sup::step`] does. The child is looked for where [`Sup::asks`] found it, of this supervisor or of another after
-    /// the same history, and by its number only if it does not stand there. So the reply is right whatever was asked.
+    /// Enters an entry of any handle with this moment, operation and answer. `place` is where the operation's child may have been found.
+    // (Inlined, as all is that makes the reply to a restart or to a termination: else it would be written in pieces and then read as
+    // one, which takes time.)
     #[inline(always)]
-    pub fn step_at(&mut self, entry: &Entry, spot: Spot) -> Reply
+    pub(crate) fn advance(
+        &mut self,
+        moment: u64,
+        operation: &Operation,
+        answer: Answer,
+        place: usize,
+    ) -> Reply
         requires { self.old.steps < self.old.template.entries }
-        ensures reply { result ≡ reply_to self.old entry.now }
-        ensures next { self.new ≡ next_state self.old entry.now }
-        ensures history { (history : List Entry) → IsAfter self.old history
-            → (result ≡ reply_after self.old.template history entry.now) × IsAfter self.new (history ++ entry.now ∷ []) }
+        ensures reply { (handle serial : ℕ) → result ≡ reply_to self.old (record { handle = handle; serial = serial; moment = moment; operation = operation.now; answer = answer }) }
+        ensures next { (handle serial : ℕ) → self.new ≡ next_state self.old (record { handle = handle; serial = serial; moment = moment; operation = operation.now; answer = answer }) }
     {
-        self.advance(entry, spot.place())
-    }
-
-    // (Inlined, as `perform` and `terminate` are, so that the reply is not written in pieces and then read as one, which takes time.)
-    #[inline(always)]
-    fn advance(&mut self, entry: &Entry, place: usize) -> Reply
-        requires { self.old.steps < self.old.template.entries }
-        ensures reply { result ≡ reply_to self.old entry.now }
-        ensures next { self.new ≡ next_state self.old entry.now }
-    {
-        self.arrive(entry.moment);
+        self.arrive(moment);
         if self.is_down() {
             return Reply::Down;
         }
-        self.perform(&entry.operation, entry.answer, place)
+        self.perform(operation, answer, place)
     }
 
     /// `place` is where the operation's child may have been found.
@@ -316,6 +294,7 @@ impl<A: Allocator + Copy> Sup<A> {
         }
     }
 
+    #[inline(always)]
     fn exit(&mut self, number: u64, reason: &Reason, answer: Answer, place: usize) -> Reply
         requires up { self.old.down ≡ false }
         requires room { self.old.made < self.old.steps }
@@ -394,6 +373,7 @@ impl<A: Allocator + Copy> Sup<A> {
     }
 
     /// An attempt to restart the listed child with this number and status, if there is one.
+    #[inline(always)]
     fn restart(
         &mut self,
         status: Status,
@@ -416,6 +396,7 @@ impl<A: Allocator + Copy> Sup<A> {
     }
 
     /// The restart was answered `Running`.
+    #[inline(always)]
     fn replace(&mut self, status: Status, number: u64, place: usize) -> Option<Reply>
         requires up { self.old.down ≡ false }
         requires room { self.old.made < self.old.steps }

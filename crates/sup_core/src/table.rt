@@ -36,9 +36,12 @@ const FEW_PLACES: usize = 64;
 pub(crate) struct Table<A: Allocator> {
     places: Places<A>,
     hints: Hints<A>,
-    max: u64,
+    // (No two that are changed at different times stand side by side: written apart and then read as one, they would be waited for.)
     made: u64,
+    max: u64,
     live: u64,
+    // Where the child stood that was taken or let wait last. No reply depends on it.
+    stood: usize,
     running: u64,
 }
 
@@ -76,6 +79,7 @@ impl<A: Allocator + Copy> Table<A> {
             made: 0,
             live: 0,
             running: 0,
+            stood: NO_PLACE,
         })
     }
 
@@ -145,12 +149,9 @@ impl<A: Allocator + Copy> Table<A> {
         self.made
     }
 
-    /// The place of this number, or `NO_PLACE`.
-    pub(crate) fn place_of(&self, number: u64) -> usize {
-        match index_of(&self.places, number, self.hints.guess(number, self.made)) {
-            Some(place) => place,
-            None => NO_PLACE,
-        }
+    /// Where the child stood that was to be taken or let wait last; `NO_PLACE` where none was found.
+    pub(crate) fn stood(&self) -> usize {
+        self.stood
     }
 
     /// Takes the row with this number out, and answers whether there was one. `place` is where it may have been found.
@@ -160,7 +161,7 @@ impl<A: Allocator + Copy> Table<A> {
             ((list_any (has_number number) self.old.rows ≡ false) × (self.new ≡ self.old)) }
     {
         let guess = guess_or(place, &self.hints, number, self.made);
-        let Some(child) = take_child(&mut self.places, number, guess) else {
+        let Some(child) = take_child(&mut self.places, number, guess, &mut self.stood) else {
             return false;
         };
         trim(&mut self.places);
@@ -179,7 +180,7 @@ impl<A: Allocator + Copy> Table<A> {
         ensures room { IsSome result → length self.new.rows < self.old.max }
     {
         let guess = guess_or(place, &self.hints, number, self.made);
-        let child = take_child_as(&mut self.places, number, status, guess)?;
+        let child = take_child_as(&mut self.places, number, status, guess, &mut self.stood)?;
         trim(&mut self.places);
         self.live -= 1;
         self.running -= one_if(child.is_running());
@@ -194,7 +195,7 @@ impl<A: Allocator + Copy> Table<A> {
             ((list_any (stands_as status number) self.old.rows ≡ false) × (self.new ≡ self.old)) }
     {
         let guess = guess_or(place, &self.hints, number, self.made);
-        if !let_wait(&mut self.places, number, status, guess) {
+        if !let_wait(&mut self.places, number, status, guess, &mut self.stood) {
             return false;
         }
         self.running -= one_if(status.is_running());
@@ -284,6 +285,27 @@ fn index_of<A: Allocator>(places: &Places<A>, number: u64, guess: Guess) -> Opti
     index_of_old(places, number)
 }
 
+/// The same. `stood` is then that index, or `NO_PLACE`.
+fn found_index<A: Allocator>(
+    places: &Places<A>,
+    number: u64,
+    guess: Guess,
+    stood: &mut usize,
+) -> Option<usize>
+    requires rises { (high : ℕ) × Rises 0 places.now.items high }
+    requires right { IsRight guess number places.now.items }
+    ensures absent { IfNone result (lookup (nat_eq number) places.now.items ≡ None) }
+    ensures within { IfSome result (λ i. i < vec_len places.now) }
+    ensures there { IfSome result (λ i. slice_get (keys_of places.now.items) i ≡ Some number) }
+{
+    let index = index_of(places, number, guess);
+    *stood = match index {
+        Some(index) => index,
+        None => NO_PLACE,
+    };
+    index
+}
+
 /// The same of a number of which its hint says nothing. It is looked for where it stands if no number in front of it is missing, or in
 /// the last place, and then by halves.
 fn index_of_old<A: Allocator>(places: &Places<A>, number: u64) -> Option<usize>
@@ -327,26 +349,32 @@ fn searched<A: Allocator>(places: &Places<A>, number: u64) -> Result<usize, usiz
     places.binary_search_by_key(&number, |place| place.number())
 }
 
-/// Empties the place of this number, and answers the child that was there.
-fn take_child<A: Allocator>(places: &mut Places<A>, number: u64, guess: Guess) -> Option<Child>
+/// Empties the place of this number, and answers the child that was there. `stood` is then where it stood.
+fn take_child<A: Allocator>(
+    places: &mut Places<A>,
+    number: u64,
+    guess: Guess,
+    stood: &mut usize,
+) -> Option<Child>
     requires rises { (high : ℕ) × Rises 0 places.old.items high }
     requires right { IsRight guess number places.old.items }
     ensures value { result ≡ found (lookup (nat_eq number) places.old.items) }
     ensures items { places.new.items ≡ set_value (nat_eq number) places.old.items None }
     ensures capacity { vec_capacity places.new ≡ vec_capacity places.old }
 {
-    match index_of(places, number, guess) {
+    match found_index(places, number, guess, stood) {
         Some(index) => places[index].take(),
         None => None,
     }
 }
 
-/// Empties the place of this number, if a child of this status is there, and answers that child.
+/// Empties the place of this number, if a child of this status is there, and answers that child. `stood` is then where it stood.
 fn take_child_as<A: Allocator>(
     places: &mut Places<A>,
     number: u64,
     status: Status,
     guess: Guess,
+    stood: &mut usize,
 ) -> Option<Child>
     requires rises { (high : ℕ) × Rises 0 places.old.items high }
     requires right { IsRight guess number places.old.items }
@@ -354,21 +382,27 @@ fn take_child_as<A: Allocator>(
     ensures items { places.new.items ≡ set_value (nat_eq number) places.old.items (left_of status (found (lookup (nat_eq number) places.old.items))) }
     ensures capacity { vec_capacity places.new ≡ vec_capacity places.old }
 {
-    match index_of(places, number, guess) {
+    match found_index(places, number, guess, stood) {
         Some(index) => places[index].take_as(status),
         None => None,
     }
 }
 
-/// Lets the child of this number wait for another try, if it has this status, and answers whether it has.
-fn let_wait<A: Allocator>(places: &mut Places<A>, number: u64, status: Status, guess: Guess) -> bool
+/// Lets the child of this number wait for another try, if it has this status, and answers whether it has. `stood` is then where it stood.
+fn let_wait<A: Allocator>(
+    places: &mut Places<A>,
+    number: u64,
+    status: Status,
+    guess: Guess,
+    stood: &mut usize,
+) -> bool
     requires rises { (high : ℕ) × Rises 0 places.old.items high }
     requires right { IsRight guess number places.old.items }
     ensures value { result ≡ is_some (taken_of status (found (lookup (nat_eq number) places.old.items))) }
     ensures items { places.new.items ≡ set_value (nat_eq number) places.old.items (waiting_of status (found (lookup (nat_eq number) places.old.items))) }
     ensures capacity { vec_capacity places.new ≡ vec_capacity places.old }
 {
-    match index_of(places, number, guess) {
+    match found_index(places, number, guess, stood) {
         Some(index) => places[index].wait_as(status),
         None => false,
     }

@@ -404,9 +404,12 @@ impl Copies {
         ensures next { self.new ≡ record self.old { next = taken self.old.next entry.now } }
     {
         let Other { next, spots, .. } = &mut self.other;
-        note(spots, asked.spot);
         match next {
-            Some(next) => next.step(entry, asked),
+            Some(next) => {
+                let reply = next.step(entry, asked);
+                note(spots, next.spot());
+                reply
+            }
             None => unreachable!(),
         }
     }

@@ -188,6 +188,12 @@ impl<A: Allocator + Copy> View<A> {
         take_asked(&mut self.sup, entry, asked)
     }
 
+    /// Where the child stood that the last entry took out or let wait.
+    #[inline(always)]
+    pub(crate) fn spot(&self) -> Spot {
+        self.sup.spot()
+    }
+
     /// The front that it has absorbed.
     pub(crate) fn front(&self) -> &Ticket
         ensures { result.now ≡ record { press = self.now.press; editions = self.now.editions; front = self.now.front } }

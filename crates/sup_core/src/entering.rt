@@ -1,0 +1,74 @@
+//! How entries come into a supervisor: with the start function of its children, or with what it has answered.
+ghost use Rattle.std.specs.Prelude.{◌≡◌, ◌+◌, ◌<◌, ◌++◌, ◌∷◌, [], ℕ, List};
+ghost use Rattle.sup_types.specs.declared.history.Entry.{Entry};
+ghost use Rattle.sup_core.specs.Replies.{reply_to};
+ghost use Rattle.sup_core.specs.Changes.{next_state};
+ghost use Rattle.sup_core.specs.Account.{IsAfter, reply_after, entry_of, answer_to};
+
+use crate::asked::{NO_PLACE, Spot};
+use crate::supervisor::Sup;
+use std::alloc::Allocator;
+use sup_types::{Answer, Entry, FixedStarter, Operation, Reply, Text};
+
+impl<A: Allocator + Copy> Sup<A> {
+    /// Enters the next entry of the history, and answers the reply to it.
+    ///
+    /// Where [`Sup::asks`] was called for this entry, [`Sup::step_at`] takes a look-up less.
+    pub fn step(&mut self, entry: &Entry) -> Reply
+        requires { self.old.steps < self.old.template.entries }
+        ensures reply { result ≡ reply_to self.old entry.now }
+        ensures next { self.new ≡ next_state self.old entry.now }
+
+        // By the reference semantics: from the whole history.
+        ensures history { (history : List Entry) → IsAfter self.old history
+            → (result ≡ reply_after self.old.template history entry.now) × IsAfter self.new (history ++ entry.now ∷ []) }
+    {
+        self.advance(entry.moment, &entry.operation, entry.answer, NO_PLACE)
+    }
+
+    /// Enters an entry as [`Sup::step`] does. The child is looked for where [`Sup::asks`] found it, of this supervisor or of another after
+    /// the same history, and by its number only if it does not stand there. So the reply is right whatever was asked.
+    #[inline(always)]
+    pub fn step_at(&mut self, entry: &Entry, spot: Spot) -> Reply
+        requires { self.old.steps < self.old.template.entries }
+        ensures reply { result ≡ reply_to self.old entry.now }
+        ensures next { self.new ≡ next_state self.old entry.now }
+        ensures history { (history : List Entry) → IsAfter self.old history
+            → (result ≡ reply_after self.old.template history entry.now) × IsAfter self.new (history ++ entry.now ∷ []) }
+    {
+        self.advance(entry.moment, &entry.operation, entry.answer, spot.place())
+    }
+
+    /// Enters an operation at this moment as the next entry, with what the start function answers where it is asked, and answers the
+    /// reply to it. The start function is asked at most once, and the child is looked up once. Which handle the entry is of makes no
+    /// difference.
+    // (Inlined, so that the reply is not written in pieces and then read as one, which takes time.)
+    #[inline(always)]
+    pub fn update<S: FixedStarter>(
+        &mut self,
+        starter: &S,
+        moment: u64,
+        operation: &Operation,
+    ) -> Reply
+        requires { self.old.steps < self.old.template.entries }
+        ensures history { (history : List Entry) (handle serial : ℕ) → IsAfter self.old history
+            → (result ≡ reply_after self.old.template history (entry_of S.answer self.old.template history handle serial operation.now moment))
+            × IsAfter self.new (history ++ entry_of S.answer self.old.template history handle serial operation.now moment ∷ []) }
+        ensures template { self.new.template ≡ self.old.template }
+        ensures steps { self.new.steps ≡ self.old.steps + 1 }
+    {
+        let asked = self.asked_argument(operation, moment);
+        let answer = answer_to(starter, &asked.arg, moment);
+        self.advance(moment, operation, answer, asked.spot.place())
+    }
+}
+
+/// What this start function says to an argument, if one is asked for.
+fn answer_to<S: FixedStarter>(starter: &S, arg: &Option<Text>, moment: u64) -> Answer
+    ensures { result ≡ answer_to S.answer arg.now moment }
+{
+    match arg {
+        Some(arg) => starter.start_fixed(arg, moment),
+        None => Answer::Ignore,
+    }
+}
