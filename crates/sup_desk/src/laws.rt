@@ -53,6 +53,8 @@ pub fn give_ticket<N: Name, D, R: Wait + Drop, J: Journal + Drop>(
 }
 
 /// Writes one entry on the leaf: that of the handle with this number, which has made so many before.
+// (Inlined: a reply that it returned would be written in pieces and then read as one, for which the processor waits.)
+#[inline(always)]
 fn write<N: Name, S: Starter, R: Wait + Drop, J: Journal + Drop>(
     leaf: &mut Leaf<N, R, J>,
     starter: &S,

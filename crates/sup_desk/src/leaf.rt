@@ -198,6 +198,8 @@ impl<N: Name, R: Wait + Drop, J: Journal + Drop> Leaf<N, R, J> {
 
     /// Writes one entry, for which this was asked, and which is then pending, and ready in the journal. After a refusal nothing
     /// has changed.
+    // (Inlined, as what calls it is: what is written in pieces and then read as one is waited for.)
+    #[inline(always)]
     pub fn append(&mut self, entry: Entry, asked: &Asked) -> Result<Reply, OutOfMemory>
         requires whole { self.old.fault ≡ None }
         requires room { length (self.old.published ++ self.old.pending) < N.template.entries }
