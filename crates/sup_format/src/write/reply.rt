@@ -56,9 +56,9 @@ pub fn append_reply<A: Allocator>(reply: &Reply, out: &mut Vec<u8, A>) -> Result
         Reply::Ignored(number) => append_numbered(out, b"ignored", number),
         Reply::Stray(number) => append_numbered(out, b"stray", number),
         Reply::NotFound => append_words(out, b"error", b"not_found"),
-        Reply::Ended => append_line(out, &[Field::Word(b"ok")]),
-        Reply::Stopped => append_line(out, &[Field::Word(b"stopped")]),
-        Reply::GaveUp => append_line(out, &[Field::Word(b"gave_up")]),
+        Reply::Ended => append_word(out, b"ok"),
+        Reply::Stopped => append_word(out, b"stopped"),
+        Reply::GaveUp => append_word(out, b"gave_up"),
         Reply::Down => append_words(out, b"error", b"down"),
     }
 }
@@ -133,6 +133,20 @@ pub fn append_refusal<A: Allocator>(
     }
 }
 
+// The lines of replies are written piece by piece, and what writes them is inlined, so that a word which is known is not copied by a call.
+
+/// Appends a line of one word.
+#[inline(always)]
+fn append_word<A: Allocator>(out: &mut Vec<u8, A>, word: &[u8]) -> Result<(), AllocError>
+    ensures ok { OnOk result (out.new.items ≡ out.old.items ++ line_of (word.now ∷ [])) }
+    ensures err { OnErr result (Grows out.old.items out.new.items) }
+{
+    out.extend_from_slice(word)?;
+    out.push(b'\n')?;
+    Ok(())
+}
+
+#[inline(always)]
 fn append_words<A: Allocator>(
     out: &mut Vec<u8, A>,
     first: &[u8],
@@ -141,9 +155,12 @@ fn append_words<A: Allocator>(
     ensures ok { OnOk result (out.new.items ≡ out.old.items ++ line_of (first.now ∷ second.now ∷ [])) }
     ensures err { OnErr result (Grows out.old.items out.new.items) }
 {
-    append_line(out, &[Field::Word(first), Field::Word(second)])
+    out.extend_from_slice(first)?;
+    out.push(b' ')?;
+    append_word(out, second)
 }
 
+#[inline(always)]
 fn append_numbered<A: Allocator>(
     out: &mut Vec<u8, A>,
     word: &[u8],
@@ -152,9 +169,11 @@ fn append_numbered<A: Allocator>(
     ensures ok { OnOk result (out.new.items ≡ out.old.items ++ line_of (word.now ∷ decimal number ∷ [])) }
     ensures err { OnErr result (Grows out.old.items out.new.items) }
 {
-    append_line(out, &[Field::Word(word), Field::Number(number)])
+    out.extend_from_slice(word)?;
+    append_last(out, number)
 }
 
+#[inline(always)]
 fn append_pair<A: Allocator>(
     out: &mut Vec<u8, A>,
     word: &[u8],
@@ -164,14 +183,28 @@ fn append_pair<A: Allocator>(
     ensures ok { OnOk result (out.new.items ≡ out.old.items ++ line_of (word.now ∷ decimal first ∷ decimal second ∷ [])) }
     ensures err { OnErr result (Grows out.old.items out.new.items) }
 {
-    append_line(
-        out,
-        &[
-            Field::Word(word),
-            Field::Number(first),
-            Field::Number(second),
-        ],
-    )
+    out.extend_from_slice(word)?;
+    append_next(out, first)?;
+    append_last(out, second)
+}
+
+/// Appends a space and the digits of a number.
+fn append_next<A: Allocator>(out: &mut Vec<u8, A>, number: u64) -> Result<(), AllocError>
+    ensures ok { OnOk result (out.new.items ≡ out.old.items ++ 32 ∷ decimal number) }
+    ensures err { OnErr result (Grows out.old.items out.new.items) }
+{
+    out.push(b' ')?;
+    append_number(out, number)
+}
+
+/// The same at the end of a line, with its line feed.
+fn append_last<A: Allocator>(out: &mut Vec<u8, A>, number: u64) -> Result<(), AllocError>
+    ensures ok { OnOk result (out.new.items ≡ out.old.items ++ (32 ∷ decimal number) ++ 10 ∷ []) }
+    ensures err { OnErr result (Grows out.old.items out.new.items) }
+{
+    append_next(out, number)?;
+    out.push(b'\n')?;
+    Ok(())
 }
 
 /// Appends the words of a line, with a space between each two, and a line feed.
