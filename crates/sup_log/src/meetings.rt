@@ -12,7 +12,7 @@ const TURNS: u32 = 256;
 #[derive(Clone, Copy)]
 pub struct Meetings {
     // The groups whose lenses met others.
-    apart: [bool; GROUPS],
+    met: [bool; GROUPS],
     // For how many publications more the press puts the copy into their slots.
     turns: u32,
     // Whether it did so with the last copy that was shown on each side.
@@ -24,7 +24,7 @@ impl Meetings {
     /// No two lenses have met.
     pub fn none() -> Meetings {
         Meetings {
-            apart: [false; GROUPS],
+            met: [false; GROUPS],
             turns: 0,
             is_left_ours: false,
             is_right_ours: false,
@@ -39,10 +39,10 @@ impl Meetings {
             self.is_right_ours
         };
         if !is_ours && self.turns == 0 {
-            self.apart = [false; GROUPS];
+            self.met = [false; GROUPS];
             self.turns = TURNS;
         }
-        self.apart[group % GROUPS] = true;
+        self.met[group % GROUPS] = true;
     }
 
     /// Whether the press is to put the next copy, which it shows on this side, into the slots of those groups.
@@ -59,6 +59,6 @@ impl Meetings {
 
     /// Whether lenses of this group met others.
     pub fn were_of(&self, group: usize) -> bool {
-        self.apart[group % GROUPS]
+        self.met[group % GROUPS]
     }
 }
