@@ -13,16 +13,16 @@ pub struct Spot {
 
 /// Whether the start function is to be asked, and about which argument.
 ///
-/// It also says where the operation's child was found, so that the entry with the answer needs no second look-up.
+/// It also says where a child was found that may be restarted, so that the entry with the answer needs no second look-up.
 #[derive(Clone, Copy, Debug)]
 pub struct Asked {
     /// The argument whose start decides the reply, if there is one.
     pub arg: Option<Text>,
-    /// Where the child was found.
+    /// Where the child was found, if it was looked up.
     pub spot: Spot,
 }
 
-/// The place of a child that was not looked up.
+/// The place of a child that was not looked up, or not found.
 pub const NO_PLACE: usize = usize::MAX;
 
 impl Asked {

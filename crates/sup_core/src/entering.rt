@@ -1,7 +1,7 @@
 //! How entries come into a supervisor: with the start function of its children, or with what it has answered.
 ghost use Rattle.std.specs.Prelude.{◌≡◌, ◌+◌, ◌<◌, ◌++◌, ◌∷◌, [], ℕ, List};
 ghost use Rattle.sup_types.specs.declared.history.Entry.{Entry};
-ghost use Rattle.sup_core.specs.Replies.{reply_to};
+ghost use Rattle.sup_core.specs.Replies.{reply_to, asked_argument};
 ghost use Rattle.sup_core.specs.Changes.{next_state};
 ghost use Rattle.sup_core.specs.Account.{IsAfter, reply_after, entry_of, answer_to};
 
@@ -26,8 +26,9 @@ impl<A: Allocator + Copy> Sup<A> {
         self.advance(entry.moment, &entry.operation, entry.answer, NO_PLACE)
     }
 
-    /// Enters an entry as [`Sup::step`] does. The child is looked for where [`Sup::asks`] found it, of this supervisor or of another after
-    /// the same history, and by its number only if it does not stand there. So the reply is right whatever was asked.
+    /// Enters an entry as [`Sup::step`] does. The child is looked for at this spot first, and by its number only if it does not stand
+    /// there. So the reply is right whatever spot is told: that of [`Sup::asks`] for this entry, or the [`Sup::spot`] that another
+    /// supervisor had after it.
     #[inline(always)]
     pub fn step_at(&mut self, entry: &Entry, spot: Spot) -> Reply
         requires { self.old.steps < self.old.template.entries }
@@ -51,6 +52,22 @@ impl<A: Allocator + Copy> Sup<A> {
         operation: &Operation,
     ) -> Reply
         requires { self.old.steps < self.old.template.entries }
+        ensures reply { (handle serial : ℕ) → result ≡ reply_to self.old (record {
+          handle = handle;
+          serial = serial;
+          moment = moment;
+          operation = operation.now;
+          answer = answer_to S.answer (asked_argument self.old operation.now moment) moment;
+        }) }
+        ensures next { (handle serial : ℕ) → self.new ≡ next_state self.old (record {
+          handle = handle;
+          serial = serial;
+          moment = moment;
+          operation = operation.now;
+          answer = answer_to S.answer (asked_argument self.old operation.now moment) moment;
+        }) }
+
+        // By the reference semantics: from the whole history.
         ensures history { (history : List Entry) (handle serial : ℕ) → IsAfter self.old history
             → (result ≡ reply_after self.old.template history (entry_of S.answer self.old.template history handle serial operation.now moment))
             × IsAfter self.new (history ++ entry_of S.answer self.old.template history handle serial operation.now moment ∷ []) }

@@ -36,7 +36,7 @@ const FEW_PLACES: usize = 64;
 pub(crate) struct Table<A: Allocator> {
     places: Places<A>,
     hints: Hints<A>,
-    // (No two that are changed at different times stand side by side: written apart and then read as one, they would be waited for.)
+    // (The three counts stand apart: the compiler adds to two neighbours in one piece, and waits if they were just written one by one.)
     made: u64,
     max: u64,
     live: u64,
@@ -299,10 +299,7 @@ fn found_index<A: Allocator>(
     ensures there { IfSome result (λ i. slice_get (keys_of places.now.items) i ≡ Some number) }
 {
     let index = index_of(places, number, guess);
-    *stood = match index {
-        Some(index) => index,
-        None => NO_PLACE,
-    };
+    *stood = index.unwrap_or(NO_PLACE);
     index
 }
 
