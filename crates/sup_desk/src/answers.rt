@@ -1,6 +1,7 @@
 //! What a query answers of a view.
 ghost use Rattle.std.specs.Prelude.{◌≡◌, IfOk, true, false};
 ghost use Rattle.sup_desk.specs.Asking.{IsAnswered};
+ghost use Rattle.sup_desk.specs.Tallies.{counts_with, seen_with};
 ghost use mathlib.Core.List.{IsPrefix};
 ghost use Rattle.sup_log.specs.Tokens.{sight};
 ghost use Rattle.sup_core.specs.Rows.{row_at, counts_of};
@@ -9,14 +10,57 @@ ghost use Rattle.sup_core.specs.State.{seen_of, MatchSeen};
 use sup_log::{Gone, Lens, View};
 use sup_types::{Counts, OutOfMemory, Row, Seen};
 
+/// How many children there are, as a look hands it on.
+///
+/// It lacks the number of child specifications, which is always one: the compiler would join that to its neighbour where a look ends, and
+/// wait for both.
+#[derive(Clone, Copy)]
+pub struct Tally {
+    active: u64,
+    supervisors: u64,
+    workers: u64,
+}
+
+impl Tally {
+    /// The counts.
+    #[inline(always)]
+    fn counts(self) -> Counts
+        ensures { result ≡ counts_with self }
+    {
+        Counts {
+            specs: 1,
+            active: self.active,
+            supervisors: self.supervisors,
+            workers: self.workers,
+        }
+    }
+}
+
 /// How many children are listed.
-pub fn counts_seen(view: &View) -> Seen<Counts>
-    ensures { result ≡ seen_of view.now.standing (counts_of view.now.standing.template.kind view.now.standing.rows) }
+#[inline(always)]
+pub fn tally_seen(view: &View) -> Seen<Tally>
+    ensures { seen_with result ≡ seen_of view.now.standing (counts_of view.now.standing.template.kind view.now.standing.rows) }
 {
     if view.is_down() {
         return Seen::Down;
     }
-    Seen::Up(view.counts())
+    let counts = view.counts();
+    Seen::Up(Tally {
+        active: counts.active,
+        supervisors: counts.supervisors,
+        workers: counts.workers,
+    })
+}
+
+/// The counts that a look handed on.
+#[inline(always)]
+pub fn counts_seen(seen: Seen<Tally>) -> Seen<Counts>
+    ensures { result ≡ seen_with seen }
+{
+    match seen {
+        Seen::Up(tally) => Seen::Up(tally.counts()),
+        Seen::Down => Seen::Down,
+    }
 }
 
 /// The listed child with this number.

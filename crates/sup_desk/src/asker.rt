@@ -6,7 +6,7 @@ ghost use Rattle.sup_core.specs.Queries.{which, count, child};
 ghost use Rattle.sup_log.specs.Tokens.{sight, history_of};
 ghost use Rattle.sup_desk.specs.Asking.{IsAnswered};
 
-use crate::answers::{child_seen, counts_seen, inspect_by, rows_seen};
+use crate::answers::{child_seen, counts_seen, inspect_by, rows_seen, tally_seen};
 use crate::faults::QueryFault;
 use crate::name::Name;
 use std::marker::{Model, PhantomData};
@@ -68,7 +68,7 @@ impl<N: Name> Asker<N> {
         ensures editions { IsPrefix self.old.editions self.new.editions }
         ensures answer { IfOk result (λ answer. answer ≡ count N.template self.new.front) }
     {
-        self.lens.look(|view| counts_seen(view))
+        Ok(counts_seen(self.lens.look(|view| tally_seen(view))?))
     }
 
     /// The listed child with this number at such a front.

@@ -147,10 +147,32 @@ impl Lens {
         }
     }
 
-    /// The same in the slots of its group, if there are any. What it calls is inlined here: else what the lens has seen would be
-    /// written, and read again in larger pieces, for which the processor waits.
+    /// The same in the slots of its group, if there are any. What it calls where no other lens looks is inlined here: else what the lens
+    /// has seen would be written, and read again in larger pieces, for which the processor waits.
     #[inline(never)]
     fn look_shared<T, F: FnOnce(&View) -> T>(&mut self, f: F) -> Result<T, Gone>
+        requires { F.IsAlwaysCallable f }
+        ensures press { (self.new.press ≡ self.old.press) × (self.new.template ≡ self.old.template) }
+        ensures front { IsPrefix self.old.front self.new.front }
+        ensures editions { IsPrefix self.old.editions self.new.editions }
+        ensures answer { IfOk result (λ r. FnOnceReturnsAt F.FnOnce f (sight self.new) r) }
+        ensures gone { OnErr result (self.new ≡ self.old) }
+    {
+        let Some(pairs) = &self.pairs else {
+            return Err(Gone);
+        };
+        match pairs.look_alone(self.group, self.is_apart, &self.front, f) {
+            Ok((told, answer)) => {
+                self.front = told;
+                Ok(answer)
+            }
+            Err(f) => self.look_beside(f),
+        }
+    }
+
+    /// The same where other lenses look, or where a publication came between.
+    #[inline(never)]
+    fn look_beside<T, F: FnOnce(&View) -> T>(&mut self, f: F) -> Result<T, Gone>
         requires { F.IsAlwaysCallable f }
         ensures press { (self.new.press ≡ self.old.press) × (self.new.template ≡ self.old.template) }
         ensures front { IsPrefix self.old.front self.new.front }

@@ -21,7 +21,7 @@ use crate::faults::Gone;
 use crate::pair::{CLOSED, Kin, Pair, Shelved, Slot, entered, leave, read_claimed, spread};
 use crate::ticket::Ticket;
 use crate::view::View;
-use counted_slot::{Claim, PRESENT};
+use counted_slot::{Claim, ONE_READER, PRESENT};
 use crossbeam_utils::CachePadded;
 use std::hint::spin_loop;
 use std::marker::Model;
@@ -127,17 +127,68 @@ impl Pairs {
         let Some((claim, has_company)) = entered(slot, word) else {
             return Err(f);
         };
-        if self.shows_left() != is_left {
-            leave(claim, &self.bell);
-            return Err(f);
-        }
         if !is_own {
             *is_apart = has_company;
         }
         let claim = self.spread_if(has_company && !is_own, claim, group, is_left);
+        self.read_shown(claim, is_left, front, f)
+    }
+
+    /// Calls `f` on the copy in a slot that was entered, if it has absorbed the front and its side is still shown, and leaves. Otherwise
+    /// `f` comes back.
+    #[inline(always)]
+    fn read_shown<T, F: FnOnce(&View) -> T>(
+        &self,
+        claim: Claim<'_, Option<Shelved>>,
+        is_left: bool,
+        front: &Ticket,
+        f: F,
+    ) -> Result<(Ticket, T), F>
+        requires entered { claim.right ≡ 1 }
+        requires kin { claim.tag ≡ self.now }
+        requires press { self.now.front.press ≡ front.now.press }
+        requires callable { F.IsAlwaysCallable f }
+        ensures front { IfOk result (λ r. (r.0.press ≡ front.now.press) × IsPrefix front.now.front r.0.front × IsPrefix front.now.editions r.0.editions) }
+        ensures answer { IfOk result (λ r. FnOnceReturnsAt F.FnOnce f (sight (record { press = r.0.press; template = self.now.template; editions = r.0.editions; front = r.0.front })) r.1) }
+        ensures back { IfErr result (λ g. g ≡ f) }
+    {
+        if self.shows_left() != is_left {
+            leave(claim, &self.bell);
+            return Err(f);
+        }
         let seen = read_claimed(&claim, front, f);
         leave(claim, &self.bell);
         seen
+    }
+
+    /// Looks in the slot to which a lens of this group comes, as if no other looked there and the copy were in its own group's where it is
+    /// apart. Otherwise `f` comes back. Most looks need no more.
+    #[inline(always)]
+    pub fn look_alone<T, F: FnOnce(&View) -> T>(
+        &self,
+        group: usize,
+        is_apart: bool,
+        front: &Ticket,
+        f: F,
+    ) -> Result<(Ticket, T), F>
+        requires press { self.now.front.press ≡ front.now.press }
+        requires callable { F.IsAlwaysCallable f }
+        ensures front { IfOk result (λ r. (r.0.press ≡ front.now.press) × IsPrefix front.now.front r.0.front × IsPrefix front.now.editions r.0.editions) }
+        ensures answer { IfOk result (λ r. FnOnceReturnsAt F.FnOnce f (sight (record { press = r.0.press; template = self.now.template; editions = r.0.editions; front = r.0.front })) r.1) }
+        ensures back { IfErr result (λ g. g ≡ f) }
+    {
+        let is_left = self.shows_left();
+        let pair = if is_apart {
+            self.pair(group)
+        } else {
+            &self.first
+        };
+        let (found, claim) = pair.slot(is_left).turn(PRESENT, PRESENT + ONE_READER);
+        if found != PRESENT {
+            claim.done();
+            return Err(f);
+        }
+        self.read_shown(claim, is_left, front, f)
     }
 
     /// Puts what lies in a slot that was entered into that of this group, too, where that is of use.

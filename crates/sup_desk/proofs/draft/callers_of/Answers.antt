@@ -1,5 +1,5 @@
 -- The caller that was made is the next one, and has seen all.
-use Rattle.std.proofs.Common.{◌≡◌, ◌+◌, ◌∷◌, [], length, rules, arith, ap, sym, ◌∙◌, length-append}
+use Rattle.std.proofs.Common.{◌≡◌, ◌+◌, ◌∷◌, [], length, rules, arith, ap, ◌∙◌, length-append}
 use Rattle.sup_desk.specs.Audits.{HasSeenAll}
 use Rattle.sup_desk.proofs.Audited.{each_more}
 use Rattle.sup_desk.proofs.draft.callers_of.Goals as goal
