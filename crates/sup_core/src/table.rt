@@ -36,7 +36,8 @@ const FEW_PLACES: usize = 64;
 pub(crate) struct Table<A: Allocator> {
     places: Places<A>,
     hints: Hints<A>,
-    // (The three counts stand apart: the compiler adds to two neighbours in one piece, and waits if they were just written one by one.)
+    // (The three counts stand apart: the compiler adds to two neighbours in one piece, for which the processor waits if they were just
+    // written one by one.)
     made: u64,
     max: u64,
     live: u64,

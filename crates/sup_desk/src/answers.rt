@@ -12,8 +12,8 @@ use sup_types::{Counts, OutOfMemory, Row, Seen};
 
 /// How many children there are, as a look hands it on.
 ///
-/// It lacks the number of child specifications, which is always one: the compiler would join that to its neighbour where a look ends, and
-/// wait for both.
+/// It lacks the number of child specifications, which is always one. The compiler would read that and its neighbour as one piece where a
+/// look ends, and the processor waits for a piece that was written in two.
 #[derive(Clone, Copy)]
 pub struct Tally {
     active: u64,

@@ -161,8 +161,8 @@ impl Pairs {
         seen
     }
 
-    /// Looks in the slot to which a lens of this group comes, as if no other looked there and the copy were in its own group's where it is
-    /// apart. Otherwise `f` comes back. Most looks need no more.
+    /// Looks once in the slot of its group if the lens is apart, or else in the first pair's. It holds the copy to be there, and no other
+    /// lens: otherwise `f` comes back, as from [`Pairs::look_in`]. Most looks need no more.
     #[inline(always)]
     pub fn look_alone<T, F: FnOnce(&View) -> T>(
         &self,
