@@ -1,5 +1,5 @@
 //! Lenses: the readers' side of the tables and of the slots.
-ghost use Rattle.std.specs.Prelude.{◌≡◌, ◌⊎◌, true, IfOk, IfErr, IfSome, OnErr, IsOk};
+ghost use Rattle.std.specs.Prelude.{◌≡◌, ◌⊎◌, true, IfOk, IfErr, IfSome, OnErr, IsOk, None, MatchOption};
 ghost use Rattle.std.specs.Arc.{arc_value};
 ghost use Rattle.std.specs.Fn.{FnOnceReturnsAt};
 ghost use mathlib.Core.List.{IsPrefix};
@@ -9,6 +9,7 @@ ghost use Rattle.sup_log.specs.Pairs.{IsPairOf};
 ghost use Rattle.sup_log.specs.Tokens.{sight};
 
 use crate::faults::Gone;
+use crate::pair::set;
 use crate::pairs::Pairs;
 use crate::publication::{Known, Published, Sees};
 use crate::ticket::Ticket;
@@ -138,76 +139,89 @@ impl Lens {
             }
             Err(Missed::Behind) => Err(Gone),
             Err(Missed::Closed(f)) => {
-                if self.reader.is_some() {
-                    self.look_on(f)
-                } else {
-                    self.look_shared(f)
+                let mut answer = None;
+                self.look_elsewhere(f, &mut answer);
+                match answer {
+                    Some(answer) => Ok(answer),
+                    None => Err(Gone),
                 }
             }
         }
     }
 
-    /// The same in the slots of its group, if there are any. What it calls where no other lens looks is inlined here: else what the lens
-    /// has seen would be written, and read again in larger pieces, for which the processor waits.
-    #[inline(never)]
-    fn look_shared<T, F: FnOnce(&View) -> T>(&mut self, f: F) -> Result<T, Gone>
-        requires { F.IsAlwaysCallable f }
+    /// The same where its place is in use no more. The answer is left in its place, if there is one.
+    #[inline(always)]
+    fn look_elsewhere<T, F: FnOnce(&View) -> T>(&mut self, f: F, answer: &mut Option<T>)
+        requires callable { F.IsAlwaysCallable f }
+        requires free { answer.old ≡ None }
         ensures press { (self.new.press ≡ self.old.press) × (self.new.template ≡ self.old.template) }
         ensures front { IsPrefix self.old.front self.new.front }
         ensures editions { IsPrefix self.old.editions self.new.editions }
-        ensures answer { IfOk result (λ r. FnOnceReturnsAt F.FnOnce f (sight self.new) r) }
-        ensures gone { OnErr result (self.new ≡ self.old) }
+        ensures answer { MatchOption answer.new (self.new ≡ self.old) (λ r. FnOnceReturnsAt F.FnOnce f (sight self.new) r) }
+    {
+        if self.reader.is_some() {
+            self.look_on(f, answer);
+        } else {
+            self.look_shared(f, answer);
+        }
+    }
+
+    /// The same in the slots of its group, if there are any. What it calls where no other lens looks is inlined here.
+    // (The answer is written to its place before the lens leaves its slot. A result that hands it on would be cleared, written and copied,
+    // and the next exchange of a slot's word waits for all that was written before it.)
+    #[inline(never)]
+    fn look_shared<T, F: FnOnce(&View) -> T>(&mut self, f: F, answer: &mut Option<T>)
+        requires callable { F.IsAlwaysCallable f }
+        requires free { answer.old ≡ None }
+        ensures press { (self.new.press ≡ self.old.press) × (self.new.template ≡ self.old.template) }
+        ensures front { IsPrefix self.old.front self.new.front }
+        ensures editions { IsPrefix self.old.editions self.new.editions }
+        ensures answer { MatchOption answer.new (self.new ≡ self.old) (λ r. FnOnceReturnsAt F.FnOnce f (sight self.new) r) }
     {
         let Some(pairs) = &self.pairs else {
-            return Err(Gone);
+            return;
         };
-        match pairs.look_alone(self.group, self.is_apart, &self.front, f) {
-            Ok((told, answer)) => {
-                self.front = told;
-                Ok(answer)
-            }
-            Err(f) => self.look_beside(f),
+        if let Err(f) = pairs.look_alone(self.group, self.is_apart, &mut self.front, f, answer) {
+            self.look_beside(f, answer);
         }
     }
 
     /// The same where other lenses look, or where a publication came between.
     #[inline(never)]
-    fn look_beside<T, F: FnOnce(&View) -> T>(&mut self, f: F) -> Result<T, Gone>
-        requires { F.IsAlwaysCallable f }
+    fn look_beside<T, F: FnOnce(&View) -> T>(&mut self, f: F, answer: &mut Option<T>)
+        requires callable { F.IsAlwaysCallable f }
+        requires free { answer.old ≡ None }
         ensures press { (self.new.press ≡ self.old.press) × (self.new.template ≡ self.old.template) }
         ensures front { IsPrefix self.old.front self.new.front }
         ensures editions { IsPrefix self.old.editions self.new.editions }
-        ensures answer { IfOk result (λ r. FnOnceReturnsAt F.FnOnce f (sight self.new) r) }
-        ensures gone { OnErr result (self.new ≡ self.old) }
+        ensures answer { MatchOption answer.new (self.new ≡ self.old) (λ r. FnOnceReturnsAt F.FnOnce f (sight self.new) r) }
     {
         let Some(pairs) = &self.pairs else {
-            return Err(Gone);
+            return;
         };
-        let (seen, answer) = pairs.look(self.group, &mut self.is_apart, &self.front, f)?;
-        self.front = seen;
-        Ok(answer)
+        pairs.look(self.group, &mut self.is_apart, &mut self.front, f, answer);
     }
 
     /// The same where its place is in use no more: in the wider table, and then in the slots.
     #[inline(never)]
-    fn look_on<T, F: FnOnce(&View) -> T>(&mut self, f: F) -> Result<T, Gone>
-        requires { F.IsAlwaysCallable f }
+    fn look_on<T, F: FnOnce(&View) -> T>(&mut self, f: F, answer: &mut Option<T>)
+        requires callable { F.IsAlwaysCallable f }
+        requires free { answer.old ≡ None }
         ensures press { (self.new.press ≡ self.old.press) × (self.new.template ≡ self.old.template) }
         ensures front { IsPrefix self.old.front self.new.front }
         ensures editions { IsPrefix self.old.editions self.new.editions }
-        ensures answer { IfOk result (λ r. FnOnceReturnsAt F.FnOnce f (sight self.new) r) }
-        ensures gone { OnErr result (self.new ≡ self.old) }
+        ensures answer { MatchOption answer.new (self.new ≡ self.old) (λ r. FnOnceReturnsAt F.FnOnce f (sight self.new) r) }
     {
         self.reader = self.wider.take();
         match read_in_place(&mut self.reader, &self.template, self.front.copied(), f) {
-            Ok((front, answer)) => {
+            Ok((front, found)) => {
                 self.front = front;
-                Ok(answer)
+                set(answer, found);
             }
-            Err(Missed::Behind) => Err(Gone),
+            Err(Missed::Behind) => {}
             Err(Missed::Closed(f)) => {
                 self.reader = None;
-                self.look_shared(f)
+                self.look_shared(f, answer);
             }
         }
     }

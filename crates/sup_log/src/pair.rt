@@ -3,16 +3,16 @@
 //! A slot of `counted_slot` has one count of the lenses that look at its copy, however many lenses there are. It is free where no copy
 //! lies in it, and present where lenses may come to its copy. Where lenses still look at a copy that the press wants back, it marks the
 //! slot: no other lens comes then, and the press waits until those have left.
-ghost use Rattle.std.specs.Prelude.{◌≡◌, IfOk, IfErr, IfSome};
-ghost use Rattle.std.specs.Fn.{FnOnceReturnsAt};
-ghost use mathlib.Core.List.{IsPrefix};
+ghost use Rattle.std.specs.Prelude.{◌≡◌, None, Some, OnOk, IfErr, IfSome};
 ghost use Rattle.std.specs.Arc.{arc_value};
-ghost use Rattle.sup_log.specs.Pairs.{IsShelfOf};
-ghost use Rattle.sup_log.specs.Tokens.{IsLawful, sight};
+ghost use Rattle.sup_log.specs.Looks.{IsAnswer, IsGrown};
+ghost use Rattle.sup_log.specs.Pairs.{IsShelfOf, shown_by};
+ghost use Rattle.sup_log.specs.Tokens.{IsLawful};
 
 use crate::seldom::let_go;
 use crate::ticket::Ticket;
 use crate::view::View;
+use core::mem::replace;
 use counted_slot::{Claim, Counted, FREE, Fits, MARKED, MOST_READERS, ONE_READER, PRESENT, TAKEN};
 use crossbeam_utils::CachePadded;
 use std::marker::Model;
@@ -97,38 +97,59 @@ impl Pair {
     }
 }
 
-/// Calls `f` on a copy that has absorbed the front.
-fn read_copy<T, F: FnOnce(&View) -> T>(view: &View, front: &Ticket, f: F) -> Result<(Ticket, T), F>
-    requires press { view.now.press ≡ front.now.press }
+/// Puts an answer into its place, which is free.
+#[inline(always)]
+pub fn set<T>(place: &mut Option<T>, answer: T)
+    requires { place.old ≡ None }
+    ensures { place.new ≡ Some answer }
+{
+    match replace(place, Some(answer)) {
+        None => {}
+        Some(_before) => unreachable!(),
+    }
+}
+
+/// Calls `f` on a copy that has absorbed the front, which is then what the copy has absorbed.
+fn read_copy<T, F: FnOnce(&View) -> T>(
+    view: &View,
+    front: &mut Ticket,
+    f: F,
+    answer: &mut Option<T>,
+) -> Result<(), F>
+    requires press { view.now.press ≡ front.old.press }
     requires lawful { IsLawful view.now }
     requires callable { F.IsAlwaysCallable f }
-    ensures front { IfOk result (λ r. (r.0.press ≡ front.now.press) × IsPrefix front.now.front r.0.front × IsPrefix front.now.editions r.0.editions) }
-    ensures answer { IfOk result (λ r. FnOnceReturnsAt F.FnOnce f (sight (record { press = r.0.press; template = view.now.standing.template; editions = r.0.editions; front = r.0.front })) r.1) }
-    ensures back { IfErr result (λ g. g ≡ f) }
+    requires free { answer.old ≡ None }
+    ensures front { IsGrown front.old front.new }
+    ensures answer { OnOk result (IsAnswer F.FnOnce f (shown_by view.now.standing.template front.new) answer.new) }
+    ensures back { IfErr result (λ g. (g ≡ f) × (front.new ≡ front.old) × (answer.new ≡ None)) }
 {
     if !front.begins(view.front()) {
         return Err(f);
     }
-    let seen = view.front().copied();
-    Ok((seen, f(view)))
+    *front = view.front().copied();
+    set(answer, f(view));
+    Ok(())
 }
 
-/// Calls `f` on the copy in a slot that was entered, where it has absorbed the front.
+/// Calls `f` on the copy in a slot that was entered, where it has absorbed the front, which is then what the copy has absorbed.
 pub fn read_claimed<T, F: FnOnce(&View) -> T>(
     claim: &Claim<'_, Option<Shelved>>,
-    front: &Ticket,
+    front: &mut Ticket,
     f: F,
-) -> Result<(Ticket, T), F>
+    answer: &mut Option<T>,
+) -> Result<(), F>
     requires entered { claim.now.right ≡ 1 }
-    requires press { claim.now.tag.front.press ≡ front.now.press }
+    requires press { claim.now.tag.front.press ≡ front.old.press }
     requires callable { F.IsAlwaysCallable f }
-    ensures front { IfOk result (λ r. (r.0.press ≡ front.now.press) × IsPrefix front.now.front r.0.front × IsPrefix front.now.editions r.0.editions) }
-    ensures answer { IfOk result (λ r. FnOnceReturnsAt F.FnOnce f (sight (record { press = r.0.press; template = claim.now.tag.template; editions = r.0.editions; front = r.0.front })) r.1) }
-    ensures back { IfErr result (λ g. g ≡ f) }
+    requires free { answer.old ≡ None }
+    ensures front { IsGrown front.old front.new }
+    ensures answer { OnOk result (IsAnswer F.FnOnce f (shown_by claim.now.tag.template front.new) answer.new) }
+    ensures back { IfErr result (λ g. (g ≡ f) × (front.new ≡ front.old) × (answer.new ≡ None)) }
 {
     match claim.get() {
         Some(shelved) => match &**shelved.shelf {
-            Some(copy) => read_copy(copy, front, f),
+            Some(copy) => read_copy(copy, front, f, answer),
             None => Err(f),
         },
         None => Err(f),

@@ -12,12 +12,11 @@
 //!
 //! A lens that comes to a slot looks once more which side is shown: the side is turned in one step for all groups, so that no lens
 //! sees a copy before each lens could.
-ghost use Rattle.std.specs.Prelude.{◌≡◌, IfOk, IfErr};
+ghost use Rattle.std.specs.Prelude.{◌≡◌, None, OnOk, IfErr, MatchOption};
 ghost use Rattle.std.specs.Fn.{FnOnceReturnsAt};
-ghost use mathlib.Core.List.{IsPrefix};
-ghost use Rattle.sup_log.specs.Tokens.{sight};
+ghost use Rattle.sup_log.specs.Looks.{IsAnswer, IsGrown};
+ghost use Rattle.sup_log.specs.Pairs.{shown_by};
 
-use crate::faults::Gone;
 use crate::pair::{CLOSED, Kin, Pair, Shelved, Slot, entered, leave, read_claimed, spread};
 use crate::ticket::Ticket;
 use crate::view::View;
@@ -114,14 +113,16 @@ impl Pairs {
         group: usize,
         is_left: bool,
         is_apart: &mut bool,
-        front: &Ticket,
+        front: &mut Ticket,
         f: F,
-    ) -> Result<(Ticket, T), F>
-        requires press { self.now.front.press ≡ front.now.press }
+        answer: &mut Option<T>,
+    ) -> Result<(), F>
+        requires press { self.now.front.press ≡ front.old.press }
         requires callable { F.IsAlwaysCallable f }
-        ensures front { IfOk result (λ r. (r.0.press ≡ front.now.press) × IsPrefix front.now.front r.0.front × IsPrefix front.now.editions r.0.editions) }
-        ensures answer { IfOk result (λ r. FnOnceReturnsAt F.FnOnce f (sight (record { press = r.0.press; template = self.now.template; editions = r.0.editions; front = r.0.front })) r.1) }
-        ensures back { IfErr result (λ g. g ≡ f) }
+        requires free { answer.old ≡ None }
+        ensures front { IsGrown front.old front.new }
+        ensures answer { OnOk result (IsAnswer F.FnOnce f (shown_by self.now.template front.new) answer.new) }
+        ensures back { IfErr result (λ g. (g ≡ f) × (front.new ≡ front.old) × (answer.new ≡ None)) }
     {
         let (slot, word, is_own) = self.slot(group, is_left, *is_apart);
         let Some((claim, has_company)) = entered(slot, word) else {
@@ -131,7 +132,7 @@ impl Pairs {
             *is_apart = has_company;
         }
         let claim = self.spread_if(has_company && !is_own, claim, group, is_left);
-        self.read_shown(claim, is_left, front, f)
+        self.read_shown(claim, is_left, front, f, answer)
     }
 
     /// Calls `f` on the copy in a slot that was entered, if it has absorbed the front and its side is still shown, and leaves. Otherwise
@@ -141,24 +142,26 @@ impl Pairs {
         &self,
         claim: Claim<'_, Option<Shelved>>,
         is_left: bool,
-        front: &Ticket,
+        front: &mut Ticket,
         f: F,
-    ) -> Result<(Ticket, T), F>
+        answer: &mut Option<T>,
+    ) -> Result<(), F>
         requires entered { claim.right ≡ 1 }
         requires kin { claim.tag ≡ self.now }
-        requires press { self.now.front.press ≡ front.now.press }
+        requires press { self.now.front.press ≡ front.old.press }
         requires callable { F.IsAlwaysCallable f }
-        ensures front { IfOk result (λ r. (r.0.press ≡ front.now.press) × IsPrefix front.now.front r.0.front × IsPrefix front.now.editions r.0.editions) }
-        ensures answer { IfOk result (λ r. FnOnceReturnsAt F.FnOnce f (sight (record { press = r.0.press; template = self.now.template; editions = r.0.editions; front = r.0.front })) r.1) }
-        ensures back { IfErr result (λ g. g ≡ f) }
+        requires free { answer.old ≡ None }
+        ensures front { IsGrown front.old front.new }
+        ensures answer { OnOk result (IsAnswer F.FnOnce f (shown_by self.now.template front.new) answer.new) }
+        ensures back { IfErr result (λ g. (g ≡ f) × (front.new ≡ front.old) × (answer.new ≡ None)) }
     {
         if self.shows_left() != is_left {
             leave(claim, &self.bell);
             return Err(f);
         }
-        let seen = read_claimed(&claim, front, f);
+        let read = read_claimed(&claim, front, f, answer);
         leave(claim, &self.bell);
-        seen
+        read
     }
 
     /// Looks once in the slot of its group if the lens is apart, or else in the first pair's. It holds the copy to be there, and no other
@@ -168,14 +171,16 @@ impl Pairs {
         &self,
         group: usize,
         is_apart: bool,
-        front: &Ticket,
+        front: &mut Ticket,
         f: F,
-    ) -> Result<(Ticket, T), F>
-        requires press { self.now.front.press ≡ front.now.press }
+        answer: &mut Option<T>,
+    ) -> Result<(), F>
+        requires press { self.now.front.press ≡ front.old.press }
         requires callable { F.IsAlwaysCallable f }
-        ensures front { IfOk result (λ r. (r.0.press ≡ front.now.press) × IsPrefix front.now.front r.0.front × IsPrefix front.now.editions r.0.editions) }
-        ensures answer { IfOk result (λ r. FnOnceReturnsAt F.FnOnce f (sight (record { press = r.0.press; template = self.now.template; editions = r.0.editions; front = r.0.front })) r.1) }
-        ensures back { IfErr result (λ g. g ≡ f) }
+        requires free { answer.old ≡ None }
+        ensures front { IsGrown front.old front.new }
+        ensures answer { OnOk result (IsAnswer F.FnOnce f (shown_by self.now.template front.new) answer.new) }
+        ensures back { IfErr result (λ g. (g ≡ f) × (front.new ≡ front.old) × (answer.new ≡ None)) }
     {
         let is_left = self.shows_left();
         let pair = if is_apart {
@@ -188,7 +193,7 @@ impl Pairs {
             claim.done();
             return Err(f);
         }
-        self.read_shown(claim, is_left, front, f)
+        self.read_shown(claim, is_left, front, f, answer)
     }
 
     /// Puts what lies in a slot that was entered into that of this group, too, where that is of use.
@@ -210,33 +215,35 @@ impl Pairs {
         spread(claim, self.pair(group).slot(is_left))
     }
 
-    /// Enters a slot that is shown, calls `f` once on a copy that has absorbed the front, and leaves. It tries again where
-    /// another look or a publication came between, and waits for none. Where the press is gone, `f` is not called.
+    /// Enters a slot that is shown, calls `f` once on a copy that has absorbed the front, and leaves. The front is then what that copy has
+    /// absorbed, and the answer lies in its place. It tries again where another look or a publication came between, and waits for none.
+    /// Where the press is gone, `f` is not called.
     #[inline(always)]
     pub fn look<T, F: FnOnce(&View) -> T>(
         &self,
         group: usize,
         is_apart: &mut bool,
-        front: &Ticket,
+        front: &mut Ticket,
         f: F,
-    ) -> Result<(Ticket, T), Gone>
-        requires press { self.now.front.press ≡ front.now.press }
+        answer: &mut Option<T>,
+    )
+        requires press { self.now.front.press ≡ front.old.press }
         requires callable { F.IsAlwaysCallable f }
-        ensures front { IfOk result (λ r. (r.0.press ≡ front.now.press) × IsPrefix front.now.front r.0.front × IsPrefix front.now.editions r.0.editions) }
-        ensures answer { IfOk result (λ r. FnOnceReturnsAt F.FnOnce f (sight (record { press = r.0.press; template = self.now.template; editions = r.0.editions; front = r.0.front })) r.1) }
+        requires free { answer.old ≡ None }
+        ensures front { IsGrown front.old front.new }
+        ensures answer { MatchOption answer.new (front.new ≡ front.old) (λ r. FnOnceReturnsAt F.FnOnce f (shown_by self.now.template front.new) r) }
     {
         let mut f = f;
         for _ in 0..u64::MAX {
             let is_left = self.shows_left();
-            match self.look_in(group, is_left, is_apart, front, f) {
-                Ok(seen) => return Ok(seen),
+            match self.look_in(group, is_left, is_apart, front, f, answer) {
+                Ok(()) => return,
                 Err(back) => f = back,
             }
             if self.first.slot(is_left).load() == CLOSED {
-                return Err(Gone);
+                return;
             }
             spin_loop();
         }
-        Err(Gone)
     }
 }
