@@ -294,6 +294,7 @@ impl<'d, N: Name, D> HandleOf<'d, N, D> {
     }
 
     /// Has what is pending, all of which is its own, recorded and published.
+    #[inline(always)]
     pub(crate) fn commit<R: Wait + Drop, J: Journal + Drop>(
         &mut self,
         leaf: &mut Leaf<N, R, J>,

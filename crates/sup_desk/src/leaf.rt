@@ -218,6 +218,7 @@ impl<N: Name, R: Wait + Drop, J: Journal + Drop> Leaf<N, R, J> {
 
     /// Has the journal record what is pending, which is all of the handle with this claim, and then publishes it as one
     /// publication. Where the journal breaks off, nothing is published.
+    #[inline(always)]
     pub fn commit(&mut self, claim: &mut Claim) -> Result<(), JournalFault>
         requires whole { self.old.fault ≡ None }
         requires roll { claim.old.roll ≡ N.roll }

@@ -427,6 +427,7 @@ impl Copies {
     }
 
     /// Shows that copy, which has taken just these entries more than the one that is shown, and takes the entries away.
+    #[inline(always)]
     pub fn show<R: Wait>(&mut self, rt: &R, entries: &mut Vec<Entry>, front: &Ticket)
         requires out { self.old.is_out ≡ true }
         requires stepped { self.old.next ≡ fold taken self.old.shown.standing entries.old.items }

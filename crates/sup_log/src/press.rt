@@ -184,6 +184,7 @@ impl<R: Wait + Drop> Press<R> {
 
     /// Publishes what is pending, in order and in one step: all of it is one publication, and no front ends within it. It
     /// waits for the lenses that look at the copy that is to absorb it, and is never refused.
+    #[inline(always)]
     pub fn publish(&mut self)
         ensures { self.new ≡ record self.old { editions = self.old.editions ++ in_one_step self.old.pending; published = self.old.published ++ self.old.pending; pending = []; stepped = 0 } }
     {

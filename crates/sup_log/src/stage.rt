@@ -18,6 +18,7 @@ pub enum Stage {
 
 impl Stage {
     /// Shows this copy, and no more the one that was shown.
+    #[inline(always)]
     pub fn show<R: Wait>(&mut self, rt: &R, copy: Box<View>)
         requires one { (staged self.old).has_both ≡ false }
         requires follows { Follows (staged self.old).shown copy.value }
@@ -32,6 +33,7 @@ impl Stage {
     }
 
     /// Takes back the copy that is shown no more. It waits for those that look at it.
+    #[inline(always)]
     pub fn take_out<R: Wait>(&mut self, rt: &R) -> Box<View>
         requires { (staged self.old).has_both ≡ true }
         ensures shown { (staged self.new).shown ≡ (staged self.old).shown }

@@ -46,6 +46,7 @@ impl Model for Table {
 
 /// Takes the copy that is not shown from the writer, and leaves this one in its place. It waits for those that look at it. The
 /// writer is handed over by reference, so that it is turned where it stands and never moved.
+#[inline(always)]
 fn exchange<R: Wait>(rt: &R, writer: &mut Ends, stand_in: Box<View>) -> Box<View>
     ensures kept { (writer.new.desk.shown.value ≡ writer.old.desk.shown.value) × (view writer.new.desk.place ≡ view writer.old.desk.place) }
     ensures other { result.value ≡ writer.old.desk.spare.value }
@@ -64,6 +65,7 @@ fn exchange<R: Wait>(rt: &R, writer: &mut Ends, stand_in: Box<View>) -> Box<View
 }
 
 /// Shows this copy. It answers what the writer had in its place.
+#[inline(always)]
 fn turn<R: Wait>(rt: &R, writer: &mut Ends, next: Box<View>) -> Box<View>
     requires { Follows writer.old.desk.shown.value next.value }
     ensures known { view writer.new.desk.place ≡ known writer.new.desk.shown.value }
@@ -154,6 +156,7 @@ impl Table {
     }
 
     /// Shows this copy, and no more the one that was shown.
+    #[inline(always)]
     pub fn show<R: Wait>(&mut self, rt: &R, copy: Box<View>)
         requires one { self.old.has_both ≡ false }
         requires follows { Follows self.old.shown copy.value }
@@ -166,6 +169,7 @@ impl Table {
     }
 
     /// Takes back the copy that is shown no more. It waits for those that look at it.
+    #[inline(always)]
     pub fn take_out<R: Wait>(&mut self, rt: &R) -> Box<View>
         requires { self.old.has_both ≡ true }
         ensures one { self.new ≡ record self.old { has_both = false; spare = self.new.spare } }
