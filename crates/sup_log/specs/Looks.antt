@@ -1,5 +1,5 @@
 -- What a look in a slot leaves.
-use Rattle.std.specs.Prelude.{◌≡◌, Option, None, Some, MatchOption}
+use Rattle.std.specs.Prelude.{◌≡◌, Option, MatchOption}
 use Rattle.std.specs.Borrow.{Bor}
 use Rattle.std.specs.Fn.{Once, FnOnceReturnsAt}
 use mathlib.Core.List.{IsPrefix}
@@ -12,8 +12,3 @@ IsGrown before after = (after.press ≡ before.press) × IsPrefix before.front a
 -- a call of f at x left this answer
 abbrev pub IsAnswer : {F X T : Type 0} → Once F (Bor X × Unit {0}) T → F → X → Option T → Type 0
 IsAnswer g f x answer = MatchOption answer ⊥ (λ r. FnOnceReturnsAt g f x r)
-
--- an answer that is there is one where there may be none, too
-pub answered : {F X T : Type 0} (g : Once F (Bor X × Unit {0}) T) (f : F) (x : X) (none : Type 0) (answer : Option T) → IsAnswer g f x answer → MatchOption answer none (λ r. FnOnceReturnsAt g f x r)
-answered g f x none (Some r) p = p
-answered g f x none None e = absurd e

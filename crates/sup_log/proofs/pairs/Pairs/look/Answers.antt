@@ -1,7 +1,7 @@
 -- What was to be called came back from each try that called nothing.
 use Rattle.std.proofs.Common.{◌≡◌, rules}
-use Rattle.sup_log.specs.Looks.{answered}
 use Rattle.sup_log.specs.Pairs.{shown_by}
+use Rattle.sup_log.proofs.Answered.{answered}
 use Rattle.sup_log.proofs.pairs.Pairs.look.Goals as goal
 
 pub returns-in-Ok-clause-answer : goal.returns-in-Ok-clause-answer
