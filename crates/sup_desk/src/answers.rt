@@ -8,30 +8,33 @@ ghost use Rattle.sup_core.specs.Rows.{row_at, counts_of};
 ghost use Rattle.sup_core.specs.State.{seen_of, MatchSeen};
 
 use sup_log::{Gone, Lens, View};
-use sup_types::{Counts, OutOfMemory, Row, Seen};
+use sup_types::{Counts, Kind, OutOfMemory, Row, Seen};
 
 /// How many children there are, as a look hands it on.
 ///
-/// It lacks the number of child specifications, which is always one. The compiler would read that and its neighbour as one piece where a
-/// look ends, and the processor waits for a piece that was written in two.
+/// All are of one kind, which the lens knows, and the number of child specifications is always one. So a look hands on these two alone:
+/// it writes its answer, and the exchange by which it leaves waits for all that was written before.
 #[derive(Clone, Copy)]
 pub struct Tally {
     active: u64,
-    supervisors: u64,
-    workers: u64,
+    listed: u64,
 }
 
 impl Tally {
-    /// The counts.
+    /// The counts of children of this kind.
     #[inline(always)]
-    fn counts(self) -> Counts
-        ensures { result ≡ counts_with self }
+    fn counts(self, kind: Kind) -> Counts
+        ensures { result ≡ counts_with kind self }
     {
+        let (supervisors, workers) = match kind {
+            Kind::Supervisor => (self.listed, 0),
+            Kind::Worker => (0, self.listed),
+        };
         Counts {
             specs: 1,
             active: self.active,
-            supervisors: self.supervisors,
-            workers: self.workers,
+            supervisors,
+            workers,
         }
     }
 }
@@ -39,7 +42,7 @@ impl Tally {
 /// How many children are listed.
 #[inline(always)]
 pub fn tally_seen(view: &View) -> Seen<Tally>
-    ensures { seen_with result ≡ seen_of view.now.standing (counts_of view.now.standing.template.kind view.now.standing.rows) }
+    ensures { seen_with view.now.standing.template.kind result ≡ seen_of view.now.standing (counts_of view.now.standing.template.kind view.now.standing.rows) }
 {
     if view.is_down() {
         return Seen::Down;
@@ -47,18 +50,17 @@ pub fn tally_seen(view: &View) -> Seen<Tally>
     let counts = view.counts();
     Seen::Up(Tally {
         active: counts.active,
-        supervisors: counts.supervisors,
-        workers: counts.workers,
+        listed: counts.supervisors + counts.workers,
     })
 }
 
-/// The counts that a look handed on.
+/// The counts of children of this kind that a look handed on.
 #[inline(always)]
-pub fn counts_seen(seen: Seen<Tally>) -> Seen<Counts>
-    ensures { result ≡ seen_with seen }
+pub fn counts_seen(kind: Kind, seen: Seen<Tally>) -> Seen<Counts>
+    ensures { result ≡ seen_with kind seen }
 {
     match seen {
-        Seen::Up(tally) => Seen::Up(tally.counts()),
+        Seen::Up(tally) => Seen::Up(tally.counts(kind)),
         Seen::Down => Seen::Down,
     }
 }

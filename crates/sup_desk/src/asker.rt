@@ -68,7 +68,8 @@ impl<N: Name> Asker<N> {
         ensures editions { IsPrefix self.old.editions self.new.editions }
         ensures answer { IfOk result (λ answer. answer ≡ count N.template self.new.front) }
     {
-        Ok(counts_seen(self.lens.look(|view| tally_seen(view))?))
+        let kind = self.lens.template().kind;
+        Ok(counts_seen(kind, self.lens.look(|view| tally_seen(view))?))
     }
 
     /// The listed child with this number at such a front.

@@ -35,7 +35,6 @@ pub struct Lens {
     // Whether it looks there: its last look in the first pair's slot met another.
     pub(crate) is_apart: bool,
     pub(crate) front: Ticket,
-    // No code reads it: the contracts name it where the lens has no place any more.
     pub(crate) template: Template,
 }
 
@@ -134,7 +133,7 @@ impl Lens {
         let front = self.front.copied();
         match read_in_place(&mut self.reader, &self.template, front, f) {
             Ok((seen, answer)) => {
-                self.front = seen;
+                self.front.reach(&seen);
                 Ok(answer)
             }
             Err(Missed::Behind) => Err(Gone),
@@ -215,7 +214,7 @@ impl Lens {
         self.reader = self.wider.take();
         match read_in_place(&mut self.reader, &self.template, self.front.copied(), f) {
             Ok((front, found)) => {
-                self.front = front;
+                self.front.reach(&front);
                 set(answer, found);
             }
             Err(Missed::Behind) => {}
@@ -239,6 +238,13 @@ impl Lens {
             self.front = ticket.copied();
         }
         Ok(())
+    }
+
+    /// The template of the supervisor that it looks at. It enters nothing.
+    pub fn template(&self) -> &Template
+        ensures { result.now ≡ self.now.template }
+    {
+        &self.template
     }
 
     /// The front that it has seen or learnt. It enters nothing.
