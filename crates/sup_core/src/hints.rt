@@ -86,7 +86,7 @@ impl<A: Allocator> Hints<A> {
     {
         match self.places.get_mut(entry_of(number, self.mask)) {
             Some(noted) => *noted = place,
-            None => self.places.push(place).unwrap(),
+            None => self.places.push_reserved(place),
         }
     }
 }

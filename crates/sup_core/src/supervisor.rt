@@ -195,22 +195,26 @@ impl<A: Allocator + Copy> Sup<A> {
         if self.down {
             return Asked::nothing();
         }
-        match operation {
+        let (status, number) = match operation {
             Operation::Start(arg) => {
                 if self.is_full() {
                     return Asked::nothing();
                 }
-                Asked::new(Some(*arg), NO_PLACE)
+                return Asked::new(Some(*arg), NO_PLACE);
             }
             Operation::Exit(number, reason) => {
                 if !self.template.restart.restarts_after(reason) {
                     return Asked::nothing();
                 }
-                self.asked_again(Status::Running, *number, moment)
+                (Status::Running, *number)
             }
-            Operation::Retry(number) => self.asked_again(Status::Restarting, *number, moment),
-            Operation::Terminate(_) | Operation::Stop => Asked::nothing(),
-        }
+            Operation::Retry(number) => (Status::Restarting, *number),
+            Operation::Terminate(_) | Operation::Stop => return Asked::nothing(),
+        };
+        // (Taken apart: handed on as it is, all that is asked would have its place in memory, where this call writes its answer, and
+        // what asks nothing would be written there, too.)
+        let Asked { arg, spot } = self.asked_again(status, number, moment);
+        Asked { arg, spot }
     }
 
     /// The argument of the listed child with this number and status, if one more attempt is allowed.
@@ -278,6 +282,7 @@ impl<A: Allocator + Copy> Sup<A> {
         self.steps += 1;
     }
 
+    #[inline(always)]
     fn start(&mut self, arg: &Text, answer: Answer) -> Reply
         requires up { self.old.down ≡ false }
         requires room { self.old.made < self.old.steps }

@@ -242,7 +242,7 @@ fn put_next<A: Allocator>(places: &mut Places<A>, number: u64, arg: &Text)
     ensures keys { keys_of places.new.items ≡ keys_of places.old.items ++ number ∷ [] }
     ensures capacity { vec_capacity places.old ≤ vec_capacity places.new }
 {
-    let _ = places.push(Place::new(number, arg));
+    places.push_reserved(Place::new(number, arg));
 }
 
 fn child_at<A: Allocator>(places: &Places<A>, number: u64, guess: Guess) -> Option<Child>
@@ -479,6 +479,8 @@ fn ends_empty<A: Allocator>(places: &Places<A>) -> bool
 }
 
 /// Gives back the empty places, and notes where those that stay then stand.
+// (It comes seldom, and needs registers, which what calls it would save each time.)
+#[inline(never)]
 fn compact<A: Allocator>(places: &mut Places<A>, hints: &mut Hints<A>)
     requires { length (listed places.old.items) ≤ 65536 }
     ensures places { places.new.items ≡ map place_of (listed places.old.items) }

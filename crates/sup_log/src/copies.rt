@@ -199,10 +199,10 @@ fn take_out<R: Wait>(rt: &R, stage: &mut Stage, other: &mut Other)
     let_go(replace(&mut other.next, Some(next)));
 }
 
-/// Notes where a child was found, of the first entries of a publication. That takes no memory.
+/// Notes where a child was found, of the first entries of a publication: of as many as there is room for. That takes no memory.
 fn note(spots: &mut Vec<Spot>, spot: Spot) {
-    if spots.len() < FEW_ENTRIES {
-        let _ = spots.push(spot);
+    if spots.len() < spots.capacity() {
+        spots.push_reserved(spot);
     }
 }
 
