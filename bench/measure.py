@@ -45,6 +45,28 @@ def run(launch, words, source=os.devnull):
     return took / 1e9, memory, out
 
 
+class Probe:
+    """How fast a core was beside the runs: what the program `peers/probe.rs` tells each time before them."""
+
+    def __init__(self, program):
+        self.program = program
+        self.told = []
+
+    def look(self):
+        ran = subprocess.run([self.program], capture_output=True, text=True)
+        try:
+            self.told.append(float(ran.stdout))
+        except ValueError:
+            raise Failed(f"{self.program} wrote '{ran.stdout}'") from None
+
+    def write(self):
+        """Writes one line: a core of one's own takes the least, and one that another machine's work shares up to twice that."""
+        best = min(self.told)
+        middle, most = (it / best for it in (statistics.median(self.told), max(self.told)))
+        print(f"the core: a loop that waits for nothing took {best:.2f} ns a turn at best, {middle:.2f} times that in the middle "
+              f"and {most:.2f} times at most", flush=True)
+
+
 def mebibytes(kibibytes):
     return f"{kibibytes / 1024:.1f} MiB"
 
@@ -76,13 +98,15 @@ def figure_of(program, line):
     return label, Figure(int(took) / int(times), unit, work)
 
 
-def compare(launch, programs, rounds):
+def compare(launch, probe, programs, rounds):
     """Runs the programs in turn, ours first, and writes how each peer compares with ours. A program is a name, and the words of
     each of its runs."""
+    probe = Probe(probe)
     rows = {name: [] for name, _ in programs}
     memory = {name: 0 for name, _ in programs}
     for _ in range(rounds):
         for name, runs in programs:
+            probe.look()
             found, most = figures(launch, runs)
             memory[name] = max(memory[name], most)
             rows[name].append(found)
@@ -99,7 +123,8 @@ def compare(launch, programs, rounds):
         took = [it[label].each for it in rows["ours"]]
         print(f"ours alone, {label}: middle {told(statistics.median(took))}, best {told(min(took))}")
     memories = ", ".join(f"{name} {mebibytes(it)}" for name, it in memory.items())
-    print(f"most memory: {memories}", flush=True)
+    print(f"most memory: {memories}")
+    probe.write()
 
 
 def table_of(rows, name, unit):

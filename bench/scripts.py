@@ -92,11 +92,12 @@ def is_same(one, other):
             return True
 
 
-def time_text(label, programs, name, rounds):
+def time_text(label, programs, name, rounds, probe):
     """The milliseconds and the most memory of both on one text, in turn; both must write the same."""
     times, memory = ([], []), [0, 0]
     for _ in range(rounds):
         outs = []
+        probe.look()
         for side, program in enumerate(programs):
             took, most, out = measure.run(*program, name)
             times[side].append(took * 1000)
@@ -111,7 +112,7 @@ def time_text(label, programs, name, rounds):
 
 def run(rounds):
     supload, plain = build.supload(), build.plain("scripts")
-    launch = build.plain("launch")
+    launch, probe = build.plain("launch"), measure.Probe(build.plain("probe"))
     table, memories = {}, []
     with tempfile.TemporaryDirectory() as room:
         for command in ("script", "replay"):
@@ -119,7 +120,7 @@ def run(rounds):
                 name = os.path.join(room, "text")
                 label = drawn(command, size, alive, name)
                 programs = [(launch, [it, command]) for it in (supload, plain)]
-                times, memory = time_text(label, programs, name, rounds)
+                times, memory = time_text(label, programs, name, rounds, probe)
                 table[label] = times
                 memories.append((label, memory))
     print(f"plain Rust: best and middle of {rounds} rounds in turn, milliseconds of the whole program")
@@ -127,4 +128,5 @@ def run(rounds):
     print("| text | most memory, ours | peer |\n|---|---|---|")
     for label, memory in memories:
         print(f"| {label} | {' | '.join(measure.mebibytes(it) for it in memory)} |")
-    print(flush=True)
+    print()
+    probe.write()
