@@ -60,7 +60,7 @@ class Probe:
             raise Failed(f"{self.program} wrote '{ran.stdout}'") from None
 
     def write(self):
-        """Writes one line: a core of one's own takes the least, and one that another machine's work shares up to twice that."""
+        """Writes one line: a core of one's own takes the least, and a shared one about twice that."""
         best = min(self.told)
         middle, most = (it / best for it in (statistics.median(self.told), max(self.told)))
         print(f"the core: a loop that waits for nothing took {best:.2f} ns a turn at best, {middle:.2f} times that in the middle "

@@ -1,5 +1,5 @@
-//! How fast a core is just now: the nanoseconds of a turn of a loop that waits for nothing, over some 20 milliseconds. It takes up
-//! to twice as long where another machine's work runs on the other thread of the same core.
+//! How fast a core is just now: the nanoseconds of a turn of a loop that waits for nothing, over some 20 milliseconds. It takes about
+//! twice as long while the core seems to be shared with another machine's work.
 use std::arch::asm;
 use std::time::Instant;
 
