@@ -13,9 +13,10 @@ use sup_types::{Status, Text};
 /// beside the number.
 #[derive(Drop)]
 pub struct Place {
+    // (in front, so that it is written first: then it is copied from where it is handed over, and else by way of the stack)
+    arg: Text,
     number: u64,
     status: Option<Status>,
-    arg: Text,
 }
 
 impl Model for Place {
@@ -33,9 +34,9 @@ impl Place {
         ensures { result ≡ (number, Some (record { status = Running; arg = arg.now })) }
     {
         Place {
+            arg: *arg,
             number,
             status: Some(Status::Running),
-            arg: *arg,
         }
     }
 
