@@ -9,7 +9,7 @@ all_stepped r is = ap (λ l. r.published ++ l) (take_all r.stepped r.pending (om
 
 -- with one entry more, which is not stepped
 abbrev pub with : Record → Entry → Record
-with r entry = record { press = r.press; template = r.template; editions = r.editions; published = r.published; pending = r.pending ++ entry ∷ []; stepped = r.stepped }
+with r entry = record { press = r.press; template = r.template; editions = r.editions; published = r.published; pending = r.pending ++ entry ∷ []; stepped = r.stepped; is_out = r.is_out }
 
 pub but_the_last : (r : Record) (entry : Entry) → r.stepped ≡ length r.pending → so_far (with r entry) ≡ r.published ++ r.pending
 but_the_last r entry is = ap (λ l. r.published ++ l) (take_at r.pending (entry ∷ []) r.stepped (sym is))

@@ -1,5 +1,5 @@
 -- What stands under the lock, and when it is consistent.
-use Rattle.std.specs.Prelude.{◌≡◌, ℕ, ◌+◌, List, [], ◌++◌, length, slice_index, ◌<◌, ◌≤◌, ◌⊎◌, Option, Some, None, ⊤}
+use Rattle.std.specs.Prelude.{◌≡◌, ℕ, ◌+◌, Bool, List, [], ◌++◌, length, slice_index, ◌<◌, ◌≤◌, ◌⊎◌, Option, Some, None, ⊤}
 use Rattle.std.specs.List.{All}
 use Rattle.logbook.specs.Pages.{Book}
 use Rattle.atomic_table.specs.Seated.{TableId}
@@ -35,7 +35,7 @@ pub record Kept : Type 0 where
   pub handles : ℕ
   pub fault : Option JournalFault
 
--- the same with entries that are not yet published
+-- the same with entries that are not yet published, and whether the copy that steps them is taken out of lenses' reach
 pub record Written : Type 0 where
   pub editions : List Publication
   pub published : List Entry
@@ -43,6 +43,7 @@ pub record Written : Type 0 where
   pub made : ℕ
   pub handles : ℕ
   pub fault : Option JournalFault
+  pub is_out : Bool
 
 -- the book, after these entries in one publication
 abbrev pub grown_by : Kept → List Entry → Kept
@@ -81,4 +82,4 @@ IsCounted made counts history =
 -- what is written, with these entries too
 abbrev pub with_pending : Written → List Entry → Written
 with_pending leaf entries =
-    record { editions = leaf.editions; published = leaf.published; pending = leaf.pending ++ entries; made = leaf.made; handles = leaf.handles; fault = leaf.fault }
+    record { editions = leaf.editions; published = leaf.published; pending = leaf.pending ++ entries; made = leaf.made; handles = leaf.handles; fault = leaf.fault; is_out = leaf.is_out }

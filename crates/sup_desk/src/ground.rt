@@ -70,7 +70,7 @@ impl<R: Wait + Drop> Ground<R> {
     /// The leaf of this ground, which N names: nothing is written, and no handle was made.
     pub(crate) fn leaf<N: Name>(self) -> Leaf<N, R, NoJournal>
         requires { (self.press ≡ N.press) × (self.template ≡ N.template) × (self.roll ≡ N.roll) }
-        ensures { result ≡ record { editions = []; published = []; pending = []; made = 0; handles = self.handles; fault = None } }
+        ensures { result ≡ record { editions = []; published = []; pending = []; made = 0; handles = self.handles; fault = None; is_out = result.is_out } }
     {
         let Ground {
             press,

@@ -1,5 +1,5 @@
 //! Handles: the callers of a desk.
-ghost use Rattle.std.specs.Prelude.{◌≡◌, ◌<◌, ◌≤◌, ◌⊎◌, ◌++◌, [], length, take, drop, IfOk, IsOk, OnOk, OnErr, IfErr, IfSome, IfNone, IsTrue, ◌↔◌, Some, None};
+ghost use Rattle.std.specs.Prelude.{◌≡◌, ◌<◌, ◌≤◌, ◌⊎◌, ◌++◌, [], length, take, drop, IfOk, IsOk, OnOk, OnErr, IfErr, IfSome, IfNone, IsTrue, ◌↔◌, Some, None, true};
 ghost use mathlib.Core.List.{IsPrefix};
 ghost use Rattle.sup_core.specs.State.{MatchSeen};
 ghost use Rattle.sup_core.specs.Queries.{which, count, child};
@@ -299,12 +299,13 @@ impl<'d, N: Name, D> HandleOf<'d, N, D> {
         &mut self,
         leaf: &mut Leaf<N, R, J>,
     ) -> Result<(), JournalFault>
+        requires ready { leaf.old.is_out ≡ true }
         requires going { leaf.old.fault ≡ None }
         requires front { (self.old.front ≡ leaf.old.published) × (self.old.editions ≡ leaf.old.editions) }
         requires own { entries_of leaf.old.published self.old.number ≡ self.old.calls }
         requires made { IsMade leaf.old.made self.old.number }
         requires mine { entries_of leaf.old.pending self.old.number ≡ leaf.old.pending }
-        ensures leaf { OnOk result (leaf.new ≡ record leaf.old { editions = leaf.old.editions ++ in_one_step leaf.old.pending; published = leaf.old.published ++ leaf.old.pending; pending = [] }) }
+        ensures leaf { OnOk result (leaf.new ≡ record leaf.old { editions = leaf.old.editions ++ in_one_step leaf.old.pending; published = leaf.old.published ++ leaf.old.pending; pending = []; is_out = leaf.new.is_out }) }
         ensures within { OnOk result (length leaf.new.published ≤ N.template.entries) }
         ensures handle { OnOk result (self.new ≡ with_entries self.old leaf.old.editions leaf.old.published leaf.old.pending) }
         ensures err { IfErr result (λ f. (leaf.new ≡ record leaf.old { fault = Some f }) × J.may_fail f) }

@@ -63,7 +63,8 @@ fn write<N: Name, S: Starter, R: Wait + Drop, J: Journal + Drop>(
     moment: u64,
     operation: &Operation,
 ) -> Result<Reply, UpdateFault>
-    requires { leaf.old.fault ≡ None }
+    requires ready { leaf.old.is_out ≡ true }
+    requires going { leaf.old.fault ≡ None }
     ensures written { IfOk result (λ reply. (entry : Entry) × IsEntryOf S.may_answer N.template (leaf.old.published ++ leaf.old.pending) number serial operation.now moment entry
         × (reply ≡ reply_after N.template (leaf.old.published ++ leaf.old.pending) entry) × (leaf.new ≡ with_pending leaf.old (entry ∷ []))) }
     ensures kept { OnErr result (leaf.new ≡ leaf.old) }
@@ -114,6 +115,7 @@ fn enter_one<N: Name, D, S: Starter, R: Wait + Drop, J: Journal + Drop>(
     ensures room { MatchResult result (λ _. length book.old.history < N.template.entries) (λ e. e ≡ UpdateFault.OutOfMemory → length book.old.history < N.template.entries) }
     ensures gone { IfErr result (λ e. e ≡ UpdateFault.Gone → ⊥) }
 {
+    book.leaf.ready();
     let reply = write(
         &mut book.leaf,
         starter,
@@ -169,6 +171,7 @@ fn write_all<N: Name, S: Starter, R: Wait + Drop, J: Journal + Drop, A: Allocato
     operations: &VecDeque<Operation>,
     replies: &mut Vec<Reply, A>,
 ) -> Option<UpdateFault>
+    requires ready { leaf.old.is_out ≡ true }
     requires going { leaf.old.fault ≡ None }
     requires clean { leaf.old.pending ≡ [] }
     requires met { entries_of leaf.old.published claim.now.number ≡ claim.now.calls }
@@ -232,6 +235,7 @@ fn enter_met<N: Name, D, S: Starter, R: Wait + Drop, J: Journal + Drop, A: Alloc
     ensures broken { IfErr result (λ f. (book.new ≡ broken_by book.old f) × J.may_fail f) }
     ensures kept { OnErr result ((handle.new ≡ handle.old) × (replies.new.items ≡ [])) }
 {
+    book.leaf.ready();
     let fault = write_all(
         &mut book.leaf,
         starter,

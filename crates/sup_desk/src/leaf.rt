@@ -40,7 +40,7 @@ impl<N: Name, R: Wait + Drop, J: Journal + Drop> Model for Leaf<N, R, J> {
 
     ghost Value = { Written };
 
-    ghost view = { λ l. record { editions = l.press.editions; published = l.press.published; pending = l.press.pending; made = l.made; handles = l.handles; fault = l.fault } };
+    ghost view = { λ l. record { editions = l.press.editions; published = l.press.published; pending = l.press.pending; made = l.made; handles = l.handles; fault = l.fault; is_out = l.press.is_out } };
 
     ghost invariant = { λ l. (l.press.press ≡ N.press) × (l.press.template ≡ N.template) × (l.press.published ≡ history_of l.press.editions)
         × (l.press.stepped ≡ length l.press.pending)
@@ -91,7 +91,7 @@ impl<N: Name, R: Wait + Drop, J: Journal + Drop> Leaf<N, R, J> {
         requires press { (press.press ≡ N.press) × (press.template ≡ N.template) × (press.pending ≡ []) × (press.stepped ≡ 0) × (press.published ≡ history_of press.editions) }
         requires roll { IsEnrolled N.roll press.published made roll }
         requires handles { (made ≤ handles) × (handles ≤ 1024) }
-        ensures { result ≡ record { editions = press.editions; published = press.published; pending = []; made = made; handles = handles; fault = None } }
+        ensures { result ≡ record { editions = press.editions; published = press.published; pending = []; made = made; handles = handles; fault = None; is_out = press.is_out } }
     {
         Leaf {
             press,
@@ -124,9 +124,9 @@ impl<N: Name, R: Wait + Drop, J: Journal + Drop> Leaf<N, R, J> {
     pub fn add(&mut self) -> Result<(Lens, Claim), NoPlace>
         requires { self.old.made < self.old.handles }
         ensures ok { IfOk result (λ p. (p.0 ≡ record { press = N.press; template = N.template; editions = self.old.editions; front = self.old.published })
-            × (p.1 ≡ record { roll = N.roll; number = self.old.made + 1; calls = [] }) × (self.new ≡ record self.old { made = self.old.made + 1 })) }
+            × (p.1 ≡ record { roll = N.roll; number = self.old.made + 1; calls = [] }) × (self.new ≡ record self.old { made = self.old.made + 1; is_out = self.new.is_out })) }
         ensures none { entries_of self.old.published (self.old.made + 1) ≡ [] }
-        ensures err { OnErr result (self.new ≡ self.old) }
+        ensures err { OnErr result (self.new ≡ record self.old { is_out = self.new.is_out }) }
     {
         let lens = self.press.lens()?;
         let claim = self.roll.open(self.made + 1, 0);
@@ -137,7 +137,7 @@ impl<N: Name, R: Wait + Drop, J: Journal + Drop> Leaf<N, R, J> {
     /// A lens that has seen all that was published. Nothing else has changed.
     pub fn lens(&mut self) -> Result<Lens, NoPlace>
         ensures ok { IfOk result (λ l. l ≡ record { press = N.press; template = N.template; editions = self.old.editions; front = self.old.published }) }
-        ensures same { self.new ≡ self.old }
+        ensures same { self.new ≡ record self.old { is_out = self.new.is_out } }
     {
         self.press.lens()
     }
@@ -184,14 +184,22 @@ impl<N: Name, R: Wait + Drop, J: Journal + Drop> Leaf<N, R, J> {
         claim.count() + self.press.pending().len() as u64
     }
 
+    /// Takes the copy that is asked and steps out of lenses' reach. It waits for the lenses that still look at it.
+    #[inline(always)]
+    pub fn ready(&mut self)
+        ensures { self.new ≡ record self.old { is_out = true } }
+    {
+        self.press.ready();
+    }
+
     /// What an entry with this operation and moment asks: the argument whose start decides the reply, if there is one. None where
     /// there are all the entries that there may be.
     #[inline(always)]
-    pub fn asks(&mut self, operation: &Operation, moment: u64) -> Option<Asked>
-        ensures full { IfNone result (length (self.old.published ++ self.old.pending) ≡ N.template.entries) }
-        ensures room { IfSome result (λ _. length (self.old.published ++ self.old.pending) < N.template.entries) }
-        ensures value { IfSome result (λ asked. asked.arg ≡ asked_argument (state_after N.template (self.old.published ++ self.old.pending)) operation.now moment) }
-        ensures same { self.new ≡ self.old }
+    pub fn asks(&self, operation: &Operation, moment: u64) -> Option<Asked>
+        requires ready { self.now.is_out ≡ true }
+        ensures full { IfNone result (length (self.now.published ++ self.now.pending) ≡ N.template.entries) }
+        ensures room { IfSome result (λ _. length (self.now.published ++ self.now.pending) < N.template.entries) }
+        ensures value { IfSome result (λ asked. asked.arg ≡ asked_argument (state_after N.template (self.now.published ++ self.now.pending)) operation.now moment) }
     {
         self.press.asks(operation, moment)
     }
@@ -201,6 +209,7 @@ impl<N: Name, R: Wait + Drop, J: Journal + Drop> Leaf<N, R, J> {
     // (Inlined, as what calls it is: what is written in pieces and then read as one is waited for.)
     #[inline(always)]
     pub fn append(&mut self, entry: Entry, asked: &Asked) -> Result<Reply, OutOfMemory>
+        requires ready { self.old.is_out ≡ true }
         requires whole { self.old.fault ≡ None }
         requires room { length (self.old.published ++ self.old.pending) < N.template.entries }
         ensures ok { IfOk result (λ r. (r ≡ reply_after N.template (self.old.published ++ self.old.pending) entry) × (self.new ≡ record self.old { pending = self.old.pending ++ entry ∷ [] })) }
@@ -220,12 +229,13 @@ impl<N: Name, R: Wait + Drop, J: Journal + Drop> Leaf<N, R, J> {
     /// publication. Where the journal breaks off, nothing is published.
     #[inline(always)]
     pub fn commit(&mut self, claim: &mut Claim) -> Result<(), JournalFault>
+        requires ready { self.old.is_out ≡ true }
         requires whole { self.old.fault ≡ None }
         requires roll { claim.old.roll ≡ N.roll }
         requires made { IsMade self.old.made claim.old.number }
         requires met { entries_of self.old.published claim.old.number ≡ claim.old.calls }
         requires mine { entries_of self.old.pending claim.old.number ≡ self.old.pending }
-        ensures ok { OnOk result (self.new ≡ record self.old { editions = self.old.editions ++ in_one_step self.old.pending; published = self.old.published ++ self.old.pending; pending = [] }) }
+        ensures ok { OnOk result (self.new ≡ record self.old { editions = self.old.editions ++ in_one_step self.old.pending; published = self.old.published ++ self.old.pending; pending = []; is_out = self.new.is_out }) }
         ensures claim { OnOk result (claim.new ≡ record claim.old { calls = claim.old.calls ++ self.old.pending }) }
         ensures within { OnOk result (length self.new.published ≤ N.template.entries) }
         ensures err { IfErr result (λ f. (self.new ≡ record self.old { fault = Some f }) × (claim.new ≡ claim.old) × J.may_fail f) }
@@ -235,7 +245,7 @@ impl<N: Name, R: Wait + Drop, J: Journal + Drop> Leaf<N, R, J> {
             return Err(fault);
         }
         self.roll.enter(claim, self.press.pending());
-        self.press.publish();
+        self.press.publish_ready();
         Ok(())
     }
 

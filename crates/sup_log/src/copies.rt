@@ -186,19 +186,6 @@ fn seat_in(wider: &mut Option<Table>) -> Result<Option<Seat>, NoPlace>
     }
 }
 
-/// Takes the copy that is not shown out of lenses' reach, and brings it up to date. It waits for those that look at it.
-fn take_out<R: Wait>(rt: &R, stage: &mut Stage, other: &mut Other)
-    requires { (staged stage.old).has_both ≡ true }
-    ensures kept { ((staged stage.new).shown ≡ (staged stage.old).shown) × ((staged stage.new).has_both ≡ false) }
-    ensures there { is_some other.new.next ≡ true }
-    ensures next { IfSome other.new.next (λ b. b.value.standing ≡ fold taken (staged stage.old).spare other.old.lacks.items) }
-{
-    let mut next = stage.take_out(rt);
-    next.take_all(other.lacks.as_slice(), other.spots.as_slice());
-    other.spots.clear();
-    let_go(replace(&mut other.next, Some(next)));
-}
-
 /// Notes where a child was found, of the first entries of a publication: of as many as there is room for. That takes no memory.
 fn note(spots: &mut Vec<Spot>, spot: Spot) {
     if spots.len() < spots.capacity() {
@@ -364,9 +351,14 @@ impl Copies {
     pub fn ready<R: Wait>(&mut self, rt: &R)
         ensures { self.new ≡ record self.old { is_out = true } }
     {
-        if self.other.next.is_none() {
-            take_out(rt, &mut self.stage, &mut self.other);
+        let Copies { stage, other, .. } = self;
+        if other.next.is_some() {
+            return;
         }
+        let mut next = stage.take_out(rt);
+        next.take_all(other.lacks.as_slice(), other.spots.as_slice());
+        other.spots.clear();
+        let_go(replace(&mut other.next, Some(next)));
     }
 
     /// Whether that copy has taken all the entries that there may be.

@@ -1,7 +1,8 @@
 //! The published history of a supervisor: one press publishes entries into two copies, and any number of lenses look
 //! at one of them without a lock.
 //!
-//! A [`Press`] makes entries pending, answers them in order, and publishes them in one step. A [`Lens`] is a reader's place: a look calls a
+//! A [`Press`] makes entries pending, answers them in order, and publishes them in one step. First it makes the copy ready that no lens is
+//! to look at, which waits for the lenses that still do. A [`Lens`] is a reader's place: a look calls a
 //! function once on a [`View`], the copy that has absorbed one front (a prefix) of the published history. The fronts that
 //! a lens sees never go back. A [`Ticket`] is a front as plain data, a causal timestamp: it may be copied, shared and
 //! sent to another thread, and a lens that learnt it sees nothing older from then on.
@@ -13,6 +14,7 @@
 //! ```text
 //! let mut press = Press::new(alloc, &rt, template, 2)?;
 //! let mut lens = press.lens()?;
+//! press.ready();
 //! let Some(asked) = press.asks(&operation, moment) else { return Err(Full) };
 //! press.append(entry)?;
 //! let reply = press.step(&asked);

@@ -1,5 +1,5 @@
 //! The press: it makes entries pending, and publishes them.
-ghost use Rattle.std.specs.Prelude.{◌≡◌, ◌==◌, ◌<◌, ◌≤◌, ◌+◌, ◌^◌, List, [], ◌∷◌, ◌++◌, false, Some, length, slice_get, IfOk, IfSome, IfNone, MatchResult};
+ghost use Rattle.std.specs.Prelude.{◌≡◌, ◌==◌, ◌<◌, ◌≤◌, ◌+◌, ◌^◌, List, [], ◌∷◌, ◌++◌, true, false, Some, length, slice_get, IfOk, IfSome, IfNone, MatchResult};
 ghost use mathlib.Core.List.{IsPrefix};
 ghost use Rattle.sup_types.specs.declared.history.Entry.{Entry};
 ghost use Rattle.sup_core.specs.Replies.{asked_argument};
@@ -20,8 +20,8 @@ use sup_types::{Entry, Operation, OutOfMemory, Reply, Template};
 /// Publishes an operation log into two copies of a supervisor. The copy that no lens looks at takes the pending entries as its
 /// caller asks for the replies to them.
 ///
-/// It keeps `rt`, since it waits for the lenses that still look at the copy that was shown before: at the first call after a
-/// publication that asks, steps or publishes, and at its end.
+/// It keeps `rt`, since it waits for the lenses that still look at the copy that was shown before: where it is made ready, where a new
+/// lens finds no place, and at its end.
 pub struct Press<R: Wait + Drop> {
     alloc: Global,
     history: History,
@@ -38,7 +38,7 @@ impl<R: Wait + Drop> Model for Press<R> {
 
     ghost Value = { Record };
 
-    ghost view = { λ p. record { press = p.history.press; template = p.copies.shown.standing.template; editions = p.history.editions; published = p.history.front; pending = p.pending.items; stepped = p.stepped } };
+    ghost view = { λ p. record { press = p.history.press; template = p.copies.shown.standing.template; editions = p.history.editions; published = p.history.front; pending = p.pending.items; stepped = p.stepped; is_out = p.copies.is_out } };
 
     ghost invariant = { λ p. (p.copies.shown.press ≡ p.history.press) × (p.copies.shown.editions ≡ p.history.editions) × (p.copies.shown.front ≡ p.history.front) × IsLawful p.copies.shown
         × (length p.history.front + length p.pending.items ≤ p.copies.shown.standing.template.entries) × (length p.history.editions ≤ length p.history.front)
@@ -83,7 +83,7 @@ impl<R: Wait + Drop> Press<R> {
     /// no place is left that is in use, the copies move on to where there are more, unless entries were stepped that are not published
     /// yet. That waits for the lenses that look.
     pub fn lens(&mut self) -> Result<Lens, NoPlace>
-        ensures kept { self.new ≡ self.old }
+        ensures kept { self.new ≡ record self.old { is_out = self.new.is_out } }
         ensures lens { IfOk result (λ l. l ≡ record { press = self.old.press; template = self.old.template; editions = self.old.editions; front = self.old.published }) }
     {
         let front = self.history.tell();
@@ -140,27 +140,34 @@ impl<R: Wait + Drop> Press<R> {
         self.pending.as_slice()
     }
 
-    /// Whether the entries that were published or stepped are all that there may be.
+    /// Has the copy that no lens is to look at taken out of lenses' reach, and brought up to date. That copy is asked, and takes the
+    /// entries. It waits for the lenses that still look at it.
     #[inline(always)]
-    pub fn is_full(&mut self) -> bool
-        ensures value { result ≡ (length (so_far self.old) == self.old.template.entries) }
-        ensures room { result ≡ false → length (so_far self.old) < self.old.template.entries }
-        ensures same { self.new ≡ self.old }
+    pub fn ready(&mut self)
+        ensures { self.new ≡ record self.old { is_out = true } }
     {
         self.copies.ready(&self.rt);
+    }
+
+    /// Whether the entries that were published or stepped are all that there may be.
+    #[inline(always)]
+    pub fn is_full(&self) -> bool
+        requires ready { self.now.is_out ≡ true }
+        ensures value { result ≡ (length (so_far self.now) == self.now.template.entries) }
+        ensures room { result ≡ false → length (so_far self.now) < self.now.template.entries }
+    {
         self.copies.is_spent()
     }
 
     /// What an entry with this operation and moment asks after those that were published or stepped: the argument whose start
     /// decides the reply, if there is one. None where these are all the entries that there may be.
     #[inline(always)]
-    pub fn asks(&mut self, operation: &Operation, moment: u64) -> Option<Asked>
-        ensures full { IfNone result (length (so_far self.old) ≡ self.old.template.entries) }
-        ensures room { IfSome result (λ _. length (so_far self.old) < self.old.template.entries) }
-        ensures value { IfSome result (λ asked. asked.arg ≡ asked_argument (state_after self.old.template (so_far self.old)) operation.now moment) }
-        ensures same { self.new ≡ self.old }
+    pub fn asks(&self, operation: &Operation, moment: u64) -> Option<Asked>
+        requires ready { self.now.is_out ≡ true }
+        ensures full { IfNone result (length (so_far self.now) ≡ self.now.template.entries) }
+        ensures room { IfSome result (λ _. length (so_far self.now) < self.now.template.entries) }
+        ensures value { IfSome result (λ asked. asked.arg ≡ asked_argument (state_after self.now.template (so_far self.now)) operation.now moment) }
     {
-        self.copies.ready(&self.rt);
         if self.copies.is_spent() {
             return None;
         }
@@ -171,11 +178,11 @@ impl<R: Wait + Drop> Press<R> {
     /// stepped is published all the same.
     #[inline(always)]
     pub fn step(&mut self, asked: &Asked) -> Reply
-        requires { self.old.stepped < length self.old.pending }
+        requires ready { self.old.is_out ≡ true }
+        requires some { self.old.stepped < length self.old.pending }
         ensures reply { (entry : Entry) → slice_get self.old.pending self.old.stepped ≡ Some entry → result ≡ reply_after self.old.template (so_far self.old) entry }
         ensures next { self.new ≡ record self.old { stepped = self.old.stepped + 1 } }
     {
-        self.copies.ready(&self.rt);
         let entry = &self.pending[self.stepped];
         let reply = self.copies.step(entry, asked);
         self.stepped += 1;
@@ -183,15 +190,27 @@ impl<R: Wait + Drop> Press<R> {
     }
 
     /// Publishes what is pending, in order and in one step: all of it is one publication, and no front ends within it. It
-    /// waits for the lenses that look at the copy that is to absorb it, and is never refused.
+    /// waits for the lenses that look at the copy that is to absorb it, unless the press is ready, and is never refused.
     #[inline(always)]
     pub fn publish(&mut self)
-        ensures { self.new ≡ record self.old { editions = self.old.editions ++ in_one_step self.old.pending; published = self.old.published ++ self.old.pending; pending = []; stepped = 0 } }
+        ensures { self.new ≡ record self.old { editions = self.old.editions ++ in_one_step self.old.pending; published = self.old.published ++ self.old.pending; pending = []; stepped = 0; is_out = self.new.is_out } }
     {
         if self.pending.is_empty() {
             return;
         }
-        self.copies.ready(&self.rt);
+        self.ready();
+        self.publish_ready();
+    }
+
+    /// Publishes what is pending, as [`Press::publish`] does, by a press that is ready.
+    #[inline(always)]
+    pub fn publish_ready(&mut self)
+        requires { self.old.is_out ≡ true }
+        ensures { self.new ≡ record self.old { editions = self.old.editions ++ in_one_step self.old.pending; published = self.old.published ++ self.old.pending; pending = []; stepped = 0; is_out = self.new.is_out } }
+    {
+        if self.pending.is_empty() {
+            return;
+        }
         self.copies.take_all(&self.pending[self.stepped..]);
         let front = extended(&mut self.history, self.pending.as_slice());
         self.stepped = 0;

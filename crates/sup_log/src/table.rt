@@ -44,27 +44,8 @@ impl Model for Table {
     ghost invariant = { λ t. t.writer.desk.place.me.0.client ≡ known t.writer.desk.shown.value };
 }
 
-/// Takes the copy that is not shown from the writer, and leaves this one in its place. It waits for those that look at it. The
-/// writer is handed over by reference, so that it is turned where it stands and never moved.
-#[inline(always)]
-fn exchange<R: Wait>(rt: &R, writer: &mut Ends, stand_in: Box<View>) -> Box<View>
-    ensures kept { (writer.new.desk.shown.value ≡ writer.old.desk.shown.value) × (view writer.new.desk.place ≡ view writer.old.desk.place) }
-    ensures other { result.value ≡ writer.old.desk.spare.value }
-{
-    replace_with(
-        &mut writer.desk,
-        stand_in,
-        |desk, stand_in: Box<View>|
-            ensures kept { (result.0.shown.value ≡ desk.shown.value) × (view result.0.place ≡ view desk.place) }
-            ensures other { result.1.value ≡ desk.spare.value }
-        {
-            let (open, spare) = desk.open(rt);
-            (open.shelve(stand_in), spare)
-        },
-    )
-}
-
-/// Shows this copy. It answers what the writer had in its place.
+/// Shows this copy. It answers what the writer had in its place. The writer is handed over by reference, so that it is turned where it
+/// stands and never moved.
 #[inline(always)]
 fn turn<R: Wait>(rt: &R, writer: &mut Ends, next: Box<View>) -> Box<View>
     requires { Follows writer.old.desk.shown.value next.value }
@@ -168,7 +149,7 @@ impl Table {
         let_go(replace(&mut self.stand_in, Some(stand_in)));
     }
 
-    /// Takes back the copy that is shown no more. It waits for those that look at it.
+    /// Takes back the copy that is shown no more, and leaves the stand-in in its place. It waits for those that look at it.
     #[inline(always)]
     pub fn take_out<R: Wait>(&mut self, rt: &R) -> Box<View>
         requires { self.old.has_both ≡ true }
@@ -178,7 +159,17 @@ impl Table {
         let Some(stand_in) = self.stand_in.take() else {
             unreachable!()
         };
-        exchange(rt, &mut self.writer, stand_in)
+        replace_with(
+            &mut self.writer.desk,
+            stand_in,
+            |desk, stand_in: Box<View>|
+                ensures kept { (result.0.shown.value ≡ desk.shown.value) × (view result.0.place ≡ view desk.place) }
+                ensures other { result.1.value ≡ desk.spare.value }
+            {
+                let (open, spare) = desk.open(rt);
+                (open.shelve(stand_in), spare)
+            },
+        )
     }
 
     /// Ends the table. It waits for the lenses that look there. The copy that was shown.

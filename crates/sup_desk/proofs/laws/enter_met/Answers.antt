@@ -8,7 +8,7 @@ use Rattle.sup_desk.proofs.laws.enter_met.Goals as goal
 
 pub commit-committed-requires-clause-mine : goal.commit-committed-requires-clause-mine
 commit-committed-requires-clause-mine g c =
-    let leaf : Written = c.book.inside.leaf in
+    let leaf : Written = c.ready.new.self in
     let written = c.write_all-fault.ensures.written in
     let entries : List Entry = written.0 in
     let number : ℕ = c.handle.inside.claim.number in
@@ -16,8 +16,9 @@ commit-committed-requires-clause-mine g c =
     let own : entries_of entries number ≡ entries =
     entered-own g.S.Starter.may_answer g.N.Name.template number c.args.moment before (length (entries_of before number))
     (take (length c.write_all-fault.new.replies.items) c.args.operations.now.items) entries c.write_all-fault.new.replies.items written.1 in
-    let none : leaf.fault ≡ None = ap (λ (k : Kept). k.fault) c.book.view_is ∙ c.requires.going in
-    let clean : leaf.pending ≡ [] = subst (λ (f : Option JournalFault). IsClean f leaf.pending) none c.book.invariant in
+    let none : c.book.inside.leaf.fault ≡ None = ap (λ (k : Kept). k.fault) c.book.view_is ∙ c.requires.going in
+    let clean : leaf.pending ≡ [] =
+    ap (λ (w : Written). w.pending) c.ready.ensures ∙ subst (λ (f : Option JournalFault). IsClean f c.book.inside.leaf.pending) none c.book.invariant in
     let pending : c.write_all-fault.new.leaf.pending ≡ entries = ap (λ (w : Written). w.pending) written.2 ∙ ap (λ (l : List Entry). l ++ entries) clean in
     subst (λ (l : List Entry). entries_of l c.args.handle.now.number ≡ l) (sym pending) (subst (λ (n : ℕ). entries_of entries n ≡ entries) (ap (λ (k : Knowledge). k.number) c.handle.view_is) own)
 

@@ -12,8 +12,7 @@ pub returns-in-Ok-clause-written : goal.returns-in-Ok-clause-written
 returns-in-Ok-clause-written g c =
     let may = g.S.Starter.may_answer in
     let t = g.N.Name.template in
-    let entry : Entry = record { handle = c.args.number; serial = c.args.serial; moment = c.args.moment; operation = c.args.operation.now; answer = c.match-asked.answer } in
-    let same = c.asks.ensures.same in (
+    let entry : Entry = record { handle = c.args.number; serial = c.args.serial; moment = c.args.moment; operation = c.args.operation.now; answer = c.match-asked.answer } in (
       entry,
       record {
         handle_is = refl;
@@ -26,6 +25,6 @@ returns-in-Ok-clause-written g c =
               | in-None w ↦ subst (λ a. IsAnswerTo may a c.args.moment c.match-asked.answer) (sym w.in-None.is) w.answer-is
             ]);
       },
-      c.in-Ok.ensures.ok.0 ∙ ap (λ (w : Written). reply_after t (w.published ++ w.pending) entry) same,
-      c.in-Ok.ensures.ok.1 ∙ ap (λ (w : Written). with_pending w (entry ∷ [])) same,
+      c.in-Ok.ensures.ok.0,
+      c.in-Ok.ensures.ok.1,
     )

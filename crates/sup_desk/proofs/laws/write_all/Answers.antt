@@ -24,7 +24,7 @@ queue-init g c =
       written = (
         [],
         subst (λ (l : List Reply). AreEntered g.S.Starter.may_answer g.N.Name.template c.args.claim.now.number c.args.moment before serial (take (length l) operations) [] l) empty (refl, refl),
-        λ i. record { editions = leaf.editions; published = leaf.published; pending = sym (append-nil leaf.pending) i; made = leaf.made; handles = leaf.handles; fault = leaf.fault },
+        λ i. record { editions = leaf.editions; published = leaf.published; pending = sym (append-nil leaf.pending) i; made = leaf.made; handles = leaf.handles; fault = leaf.fault; is_out = leaf.is_out },
       );
       within = omega (arith, none);
       room = refl;
@@ -84,7 +84,7 @@ queue-preserved g c =
         subst (λ (l : List Operation). AreEntered may template c.args.claim.now.number c.args.moment before serial l (entries ++ entry ∷ []) c.push_reserved.new.self.items) (sym taken)
             (subst (λ (l : List Reply). AreEntered may template c.args.claim.now.number c.args.moment before serial (take k operations ++ op ∷ []) (entries ++ entry ∷ []) l) (sym pushed.items) more),
         written.3 ∙ ap (λ (w : Written). with_pending w (entry ∷ [])) is
-            ∙ (λ i. record { editions = first.editions; published = first.published; pending = append_assoc first.pending entries (entry ∷ []) i; made = first.made; handles = first.handles; fault = first.fault }),
+            ∙ (λ i. record { editions = first.editions; published = first.published; pending = append_assoc first.pending entries (entry ∷ []) i; made = first.made; handles = first.handles; fault = first.fault; is_out = first.is_out }),
       );
       within = omega (arith, long, low);
       room = pushed.capacity ∙ old.room;

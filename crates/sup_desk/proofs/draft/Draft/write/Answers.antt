@@ -1,4 +1,4 @@
-use Rattle.std.proofs.Common.{◌≡◌, ◌+◌, ◌-◌, ◌<◌, ◌≤◌, ℕ, List, ◌++◌, ◌∷◌, [], length, set, vec_len, vec_capacity, refl, ap, sym, ◌∙◌, subst, arith}
+use Rattle.std.proofs.Common.{◌≡◌, Bool, ◌+◌, ◌-◌, ◌<◌, ◌≤◌, ℕ, List, ◌++◌, ◌∷◌, [], length, set, vec_len, vec_capacity, refl, ap, sym, ◌∙◌, subst, arith}
 use Rattle.std.proofs.lemmas.List.{get_or_default}
 use Rattle.sup_types.specs.declared.history.Entry.{Entry}
 use Rattle.sup_log.specs.Tokens.{Record, history_of, in_one_step}
@@ -10,8 +10,8 @@ use Rattle.sup_desk.proofs.Counted.{counted_all}
 use Rattle.sup_desk.proofs.draft.Draft.write.Goals as goal
 
 -- what publishing makes of a press
-abbrev shown : Record → Record
-shown r = record { press = r.press; template = r.template; editions = r.editions ++ in_one_step r.pending; published = r.published ++ r.pending; pending = []; stepped = 0 }
+abbrev shown : Bool → Record → Record
+shown out r = record { press = r.press; template = r.template; editions = r.editions ++ in_one_step r.pending; published = r.published ++ r.pending; pending = []; stepped = 0; is_out = out }
 
 pub overflow_add-index_mut : goal.overflow_add-index_mut
 overflow_add-index_mut g c =
@@ -34,10 +34,10 @@ invariant_of-self-2 g c =
     let made : ℕ = vec_len d.counts in
     let place : ℕ = entry.handle - 1 in
     let one : List Entry = entry ∷ [] in
-    let ready : c.append.new.self ≡ record { press = d.press.press; template = d.press.template; editions = d.press.editions; published = published; pending = one; stepped = d.press.stepped } =
-    c.in_ok-append.ensures ∙ (λ i. record { press = d.press.press; template = d.press.template; editions = d.press.editions; published = published; pending = old.3 i ++ one; stepped = d.press.stepped }) in
-    let is : c.publish.new.self ≡ record { press = d.press.press; template = d.press.template; editions = d.press.editions ++ in_one_step one; published = published ++ one; pending = []; stepped = 0 } =
-    c.publish.ensures ∙ ap shown ready in
+    let ready : c.append.new.self ≡ record { press = d.press.press; template = d.press.template; editions = d.press.editions; published = published; pending = one; stepped = d.press.stepped; is_out = d.press.is_out } =
+    c.in_ok-append.ensures ∙ (λ i. record { press = d.press.press; template = d.press.template; editions = d.press.editions; published = published; pending = old.3 i ++ one; stepped = d.press.stepped; is_out = d.press.is_out }) in
+    let is : c.publish.new.self ≡ record { press = d.press.press; template = d.press.template; editions = d.press.editions ++ in_one_step one; published = published ++ one; pending = []; stepped = 0; is_out = c.publish.new.self.is_out } =
+    c.publish.ensures ∙ ap (shown c.publish.new.self.is_out) ready in
     let whole : published ++ one ≡ history_of (d.press.editions ++ in_one_step one) =
     ap (λ k. k ++ one) old.2 ∙ sym (history_grown d.press.editions one) in
     let mine : IsMade made entry.handle = (c.requires.made.0, omega (arith, ap (λ (w : Drafted). w.made) c.self.view_is, c.requires.made.1)) in

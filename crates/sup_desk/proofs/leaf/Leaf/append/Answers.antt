@@ -24,8 +24,8 @@ retract-requires g c =
     let is : c.append.new.self ≡ with l.press entry = c.in_ok-append.ensures in
     omega (arith, ap (λ (r : Record). r.stepped) is, ap (λ (r : Record). length r.pending) is, c.self.invariant.3, length-append l.press.pending (entry ∷ []))
 
-pub step-requires : goal.step-requires
-step-requires g c =
+pub step-requires-clause-some : goal.step-requires-clause-some
+step-requires-clause-some g c =
     let l = c.self.inside in
     let entry : Entry = c.args.entry in
     let is : c.append.new.self ≡ with l.press entry = c.in_ok-append.ensures in
@@ -33,7 +33,7 @@ step-requires g c =
 
 -- one more is stepped
 abbrev stepped : Record → Record
-stepped r = record { press = r.press; template = r.template; editions = r.editions; published = r.published; pending = r.pending; stepped = r.stepped + 1 }
+stepped r = record { press = r.press; template = r.template; editions = r.editions; published = r.published; pending = r.pending; stepped = r.stepped + 1; is_out = r.is_out }
 
 pub invariant_of-self-2 : goal.invariant_of-self-2
 invariant_of-self-2 g c =
@@ -67,11 +67,11 @@ returns-clause-ok g c =
     let entry : Entry = c.args.entry in
     let is : c.append.new.self ≡ with l.press entry = c.in_ok-append.ensures in
     let press : c.step.new.self ≡ stepped (with l.press entry) = c.step.ensures.next ∙ ap stepped is in
-    let step = λ (w : Written). let next : Written = record { editions = w.editions; published = w.published; pending = w.pending ++ entry ∷ []; made = w.made; handles = w.handles; fault = w.fault } in next in (
+    let step = λ (w : Written). let next : Written = record { editions = w.editions; published = w.published; pending = w.pending ++ entry ∷ []; made = w.made; handles = w.handles; fault = w.fault; is_out = w.is_out } in next in (
       c.step.ensures.reply entry (ap (λ (r : Record). slice_get r.pending r.stepped) is ∙ the_last l.press entry old.3)
           ∙ ap (λ (r : Record). reply_after r.template (so_far r) entry) is
           ∙ ap (λ (t : Template). reply_after t (so_far (with l.press entry)) entry) old.1
           ∙ ap (λ (h : List Entry). reply_after n.template h entry) (but_the_last l.press entry old.3)
           ∙ ap (λ (w : Written). reply_after n.template (w.published ++ w.pending) entry) c.self.view_is,
-      (λ i. record { editions = (press i).editions; published = (press i).published; pending = (press i).pending; made = l.made; handles = l.handles; fault = l.fault }) ∙ ap step c.self.view_is,
+      (λ i. record { editions = (press i).editions; published = (press i).published; pending = (press i).pending; made = l.made; handles = l.handles; fault = l.fault; is_out = (press i).is_out }) ∙ ap step c.self.view_is,
     )

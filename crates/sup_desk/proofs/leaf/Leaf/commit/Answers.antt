@@ -49,5 +49,5 @@ invariant_of-self-2 g c =
     subst (λ (r : Record). (r.press ≡ n.press) × (r.template ≡ n.template) × (r.published ≡ history_of r.editions) × (r.stepped ≡ length r.pending)
     × IsEnrolled n.roll r.published l.made c.enter.new.self × (l.made ≤ l.handles) × (l.handles ≤ 1024)
     × IsKept (j.has c.record.new.self n.template) (j.is_torn c.record.new.self n.template) j.may_fail l.fault r.published r.pending)
-    (sym c.publish.ensures)
+    (sym c.publish_ready.ensures)
     (old.0, old.1, whole, refl, enrolled, old.5, old.6, kept)
