@@ -17,7 +17,7 @@ use crate::laws::{add_asker, add_handle, audit};
 use crate::leaf::Closed;
 use crate::name::Name;
 use crate::recovery::{RecoverFault, recover_leaf};
-use std::sync::{Mutex, Wait};
+use std::sync::{Mutex, MutexGuard, Wait};
 use sup_log::{NoPlace, Ticket};
 use sup_types::{Entry, Starter};
 
@@ -105,6 +105,16 @@ impl<N: Name, S: Starter + Drop, R: Wait + Drop, J: Journal + Drop> Desk<N, S, R
         let Desk { book, starter } = self;
         drop(starter);
         book.into_inner().close()
+    }
+
+    /// The book, once nobody else has it.
+    // (Tried first, since what waits saves registers, and is followed by a look at the flag of those that stopped.)
+    #[inline(always)]
+    pub(crate) fn locked<W: Wait>(&self, rt: &W) -> MutexGuard<'_, Book<N, R, J>> {
+        match self.book.try_lock() {
+            Some(book) => book,
+            None => self.book.lock(rt),
+        }
     }
 
     /// A handle that has seen all of the history and made no call. It waits for the lock. After a refusal nothing has changed.

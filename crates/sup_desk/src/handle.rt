@@ -146,7 +146,7 @@ impl<'d, N: Name, S: Starter + Drop, R: Wait + Drop, J: Journal + Drop> HandleOf
     {
         let desk = self.desk;
         enter(
-            &mut *desk.book.lock(rt),
+            &mut *desk.locked(rt),
             &desk.starter,
             self,
             moment,
@@ -191,7 +191,7 @@ impl<'d, N: Name, S: Starter + Drop, R: Wait + Drop, J: Journal + Drop> HandleOf
         };
         let desk = self.desk;
         let entered = enter_all(
-            &mut *desk.book.lock(rt),
+            &mut *desk.locked(rt),
             &desk.starter,
             self,
             moment,
