@@ -1,5 +1,5 @@
 -- What an update of a handle that has met the history says of the handle that asked for it.
-use Rattle.std.proofs.Common.{◌≡◌, ℕ, ◌<◌, List, [], ◌∷◌, ◌++◌, length, refl, ap, ap₂, sym, ◌∙◌, subst, arith, length-append}
+use Rattle.std.proofs.Common.{◌≡◌, ℕ, ◌<◌, List, [], ◌∷◌, ◌++◌, length, refl, ap, ap₂, sym, ◌∙◌, subst, arith, length-append, append-nil}
 use Rattle.std.specs.Result.{IfOk, IfErr, OnErr, MatchResult}
 use Rattle.std.specs.declared.result.Result.{Result}
 use Rattle.std.specs.declared.result.Result.TheVariants.{Ok, Err}
@@ -63,6 +63,24 @@ module _ (may : Text → ℕ → Answer → Type 0) (template : Template) (press
   own_with entries is mine =
       subst (λ (k : Knowledge). entries_of k.front k.number ≡ k.calls) (sym is)
       (entries-append met.number book.history entries ∙ ap₂ (λ (a b : List Entry). a ++ b) (ap (λ (l : List Entry). entries_of l met.number) (sym has.front) ∙ has.own) mine)
+
+  -- no operation is entered as none
+  pub none_applied : (operations : List Operation) (replies : List Reply) (told : Told) → operations ≡ [] → replies ≡ []
+      → told ≡ record { press = press; editions = met.editions; front = met.front } → IsApplied may template press before operations moment met replies told
+  none_applied operations replies told none silent is = record {
+    editions = book.editions;
+    front = book.history;
+    entries = [];
+    met = is_met;
+    entered = subst (λ (l : List Operation). AreEntered may template before.number moment book.history (length before.calls) l [] replies) (sym none) (refl, silent);
+    after_is = λ i. record {
+      number = has.calls.1 i;
+      editions = (has.editions_are ∙ sym (append-nil book.editions)) i;
+      front = (has.front ∙ sym (append-nil book.history)) i;
+      calls = (has.calls.0 ∙ sym (append-nil before.calls)) i;
+    };
+    told_is = is;
+  }
 
   updated : (operation : Operation) (done : Done) (entry : Entry) → IsEntryOf may template book.history met.number (length met.calls) operation moment entry
       → done.reply ≡ reply_after template book.history entry → after ≡ with_entries met book.editions book.history (entry ∷ [])

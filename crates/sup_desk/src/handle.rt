@@ -281,6 +281,7 @@ impl<'d, N: Name, D> HandleOf<'d, N, D> {
         ensures own { entries_of leaf.old.published self.new.number ≡ self.new.calls }
         ensures made { IsMade leaf.old.made self.new.number }
         ensures whole { leaf.old.published ≡ history_of leaf.old.editions }
+        ensures within { length leaf.old.published ≤ N.template.entries }
         ensures ticket { result ≡ record { press = N.press; editions = leaf.old.editions; front = leaf.old.published } }
         ensures seen { HasSeenMore self.old self.new }
         ensures calls { (self.new.calls ≡ self.old.calls) × (self.new.number ≡ self.old.number) }

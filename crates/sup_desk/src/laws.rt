@@ -45,6 +45,7 @@ pub fn give_ticket<N: Name, D, R: Wait + Drop, J: Journal + Drop>(
     ensures own { entries_of handle.new.front handle.new.number ≡ handle.new.calls }
     ensures made { IsMade book.old.made handle.new.number }
     ensures whole { handle.new.front ≡ history_of handle.new.editions }
+    ensures within { length handle.new.front ≤ N.template.entries }
     ensures seen { HasSeenMore handle.old handle.new }
     ensures calls { (handle.new.calls ≡ handle.old.calls) × (handle.new.number ≡ handle.old.number) }
     ensures same { book.new ≡ book.old }
@@ -307,9 +308,13 @@ pub fn enter_all<N: Name, D, S: Starter, R: Wait + Drop, J: Journal + Drop, A: A
     ensures journal { IfErr result (λ r. (f : JournalFault) → r.fault ≡ UpdateFault.Journal f → (replies.new.items ≡ []) × (book.new.fault ≡ Some f) × J.may_fail f) }
     ensures broken { IfSome book.old.fault (λ f. IfErr result (λ r. r.fault ≡ UpdateFault.Journal f) × IfOk result (λ _. ⊥)) }
 {
-    give_ticket(book, handle);
+    let told = give_ticket(book, handle);
     if let Some(fault) = book.leaf.fault() {
         return Err(broken_off(fault));
+    }
+    if operations.is_empty() {
+        // (Nothing is entered, so there is no lens to wait for.)
+        return Ok(told);
     }
     let (ticket, fault) = match enter_met(book, starter, handle, moment, operations, replies) {
         Ok(entered) => entered,

@@ -142,10 +142,13 @@ impl<N: Name, R: Wait + Drop, J: Journal + Drop> Leaf<N, R, J> {
         self.press.lens()
     }
 
-    /// A ticket for all that was published.
+    /// A ticket for all that was published, which is no more than there may be.
     pub fn tell(&self) -> Ticket
-        ensures { result ≡ record { press = N.press; editions = self.now.editions; front = self.now.published } }
+        ensures ticket { result ≡ record { press = N.press; editions = self.now.editions; front = self.now.published } }
+        ensures within { length self.now.published ≤ N.template.entries }
     {
+        // (what is pending is known to have room)
+        let _ = self.press.pending();
         self.press.tell()
     }
 

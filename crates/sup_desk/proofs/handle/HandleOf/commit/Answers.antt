@@ -24,7 +24,7 @@ returns-clause-handle g c =
     let grown = c.in_ok-commit.ensures.ok in
     let claim = c.in_ok-commit.ensures.claim in
     let told : c.tell-ticket.result ≡ record { press = g.N.Name.press; editions = leaf.editions ++ in_one_step more; front = leaf.published ++ more } =
-    c.tell-ticket.ensures ∙ (λ i. record { press = g.N.Name.press; editions = (grown i).editions; front = (grown i).published }) in
+    c.tell-ticket.ensures.ticket ∙ (λ i. record { press = g.N.Name.press; editions = (grown i).editions; front = (grown i).published }) in
     let front : IsPrefix c.self.inside.asker.front c.tell-ticket.result.front =
     (more, ap (λ (l : List Entry). l ++ more) (ap (λ (k : Knowledge). k.front) is ∙ c.requires.front.0) ∙ sym (ap (λ (t : Told). t.front) told)) in
     let editions : IsPrefix c.self.inside.asker.editions c.tell-ticket.result.editions =

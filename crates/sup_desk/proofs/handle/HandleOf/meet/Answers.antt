@@ -14,7 +14,7 @@ returns-clause-front g c =
     let all : List Entry = c.args.leaf.now.published in
     let now : List Entry = c.learn.new.self.front in
     same_list all now
-    (subst (λ (t : Told). IsPrefix t.front now) c.tell-told.ensures c.learn.ensures.learnt.0)
+    (subst (λ (t : Told). IsPrefix t.front now) c.tell-told.ensures.ticket c.learn.ensures.learnt.0)
     (subst (λ (t : Told). IsPrefix t.front all) c.told.ensures c.covers.ensures.0)
 
 pub returns-clause-editions : goal.returns-clause-editions
@@ -22,5 +22,5 @@ returns-clause-editions g c =
     let all : List Publication = c.args.leaf.now.editions in
     let now : List Publication = c.learn.new.self.editions in
     same_list all now
-    (subst (λ (t : Told). IsPrefix t.editions now) c.tell-told.ensures c.learn.ensures.learnt.1)
+    (subst (λ (t : Told). IsPrefix t.editions now) c.tell-told.ensures.ticket c.learn.ensures.learnt.1)
     (subst (λ (t : Told). IsPrefix t.editions all) c.told.ensures c.covers.ensures.1)
