@@ -1,5 +1,5 @@
 //! Outboxes: exits on their way to the inbox, of which none is refused.
-ghost use Rattle.std.specs.Prelude.{◌≡◌, [], ◌∷◌, ◌++◌, true, IfErr, OnOk};
+ghost use Rattle.std.specs.Prelude.{◌≡◌, ◌+◌, ◌-◌, [], ◌∷◌, ◌++◌, true, IfErr, OnOk, OnErr};
 ghost use Rattle.sup_yard.specs.Outboxes.{told, exit_of, children_of};
 ghost use Rattle.sup_yard.specs.Endings.{is_ending, AreEndings, AreExitEndings};
 
@@ -78,7 +78,10 @@ impl<I: Office> Outbox<I> {
     }
 
     /// Makes room for the exits of one child more.
-    pub(crate) fn make_room(&mut self) -> Result<(), OutOfMemory> {
+    pub(crate) fn make_room(&mut self) -> Result<(), OutOfMemory>
+        ensures ok { OnOk result (self.new.children ≡ self.old.children + 1) }
+        ensures err { OnErr result (self.new.children ≡ self.old.children) }
+    {
         let Some(children) = self.children.checked_add(1) else {
             return Err(OutOfMemory);
         };
@@ -88,7 +91,9 @@ impl<I: Office> Outbox<I> {
     }
 
     /// Gives the room of one child back.
-    pub(crate) fn free_room(&mut self) {
+    pub(crate) fn free_room(&mut self)
+        ensures { self.new.children ≡ self.old.children - 1 }
+    {
         self.children = self.children.saturating_sub(1);
     }
 
