@@ -1,5 +1,5 @@
 //! What a crew did.
-ghost use Rattle.std.specs.Prelude.{◌≡◌, ◌↔◌, IsTrue};
+ghost use Rattle.std.specs.Prelude.{◌≡◌, ◌↔◌, ◌+◌, ◌-◌, ◌^◌, IsTrue, length, map, min, sum};
 
 use std::collections::VecDeque;
 use sup_desk::{Caller, Name, UpdateFault};
@@ -39,8 +39,10 @@ pub struct Report<N: Name, T: Drop, U: Drop = ()> {
 }
 
 impl<N: Name, T: Drop, U: Drop> Report<N, T, U> {
-    /// How many exits were not entered.
-    pub fn not_entered(&self) -> u64 {
+    /// Returns how many exits were not entered: those that are held, left or not posted.
+    pub fn not_entered(&self) -> u64
+        ensures { result ≡ min (length self.now.held.items + length self.now.left.items + sum (map (λ list. length list.items) self.now.unposted.items)) (2 ^ 64 - 1) }
+    {
         let mut count = (self.held.len() as u64).saturating_add(self.left.len() as u64);
         for list in &self.unposted {
             count = count.saturating_add(list.len() as u64);
