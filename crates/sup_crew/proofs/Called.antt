@@ -20,7 +20,7 @@ use Rattle.sup_desk.specs.Knowledge.{Knowledge, entries_of, IsUpdated}
 use Rattle.sup_desk.specs.Batches.{AreEntered, IsApplied}
 use Rattle.sup_desk.specs.BatchLaws.{entered-own}
 use Rattle.sup_desk.specs.EntryLaws.{entries-append, entries-one, entries-other, entries_prefix}
-use Rattle.sup_log.specs.PrefixLaws.{prefix_length}
+use Rattle.sup_log.specs.PrefixLaws.{front_is_short}
 use Rattle.sup_crew.specs.Calls.{call_of, calls_of, answered}
 
 map-append : {X Y : Type 0} (f : X → Y) (xs ys : List X) → map f (xs ++ ys) ≡ map f xs ++ map f ys
@@ -53,8 +53,8 @@ stay template number front (e ∷ more) same =
     let next : List Entry = front ++ e ∷ [] in
     let all : front ++ e ∷ more ≡ next ++ more = sym (append_assoc front (e ∷ []) more) in
     let whole = ap (λ l. length (entries_of l number)) all in
-    let first = prefix_length (entries_of front number) (entries_of next number) (entries_prefix number front next (e ∷ [], refl)) in
-    let rest = prefix_length (entries_of next number) (entries_of (next ++ more) number) (entries_prefix number next (next ++ more) (more, refl)) in
+    let first = front_is_short (entries_of front number) (entries_of next number) (entries_prefix number front next (e ∷ [], refl)) in
+    let rest = front_is_short (entries_of next number) (entries_of (next ++ more) number) (entries_prefix number next (next ++ more) (more, refl)) in
     dite (ℕ_discrete e.handle number)
     (λ own. let grown = ap (λ (l : List Entry). length l) (entries-one number front e own) ∙ length-append (entries_of front number) (e ∷ []) in absurd (omega (arith, same, whole, first, rest, grown)))
     (λ apart.

@@ -7,7 +7,7 @@ use Rattle.std.specs.declared.result.Result.{Result}
 use Rattle.std.specs.declared.result.Result.TheVariants.{Ok, Err}
 use Rattle.std.proofs.lemmas.Bool.Decides.{nat_tests}
 use Rattle.sup_types.specs.declared.history.Entry.{Entry}
-use Rattle.sup_log.specs.PrefixLaws.{prefix_self, prefix_trans}
+use base.Growing.{prefix_refl, prefix_trans}
 use Rattle.sup_desk.specs.Knowledge.{Knowledge}
 use Rattle.sup_desk.specs.Audits.{IsGrown, AreGrown, HasSeenAll, HaveSeenAll}
 
@@ -15,7 +15,7 @@ grown_trans : (x y z : Knowledge) → IsGrown x y → IsGrown y z → IsGrown x 
 grown_trans x y z p q = record { editions = prefix_trans x.editions y.editions z.editions p.editions q.editions; front = prefix_trans x.front y.front z.front p.front q.front; calls = q.calls ∙ p.calls; number = q.number ∙ p.number }
 
 pub grown_self : (handles : List Knowledge) → AreGrown handles handles
-grown_self handles = record { len = refl; each = λ k d within. record { editions = prefix_self (get_or handles k d).editions; front = prefix_self (get_or handles k d).front; calls = refl; number = refl } }
+grown_self handles = record { len = refl; each = λ k d within. record { editions = prefix_refl (get_or handles k d).editions; front = prefix_refl (get_or handles k d).front; calls = refl; number = refl } }
 
 -- the handle at place i has grown
 pub grown_set : (old now : List Knowledge) (i : ℕ) (was is : Knowledge) → AreGrown old now → i < length now → IsGrown (get_or now i was) is

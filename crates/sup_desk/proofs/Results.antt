@@ -13,7 +13,7 @@ use Rattle.sup_types.specs.declared.history.Entry.{Entry}
 use Rattle.sup_types.specs.declared.history.Reply.{Reply}
 use Rattle.sup_core.specs.Account.{reply_after}
 use Rattle.sup_log.specs.Tokens.{Publication, Told, history_of, in_one_step}
-use Rattle.sup_log.specs.PrefixLaws.{prefix_trans}
+use base.Growing.{prefix_trans}
 use Rattle.sup_desk.specs.declared.laws.Done.{Done}
 use Rattle.sup_desk.specs.declared.faults.UpdateFault.{UpdateFault}
 use Rattle.sup_desk.specs.declared.faults.UpdateFault.TheVariants.{HistoryFull, OutOfMemory, Gone}

@@ -6,7 +6,7 @@ use Rattle.std.proofs.Math.Seq.{drop-append_seam, take-length}
 use Rattle.std.proofs.lemmas.Bool.Decides.{nat_tests}
 use mathlib.Core.List.{IsPrefix}
 use Rattle.sup_types.specs.declared.history.Entry.{Entry}
-use Rattle.sup_log.specs.PrefixLaws.{prefix_length, prefix_whole}
+use Rattle.sup_log.specs.PrefixLaws.{front_is_short, front_is_whole}
 use Rattle.sup_desk.specs.Knowledge.{entries_of}
 
 pub entries-append : (h : ℕ) (xs ys : List Entry) → entries_of (xs ++ ys) h ≡ entries_of xs h ++ entries_of ys h
@@ -23,7 +23,7 @@ pub calls_stay : (h n : ℕ) (xs ys : List Entry) → IsPrefix xs ys → n ≤ l
 calls_stay h n xs ys p le = take_prefix n (entries_of xs h) (entries_of ys h) (entries_prefix h xs ys p) le
 
 pub calls_fit : (h n : ℕ) (xs ys : List Entry) → IsPrefix xs ys → n ≤ length (entries_of xs h) → n ≤ length (entries_of ys h)
-calls_fit h n xs ys p le = omega (arith, prefix_length (entries_of xs h) (entries_of ys h) (entries_prefix h xs ys p))
+calls_fit h n xs ys p le = omega (arith, front_is_short (entries_of xs h) (entries_of ys h) (entries_prefix h xs ys p))
 
 one_own : (h : ℕ) (e : Entry) (b : Bool) → (e.handle == h) ≡ b → e.handle ≡ h → cond b (e ∷ []) [] ≡ e ∷ []
 one_own h e true is same = refl
@@ -54,7 +54,7 @@ entries_le h (x ∷ xs) = omega (arith, le_more x (entries_of xs h) (x.handle ==
 pub adopted : {A : Type 0} (old told new : List A) → IsPrefix old told → IsPrefix told new → (new ≡ old) ⊎ (new ≡ told) → new ≡ told
 adopted old told new grows held cases =
     ⊎_elim
-    (λ (same : new ≡ old). same ∙ sym (prefix_whole told old (subst (λ l. IsPrefix told l) same held) (prefix_length old told grows)))
+    (λ (same : new ≡ old). same ∙ sym (front_is_whole told old (subst (λ l. IsPrefix told l) same held) (front_is_short old told grows)))
     (λ (same : new ≡ told). same) cases
 
 length_taken : (n : ℕ) (xs : List Entry) → n ≤ length xs → xs ≡ take n xs → length xs ≡ n

@@ -117,12 +117,9 @@ impl<N: Name, S: Starter + Drop, R: Wait + Drop, J: Journal + Drop> Desk<N, S, R
         }
     }
 
-    /// A handle that has seen all of the history and made no call. It waits for the lock. After a refusal nothing has changed.
-    ///
-    /// With the fourth handle or asker at a time, a desk that has room for more puts more places to use, and each update takes longer from
-    /// then on. With the 7th they come to share places. Then an update takes as long with however many, and a query takes longer, the
-    /// more so beside others. To change places waits for the queries which look, as an update does. A desk whose journal broke off does
-    /// not change any more: a handle that would need it is refused (NoPlace).
+    /// Returns a handle that has seen all of the history and made no call. It waits for the lock, and for no query. After a refusal nothing
+    /// has changed. NoHandle once as many handles were made as the ground allows; NoPlace only if handles and askers have all of its places.
+    /// One that is dropped gives its place back.
     pub fn handle<W: Wait>(&self, rt: &W) -> Result<HandleOf<'_, N, Desk<N, S, R, J>>, HandleFault>
         ensures { IfOk result (λ h. (h.calls ≡ []) × (entries_of h.front h.number ≡ []) × (1 ≤ h.number)) }
     {
@@ -136,8 +133,9 @@ impl<N: Name, S: Starter + Drop, R: Wait + Drop, J: Journal + Drop> Desk<N, S, R
         HandleOf::of(caller, self)
     }
 
-    /// An asker, which is no handle: it asks, and no audit counts it. Its place comes back when it is dropped; it is one of
-    /// those that handles take, too. It waits as [`Desk::handle`] does. Refused where no place is left, with nothing changed.
+    /// Returns an asker, which is no handle: it asks, and no audit counts it. It takes one of the places that handles take, too, and
+    /// gives it back when it is dropped. It waits for the lock, and for no query. It is refused only if no place is left, with nothing
+    /// changed.
     pub fn asker<W: Wait>(&self, rt: &W) -> Result<Asker<N>, NoPlace> {
         add_asker(&mut *self.book.lock(rt))
     }

@@ -150,7 +150,7 @@ fn callers_of<N: Name, R: Wait + Drop>(
     requires none { roll.old.made ≡ 0 }
     requires counted { (k : ℕ) → k < length counts.now → slice_index counts.now k ≡ length (entries_of roll.old.history (k + 1)) }
     requires published { press.old.published ≡ roll.old.history }
-    ensures same { press.new ≡ record press.old { is_out = press.new.is_out } }
+    ensures same { press.new ≡ press.old }
     ensures callers { IfOk result (λ c. AreNumbered c.items × HaveSeenAll press.old.published c.items (length c.items) × (length c.items ≡ length counts.now)) }
     ensures roll { OnOk result (roll.new ≡ record roll.old { made = length counts.now }) }
 {

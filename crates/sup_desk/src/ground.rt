@@ -36,8 +36,10 @@ impl<R: Wait + Drop> Model for Ground<R> {
 }
 
 impl<R: Wait + Drop> Ground<R> {
-    /// A ground for a supervisor of this template and so many handles: 1 to 1024. While at most three are made, the room for others costs
-    /// an update nothing, and then no more than the room for 9 does.
+    /// Makes a ground for a supervisor of this template, with 1 to 1024 places for handles and askers.
+    ///
+    /// Each update visits each place, taken or not, which takes some fifty instructions a place. So ask for as many as there are threads
+    /// that ask at the same time.
     pub fn new(
         alloc: Global,
         rt: R,

@@ -369,8 +369,9 @@ impl<'d, N: Name, D> HandleOf<'d, N, D> {
         self.asker.which_children()
     }
 
-    /// Calls `f` once on a view at such a front, and not at all where the supervisor is down. `f` may make no update,
-    /// no handle and no asker, which would wait for this look.
+    /// Calls `f` once on a view at such a front, and not at all if the supervisor is down. `f` must make no update, no handle and no
+    /// asker: these wait for the lock, and whoever has it may wait for this look. `f` should be short: an update that waits for
+    /// this look yields and does not sleep, so it keeps its core busy.
     pub fn inspect<T, F: FnOnce(&View) -> T>(&mut self, f: F) -> Result<Seen<T>, Gone>
         requires { F.IsAlwaysCallable f }
         ensures front { IsPrefix self.old.front self.new.front }

@@ -124,9 +124,9 @@ impl<N: Name, R: Wait + Drop, J: Journal + Drop> Leaf<N, R, J> {
     pub fn add(&mut self) -> Result<(Lens, Claim), NoPlace>
         requires { self.old.made < self.old.handles }
         ensures ok { IfOk result (λ p. (p.0 ≡ record { press = N.press; template = N.template; editions = self.old.editions; front = self.old.published })
-            × (p.1 ≡ record { roll = N.roll; number = self.old.made + 1; calls = [] }) × (self.new ≡ record self.old { made = self.old.made + 1; is_out = self.new.is_out })) }
+            × (p.1 ≡ record { roll = N.roll; number = self.old.made + 1; calls = [] }) × (self.new ≡ record self.old { made = self.old.made + 1 })) }
         ensures none { entries_of self.old.published (self.old.made + 1) ≡ [] }
-        ensures err { OnErr result (self.new ≡ record self.old { is_out = self.new.is_out }) }
+        ensures err { OnErr result (self.new ≡ self.old) }
     {
         let lens = self.press.lens()?;
         let claim = self.roll.open(self.made + 1, 0);
@@ -137,7 +137,7 @@ impl<N: Name, R: Wait + Drop, J: Journal + Drop> Leaf<N, R, J> {
     /// A lens that has seen all that was published. Nothing else has changed.
     pub fn lens(&mut self) -> Result<Lens, NoPlace>
         ensures ok { IfOk result (λ l. l ≡ record { press = N.press; template = N.template; editions = self.old.editions; front = self.old.published }) }
-        ensures same { self.new ≡ record self.old { is_out = self.new.is_out } }
+        ensures same { self.new ≡ self.old }
     {
         self.press.lens()
     }
@@ -161,9 +161,10 @@ impl<N: Name, R: Wait + Drop, J: Journal + Drop> Leaf<N, R, J> {
     }
 
     /// Shows that a ticket of this desk tells no more than is published.
-    pub fn covers(&self, told: &Ticket)
+    pub fn covers(&mut self, told: &Ticket)
         requires { told.now.press ≡ N.press }
-        ensures { IsPrefix told.now.front self.now.published × IsPrefix told.now.editions self.now.editions }
+        ensures same { self.new ≡ self.old }
+        ensures covered { IsPrefix told.now.front self.old.published × IsPrefix told.now.editions self.old.editions }
     {
         self.press.covers(told);
     }

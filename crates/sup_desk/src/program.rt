@@ -41,9 +41,9 @@ pub trait JournaledProgram<S: Starter + Drop, R: Wait, J: Journal + Drop> {
     ) -> Self::Outcome;
 }
 
-/// Makes a desk for a supervisor of this template, for so many handles at a time, 1 to 1,024 of them, and runs the program on
-/// it. Where a desk is refused, the program is not run: BadTemplate for another number of handles, and OutOfMemory for want
-/// of memory. Its caller writes no proof.
+/// Makes a desk for a supervisor of this template and 1 to 1,024 handles, each of which costs each update (see [`Ground::new`]), and runs
+/// the program on it. If a desk is refused, the program is not run: BadTemplate for another number of handles, and OutOfMemory if
+/// memory runs out. Its caller writes no proof.
 pub fn on_desk<S: Starter + Drop, R: Wait, P: Program<S, R> + Drop>(
     rt: &R,
     alloc: Global,
@@ -73,8 +73,8 @@ fn run_named<N: Name + Send + Sync, S: Starter + Drop, R: Wait, P: Program<S, R>
 
 /// Makes a desk with a journal, runs the program on it and closes it: what came of the program, and the journal with a ticket
 /// for all of the history. The desk goes on from the history that the journal has recorded, which is empty for a new one. At the
-/// end the journal has recorded just the history of the ticket, unless it broke off (see `Desk::close`). So many handles at a
-/// time, 1 to 1,024, with those of the history. Where a desk is refused, the program is not run. Its caller writes no proof.
+/// end the journal has recorded just the history of the ticket, unless it broke off (see `Desk::close`). It has
+/// 1 to 1,024 handles, those of the history included. If a desk is refused, the program is not run. Its caller writes no proof.
 pub fn on_journaled_desk<
     S: Starter + Drop,
     R: Wait,

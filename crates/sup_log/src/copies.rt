@@ -1,222 +1,175 @@
-//! The two copies, as the press has them.
+//! The two copies, of which lenses look at one: a writer of `left_right`.
 //!
-//! An update decides on the copy that is not shown, and steps there. So that copy is taken out of lenses' reach first: a lens that
-//! still looks at it is waited for. A publication shows it.
+//! An update is decided and stepped on the copy that is not shown. So that copy is taken out of the reach of lenses first, which waits
+//! for the looks that still use it, and a publication shows it.
 //!
-//! Two lists of entries change places: that of the pending ones, and that of the last publication, which the copy lacks that is
-//! shown no more.
-//!
-//! Few lenses have places in tables, each with a writer of its own. `left_right` visits each place for a lens in its table at each
-//! publication, whether a lens has it or not. So a press begins with a table of three places, and puts a wider one to use once a lens
-//! finds none. A lens has a place in both from the start, since nobody can reach it later: when its table is closed, it goes on to the
-//! other. More lenses share slots ([`crate::pairs`]). The copies are in one of these. What the others show was never stepped, and no
-//! lens enters them before they are in use.
-ghost use Rattle.std.specs.Prelude.{◌≡◌, ◌==◌, ◌<◌, ◌≤◌, List, [], fold, is_some, true, false, Some, None, IfOk, IfSome};
-ghost use Rattle.std.specs.Arc.{arc_value};
+//! The copy that a publication stops showing lacks the entries of that publication. They are kept until it takes them. The queue of
+//! operations that `left_right`'s writer has stays empty: each publication would be an operation with a list of its own, for which
+//! memory would be taken and given back.
+ghost use Rattle.std.specs.Prelude.{◌≡◌, ◌==◌, ◌<◌, ◌≤◌, List, [], fold, true, false, IfOk};
 ghost use Rattle.left_right.specs.Sides.{view};
-ghost use Rattle.logbook.specs.Pages.{Book};
 ghost use Rattle.sup_types.specs.declared.history.Entry.{Entry};
-ghost use Rattle.sup_types.specs.declared.template.Template.{Template};
 ghost use Rattle.sup_core.specs.Replies.{asked_argument};
 ghost use Rattle.sup_core.specs.Account.{IsAfter, state_after, reply_after};
 ghost use Rattle.sup_log.specs.Absorbing.{taken, grown};
-ghost use Rattle.sup_log.specs.Fronts.{Follows, IsPlaceOf};
-ghost use Rattle.sup_log.specs.Pairs.{IsPairOf};
-ghost use Rattle.sup_log.specs.Stages.{staged, IsReserveFor};
-ghost use Rattle.sup_log.specs.Tokens.{Sight, IsFresh, IsLawful};
+ghost use Rattle.sup_log.specs.Fronts.{Follows, known};
+ghost use Rattle.sup_log.specs.Tokens.{IsFresh};
 
 use crate::faults::NoPlace;
 use crate::lens::Seat;
-use crate::pair_writer::PairWriter;
-use crate::pairs::Pairs;
-use crate::seldom::let_go;
-use crate::stage::Stage;
-use crate::table::Table;
+use crate::publication::{Known, Published, Sees, Takes, Tells};
 use crate::ticket::Ticket;
 use crate::view::View;
-use core::mem::{replace, swap};
-use crossbeam_utils::CachePadded;
+use core::mem::{replace_with, swap};
+use left_right::writer::Writer;
 use std::alloc::Global;
 use std::marker::Model;
-use std::sync::{Arc, Wait};
+use std::sync::Wait;
 use sup_core::{Asked, Spot};
 use sup_types::{Entry, Operation, OutOfMemory, Reply, Template};
 
-/// The places of the table that is in use first, where more are asked for.
-const FIRST: usize = 3;
-
-/// The places of the wider table, and the most that a table has. More lenses share slots.
-const MOST: usize = 6;
-
-/// A list that has room for more entries than this gives its memory back once its entries were taken.
+/// The most entries for which a list keeps its memory after a publication.
 const FEW_ENTRIES: usize = 64;
 
-/// Who has the slots beside the lenses: the copies, and their writer.
-const OWNERS: usize = 2;
+type Ends = Writer<View, (), Known, Published>;
 
 /// The two copies, of which lenses look at one. It is not `Drop`: end it by `close`.
 pub struct Copies {
-    stage: Stage,
-    // The wider table, until it is in use.
-    wider: Option<Table>,
-    // The slots that lenses share once there are more than tables have places, if there may be so many.
-    pairs: Option<Arc<Pairs>>,
-    places: usize,
-    // How many lenses were made.
-    made: usize,
-    template: Template,
-    other: Other,
-}
-
-/// What a lens looks through: its place in the table in use, that in the wider one which is not in use yet, and the slots of its group.
-pub struct Seats {
-    pub reader: Option<Seat>,
-    pub wider: Option<Seat>,
-    pub pairs: Option<Arc<Pairs>>,
-    pub group: usize,
-}
-
-/// The copy that is not shown.
-#[derive(Drop)]
-struct Other {
-    // None while lenses may still look at it.
+    writer: Ends,
+    // The copy that is not shown, while it is out of the reach of lenses. It lacks nothing.
     next: Option<Box<View>>,
-    // The entries of the last publication. The copy lacks them until it is taken out of lenses' reach.
+    // What takes that copy's place in the writer then. It is here while the writer has the copy itself, and is never shown.
+    stand_in: Option<Box<View>>,
+    // The entries of the last publication, which that copy lacks while the writer has it.
     lacks: Vec<Entry>,
-    // Where the copy that stepped them found the children of the first of these entries. The other has them there, too.
+    // Where the other copy found the children of the first of these entries. This copy has them there, too.
     spots: Vec<Spot>,
+    template: Template,
 }
 
 impl Model for Copies {
-    ghost use Rattle.std.specs.Prelude.{◌≡◌, true, false, IfSome, MatchOption, is_some, fold};
-    ghost use Rattle.std.specs.Arc.{arc_value};
+    ghost use Rattle.std.specs.Prelude.{◌≡◌, true, MatchOption, is_some, fold};
     ghost use Rattle.std.specs.Option.{option_map_or};
     ghost use Rattle.sup_log.specs.Absorbing.{taken};
-    ghost use Rattle.sup_log.specs.Pairs.{IsPairOf};
-    ghost use Rattle.sup_log.specs.Stages.{staged, IsReserveFor};
+    ghost use Rattle.sup_log.specs.Fronts.{known};
     ghost use Rattle.sup_log.specs.Tokens.{Sides};
 
     ghost Value = { Sides };
 
     ghost view = { λ c. record {
-      shown = (staged c.stage).shown;
-      next = option_map_or (λ b. b.value.standing) c.other.next (fold taken (staged c.stage).spare c.other.lacks.items);
-      is_out = is_some c.other.next;
+      shown = c.writer.desk.shown.value;
+      next = option_map_or (λ b. b.value.standing) c.next (fold taken c.writer.desk.spare.value.standing c.lacks.items);
+      is_out = is_some c.next;
     } };
 
-    ghost invariant = { λ c. MatchOption c.other.next ((staged c.stage).has_both ≡ true) (λ _. (staged c.stage).has_both ≡ false)
-        × ((staged c.stage).shown.standing.template ≡ c.template)
-        × IfSome c.wider (λ t. IsReserveFor (staged c.stage).shown t)
-        × IfSome c.pairs (λ p. IsPairOf (staged c.stage).shown.press (staged c.stage).shown.standing.template (arc_value p)) };
+    ghost invariant = { λ c. (c.writer.desk.place.me.0.client ≡ known c.writer.desk.shown.value)
+        × (c.writer.desk.shown.value.standing.template ≡ c.template)
+        × MatchOption c.next (is_some c.stand_in ≡ true) (λ _. Unit {0}) };
 }
 
-/// The wider table, where there may be more lenses than the first has places.
-fn reserve<R: Wait>(
+/// Makes a copy that is never shown, of the smallest supervisor.
+fn stand_in(alloc: Global, front: &Ticket) -> Result<View, OutOfMemory>
+    requires { front.now.front ≡ [] }
+{
+    match Template::standard(1, 1) {
+        Ok(smallest) => View::new(alloc, smallest, front.copied()),
+        Err(_) => unreachable!(),
+    }
+}
+
+/// Makes a writer of a copy, which is shown, and a stand-in.
+fn opened(
     alloc: Global,
-    rt: &R,
     template: Template,
     places: usize,
     front: &Ticket,
-) -> Result<Option<Table>, OutOfMemory>
+) -> Result<Ends, OutOfMemory>
     requires front { front.now.front ≡ [] }
-    ensures { IfOk result (λ o. IfSome o (λ t. IsFresh front.now template t.shown × (t.has_both ≡ false))) }
+    requires places { (0 < places) × (places ≤ 1024) }
+    ensures { IfOk result (λ w. IsFresh front.now template w.desk.shown.value) }
 {
-    if places <= FIRST {
-        return Ok(None);
-    }
-    let mut table = Table::new(alloc, rt, template, places.min(MOST), front)?;
-    drop(table.take_out(rt));
-    Ok(Some(table))
+    let first = View::new(alloc, template, front.copied())?;
+    Ok(Writer::new(alloc, first, stand_in(alloc, front)?, places)?)
 }
 
-/// Closes a table, if there is one. It waits for the lenses that look there.
-fn end<R: Wait>(rt: &R, table: Option<Table>) {
-    if let Some(table) = table {
-        drop(table.close(rt));
-    }
-}
-
-/// The slots that lenses share, where there may be more of them than tables have places.
-fn shared(
-    alloc: Global,
-    template: Template,
-    places: usize,
-    front: &Ticket,
-) -> Result<Option<Arc<Pairs>>, OutOfMemory>
-    ensures { IfOk result (λ o. IfSome o (λ p. IsPairOf front.now.press template (arc_value p))) }
+/// Shows this copy, and returns the stand-in that the writer had in its place.
+fn turn<R: Wait>(rt: &R, writer: &mut Ends, next: Box<View>) -> Box<View>
+    requires { Follows writer.old.desk.shown.value next.value }
+    ensures known { view writer.new.desk.place ≡ known writer.new.desk.shown.value }
+    ensures shown { writer.new.desk.shown.value ≡ next.value }
+    ensures spare { writer.new.desk.spare.value ≡ writer.old.desk.shown.value }
 {
-    if places <= MOST {
-        return Ok(None);
-    }
-    match Arc::new(alloc, Pairs::new(front, template)) {
-        Ok(pairs) => Ok(Some(pairs)),
-        Err(_) => Err(OutOfMemory),
-    }
-}
-
-/// The same slots once more, if there are any.
-fn again(pairs: &Option<Arc<Pairs>>) -> Result<Option<Arc<Pairs>>, NoPlace>
-    ensures { (press : Book) (template : Template) → IfSome pairs.now (λ p. IsPairOf press template (arc_value p)) → IfOk result (λ o. IfSome o (λ p. IsPairOf press template (arc_value p))) }
-{
-    match pairs {
-        Some(pairs) => match Arc::try_clone(pairs) {
-            Ok(pairs) => Ok(Some(pairs)),
-            Err(_) => Err(NoPlace),
+    replace_with(
+        &mut writer.desk,
+        next,
+        |desk, next: Box<View>|
+            requires { Follows desk.shown.value next.value }
+            ensures known { view result.0.place ≡ known result.0.shown.value }
+            ensures shown { result.0.shown.value ≡ next.value }
+            ensures spare { result.0.spare.value ≡ desk.shown.value }
+        {
+            let (open, stand_in) = desk.open(rt);
+            (open.show_as::<Sees>(next), stand_in)
         },
-        None => Ok(None),
-    }
+    )
 }
 
-/// How many have these slots.
-fn count(pairs: &Option<Arc<Pairs>>) -> usize {
-    match pairs {
-        Some(pairs) => Arc::strong_count(pairs),
-        None => 0,
-    }
-}
-
-/// A place in the wider table, until that is in use.
-fn seat_in(wider: &mut Option<Table>) -> Result<Option<Seat>, NoPlace>
-    ensures kept { wider.new ≡ wider.old }
-    ensures seat { (shown : Sight) → IfSome wider.old (λ t. IsReserveFor shown t) → IfOk result (λ o. IfSome o (λ s. IsPlaceOf shown.press shown.standing.template (view s.place))) }
+/// Takes the copy that is not shown, and leaves this stand-in in its place. It waits for the looks that still use that copy.
+fn take_out<R: Wait>(rt: &R, writer: &mut Ends, stand_in: Box<View>) -> Box<View>
+    ensures shown { writer.new.desk.shown.value ≡ writer.old.desk.shown.value }
+    ensures seat { view writer.new.desk.place ≡ view writer.old.desk.place }
+    ensures copy { result.value ≡ writer.old.desk.spare.value }
 {
-    match wider {
-        Some(table) => Ok(Some(table.seat()?)),
-        None => Ok(None),
+    replace_with(
+        &mut writer.desk,
+        stand_in,
+        |desk, stand_in: Box<View>|
+            ensures shown { result.0.shown.value ≡ desk.shown.value }
+            ensures seat { view result.0.place ≡ view desk.place }
+            ensures copy { result.1.value ≡ desk.spare.value }
+        {
+            let (open, copy) = desk.open(rt);
+            (open.shelve(stand_in), copy)
+        },
+    )
+}
+
+/// Returns a place for a lens, which knows the copy that is shown. It waits for nothing.
+fn seat_of(writer: &mut Ends) -> Result<Seat, NoPlace>
+    requires { view writer.old.desk.place ≡ known writer.old.desk.shown.value }
+    ensures shown { writer.new.desk.shown ≡ writer.old.desk.shown }
+    ensures spare { writer.new.desk.spare ≡ writer.old.desk.spare }
+    ensures known { view writer.new.desk.place ≡ view writer.old.desk.place }
+    ensures seat { IfOk result (λ s. view s.place ≡ known writer.old.desk.shown.value) }
+{
+    match writer.factory().reader() {
+        Ok(mut seat) => {
+            seat.learn::<Takes>(writer.desk.tell::<Tells>());
+            Ok(seat)
+        }
+        Err(_) => Err(NoPlace),
     }
 }
 
-/// Notes where a child was found, of the first entries of a publication: of as many as there is room for. That takes no memory.
+/// Keeps where a child was found, if there is room.
 fn note(spots: &mut Vec<Spot>, spot: Spot) {
     if spots.len() < spots.capacity() {
         spots.push_reserved(spot);
     }
 }
 
-/// The copy that is not shown, which tells this front from now on.
-fn told(other: &mut Other, front: &Ticket) -> Box<View>
-    requires { is_some other.old.next ≡ true }
-    ensures next { IfSome other.old.next (λ b. result.value ≡ record { press = front.now.press; standing = b.value.standing; editions = front.now.editions; front = front.now.front }) }
-    ensures lacks { other.new.lacks ≡ other.old.lacks }
+/// Empties a list. One with room for many entries gives its memory back, and none is taken for that.
+fn empty(entries: &mut Vec<Entry>)
+    ensures { entries.new.items ≡ [] }
 {
-    let Some(mut copy) = other.next.take() else {
-        unreachable!()
-    };
-    copy.tell(front);
-    copy
-}
-
-/// Ends what is in use, and goes on there. The copy that was shown. It is called once the copies are there, so that a lens which
-/// finds its table closed finds them.
-fn move_on<R: Wait>(rt: &R, stage: &mut Stage, to: Stage) -> Box<View>
-    ensures stage { stage.new ≡ to }
-    ensures copy { result.value.standing ≡ (staged stage.old).shown.standing }
-{
-    replace(stage, to).close(rt)
+    entries.clear();
+    if entries.capacity() > FEW_ENTRIES {
+        *entries = Vec::new(*entries.allocator());
+    }
 }
 
 impl Copies {
-    /// Two copies of a supervisor of this template, for so many lenses at a time.
+    /// Makes two copies of a supervisor of this template, with this many places for lenses.
     pub fn new<R: Wait>(
         alloc: Global,
         rt: &R,
@@ -226,168 +179,86 @@ impl Copies {
     ) -> Result<Copies, OutOfMemory>
         requires front { front.now.front ≡ [] }
         requires places { (0 < places) × (places ≤ 1024) }
-        ensures { IfOk result (λ c. IsFresh front.now template c.shown × (c.next ≡ c.shown.standing) × (c.is_out ≡ false)) }
+        ensures { IfOk result (λ c. IsFresh front.now template c.shown × (c.next ≡ c.shown.standing)) }
     {
-        let pairs = shared(alloc, template, places, front)?;
         let spots = Vec::with_capacity(alloc, FEW_ENTRIES)?;
-        let table = Table::new(alloc, rt, template, places.min(FIRST), front)?;
-        match reserve(alloc, rt, template, places, front) {
-            Ok(wider) => Ok(Copies {
-                stage: Stage::Places(table),
-                wider,
-                pairs,
-                places,
-                made: 0,
-                template,
-                other: Other {
-                    next: None,
-                    lacks: Vec::new(alloc),
-                    spots,
-                },
-            }),
-            Err(fault) => {
-                end(rt, Some(table));
-                Err(fault)
-            }
-        }
+        let Ok(second) = Box::new(alloc, View::new(alloc, template, front.copied())?) else {
+            return Err(OutOfMemory);
+        };
+        let mut writer = opened(alloc, template, places, front)?;
+        // No clause says what the writer has beside the copy that it shows. Once the second copy is shown, that is the first one.
+        let stand_in = turn(rt, &mut writer, second);
+        Ok(Copies {
+            writer,
+            next: None,
+            stand_in: Some(stand_in),
+            lacks: Vec::new(alloc),
+            spots,
+            template,
+        })
     }
 
-    /// Of which template they are.
+    /// Returns the template of the supervisor.
     pub fn template(&self) -> &Template
         ensures { result.now ≡ self.now.shown.standing.template }
     {
         &self.template
     }
 
-    /// What a lens looks through, which knows what is shown.
-    pub fn seats(&mut self) -> Result<Seats, NoPlace>
+    /// Returns a place for a lens, which knows the copy that is shown. It waits for nothing.
+    pub fn seat(&mut self) -> Result<Seat, NoPlace>
         ensures kept { self.new ≡ self.old }
-        ensures reader { IfOk result (λ s. IfSome s.reader (λ seat. IsPlaceOf self.old.shown.press self.old.shown.standing.template (view seat.place))) }
-        ensures wider { IfOk result (λ s. IfSome s.wider (λ seat. IsPlaceOf self.old.shown.press self.old.shown.standing.template (view seat.place))) }
-        ensures pairs { IfOk result (λ s. IfSome s.pairs (λ p. IsPairOf self.old.shown.press self.old.shown.standing.template (arc_value p))) }
+        ensures seat { IfOk result (λ s. view s.place ≡ known self.old.shown) }
     {
-        let pairs = again(&self.pairs)?;
-        let group = self.made;
-        let (reader, wider) = match &mut self.stage {
-            Stage::Places(table) => (Some(table.seat()?), seat_in(&mut self.wider)?),
-            Stage::Slots(_) => {
-                if count(&pairs).saturating_sub(OWNERS) > self.places {
-                    return Err(NoPlace);
-                }
-                (None, None)
-            }
-        };
-        self.made = group.wrapping_add(1);
-        Ok(Seats {
-            reader,
-            wider,
-            pairs,
-            group,
-        })
+        seat_of(&mut self.writer)
     }
 
-    /// Goes on where there are more places: whether there are. The copies move there, where the one that is shown tells the same
-    /// front. It waits for the lenses that look.
-    pub fn widen<R: Wait>(&mut self, alloc: Global, rt: &R, front: &Ticket) -> bool
-        requires next { self.old.next ≡ self.old.shown.standing }
-        requires front { front.now ≡ record { press = self.old.shown.press; editions = self.old.shown.editions; front = self.old.shown.front } }
-        requires lawful { IsLawful self.old.shown }
-        ensures shown { self.new.shown ≡ self.old.shown }
-        ensures next { self.new.next ≡ self.old.next }
-    {
-        match self.wider.take() {
-            Some(table) => {
-                self.go_on_in(rt, table, front);
-                true
-            }
-            None => self.share(alloc, rt, front),
-        }
-    }
-
-    /// Goes on in this table.
-    fn go_on_in<R: Wait>(&mut self, rt: &R, table: Table, front: &Ticket)
-        requires reserve { IsReserveFor self.old.shown table }
-        requires next { self.old.next ≡ self.old.shown.standing }
-        requires front { front.now ≡ record { press = self.old.shown.press; editions = self.old.shown.editions; front = self.old.shown.front } }
-        requires lawful { IsLawful self.old.shown }
-        ensures shown { self.new.shown ≡ self.old.shown }
-        ensures next { self.new.next ≡ self.old.next }
-    {
-        self.ready(rt);
-        let mut table = table;
-        table.show(rt, told(&mut self.other, front));
-        drop(table.take_out(rt));
-        self.other.next = Some(move_on(rt, &mut self.stage, Stage::Places(table)));
-    }
-
-    /// Goes on in the slots that lenses share, unless there are none, they are in use or there is no memory.
-    fn share<R: Wait>(&mut self, alloc: Global, rt: &R, front: &Ticket) -> bool
-        requires next { self.old.next ≡ self.old.shown.standing }
-        requires front { front.now ≡ record { press = self.old.shown.press; editions = self.old.shown.editions; front = self.old.shown.front } }
-        requires lawful { IsLawful self.old.shown }
-        ensures shown { self.new.shown ≡ self.old.shown }
-        ensures next { self.new.next ≡ self.old.next }
-    {
-        if let Stage::Slots(_) = &self.stage {
-            return false;
-        }
-        let Ok(Some(pairs)) = again(&self.pairs) else {
-            return false;
-        };
-        let Ok(shown) = Arc::new(alloc, CachePadded::new(None)) else {
-            return false;
-        };
-        let Ok(before) = Arc::new(alloc, CachePadded::new(None)) else {
-            return false;
-        };
-        self.ready(rt);
-        let writer = PairWriter::open(rt, pairs, shown, before, told(&mut self.other, front));
-        self.other.next = Some(move_on(rt, &mut self.stage, Stage::Slots(writer)));
-        true
-    }
-
-    /// Has the copy that is not shown taken out of lenses' reach, and brought up to date. It waits for those that still look at it.
-    #[inline(always)]
+    /// Takes the copy that is not shown out of the reach of lenses, and has it step what it lacks. It waits for the looks that still use
+    /// that copy.
     pub fn ready<R: Wait>(&mut self, rt: &R)
         ensures { self.new ≡ record self.old { is_out = true } }
     {
-        let Copies { stage, other, .. } = self;
-        if other.next.is_some() {
+        if self.next.is_some() {
             return;
         }
-        let mut next = stage.take_out(rt);
-        next.take_all(other.lacks.as_slice(), other.spots.as_slice());
-        other.spots.clear();
-        let_go(replace(&mut other.next, Some(next)));
+        let Some(stand_in) = self.stand_in.take() else {
+            unreachable!()
+        };
+        let mut next = take_out(rt, &mut self.writer, stand_in);
+        next.take_all(self.lacks.as_slice(), self.spots.as_slice());
+        self.spots.clear();
+        self.next = Some(next);
     }
 
-    /// Whether that copy has taken all the entries that there may be.
-    #[inline(always)]
-    pub fn is_spent(&self) -> bool
+    /// Returns the copy in hand: the one that is not shown, once it is out of the reach of lenses.
+    fn in_hand(&self) -> &View
         requires { self.now.is_out ≡ true }
-        ensures { result ≡ (self.now.next.steps == self.now.next.template.entries) }
+        ensures { result.now.standing ≡ self.now.next }
     {
-        match &self.other.next {
-            Some(next) => next.is_spent(),
+        match &self.next {
+            Some(next) => next,
             None => unreachable!(),
         }
     }
 
-    /// What an entry with this operation and moment asks of that copy.
-    #[inline(always)]
+    /// Tells whether the copy in hand has taken as many entries as a history may have.
+    pub fn is_spent(&self) -> bool
+        requires { self.now.is_out ≡ true }
+        ensures { result ≡ (self.now.next.steps == self.now.next.template.entries) }
+    {
+        self.in_hand().is_spent()
+    }
+
+    /// Returns what an entry with this operation and moment asks, by the copy in hand.
     pub fn asks(&self, operation: &Operation, moment: u64) -> Asked
         requires { self.now.is_out ≡ true }
         ensures { (history : List Entry) → IsAfter self.now.next history
             → result.arg ≡ asked_argument (state_after self.now.next.template history) operation.now moment }
     {
-        match &self.other.next {
-            Some(next) => next.asks(operation, moment),
-            None => unreachable!(),
-        }
+        self.in_hand().asks(operation, moment)
     }
 
-    /// That copy takes a step, for which this was asked.
-    #[inline(always)]
+    /// Has the copy in hand step an entry, for which this was asked.
     pub fn step(&mut self, entry: &Entry, asked: &Asked) -> Reply
         requires out { self.old.is_out ≡ true }
         requires room { self.old.next.steps < self.old.next.template.entries }
@@ -395,31 +266,29 @@ impl Copies {
             → result ≡ reply_after self.old.next.template history entry.now }
         ensures next { self.new ≡ record self.old { next = taken self.old.next entry.now } }
     {
-        let Other { next, spots, .. } = &mut self.other;
-        match next {
+        match &mut self.next {
             Some(next) => {
                 let reply = next.step(entry, asked);
-                note(spots, next.spot());
+                note(&mut self.spots, next.spot());
                 reply
             }
             None => unreachable!(),
         }
     }
 
-    /// That copy takes these entries, in order.
-    #[inline(always)]
+    /// Has the copy in hand take these entries, in order.
     pub fn take_all(&mut self, entries: &[Entry])
         requires { self.old.is_out ≡ true }
         ensures { self.new ≡ record self.old { next = fold taken self.old.next entries.now } }
     {
-        match &mut self.other.next {
+        match &mut self.next {
             Some(next) => next.take_all(entries, &[]),
             None => unreachable!(),
         }
     }
 
-    /// Shows that copy, which has taken just these entries more than the one that is shown, and takes the entries away.
-    #[inline(always)]
+    /// Shows the copy in hand, which has taken just these entries more than the other one, and empties the list of them. It takes no
+    /// memory: the list becomes that of the entries which the other copy lacks.
     pub fn show<R: Wait>(&mut self, rt: &R, entries: &mut Vec<Entry>, front: &Ticket)
         requires out { self.old.is_out ≡ true }
         requires stepped { self.old.next ≡ fold taken self.old.shown.standing entries.old.items }
@@ -428,37 +297,25 @@ impl Copies {
         ensures next { (self.new.next ≡ self.old.next) × (self.new.is_out ≡ false) }
         ensures none { entries.new.items ≡ [] }
     {
-        let Copies { stage, other, .. } = self;
-        match other.next.take() {
-            Some(mut next) => {
-                next.tell(front);
-                stage.show(rt, next);
-            }
-            None => unreachable!(),
-        }
-        // (Emptied first, the list would be read in larger pieces than its length was written, for which the processor waits.)
-        swap(&mut other.lacks, entries);
-        entries.clear();
-        entries.shrink_to(FEW_ENTRIES);
+        let Some(mut next) = self.next.take() else {
+            unreachable!()
+        };
+        next.tell(front);
+        self.stand_in = Some(turn(rt, &mut self.writer, next));
+        swap(&mut self.lacks, entries);
+        empty(entries);
     }
 
-    /// Ends them. It waits for the lenses that look.
+    /// Ends both copies. It waits for the looks that still use one.
     pub fn close<R: Wait>(self, rt: &R) {
         let Copies {
-            stage,
-            wider,
-            pairs,
-            places: _,
-            made: _,
+            writer,
+            next: _next,
+            stand_in: _stand_in,
+            lacks: _lacks,
+            spots: _spots,
             template: _,
-            other: _other,
         } = self;
-        // (A lens goes on to the wider table where it finds one closed, and then to the slots, so what is in use is the last to be
-        // closed.)
-        if let (Stage::Places(_), Some(pairs)) = (&stage, &pairs) {
-            drop(pairs.close(rt, true));
-        }
-        end(rt, wider);
-        drop(stage.close(rt));
+        drop(writer.take(rt));
     }
 }

@@ -1,15 +1,15 @@
-//! The history of a press. Its entries stand in the proofs alone.
+//! The history of a press. Its entries exist in the proofs alone.
 ghost use Rattle.std.specs.Prelude.{◌≡◌, ◌+◌, ◌<◌, ◌^◌, ◌++◌, [], length};
+ghost use mathlib.Core.List.{IsPrefix};
 ghost use Rattle.sup_log.specs.Tokens.{history_of, in_one_step};
 
-use crate::right::{Grown, offered, parts, taken};
+use crate::right::{Grown, compared, offered, parts, taken};
 use crate::ticket::Ticket;
 use logbook::{Pen, Play, Rule, Seen, Word};
 use std::marker::{Brand, Model, PhantomData};
 use sup_types::Entry;
 
-/// The entries of one publication, of which there is one at least. No value of it is made: the history stands in the
-/// proofs alone.
+/// The entries of one publication, at least one. No value of it is made: the history exists in the proofs alone.
 pub struct Publication {
     pub first: Entry,
     pub rest: Vec<Entry>,
@@ -28,7 +28,7 @@ pub struct Law;
 
 impl Rule<Publication, u64> for Law {
     ghost use Rattle.std.specs.Prelude.{[]};
-    ghost use Rattle.sup_log.specs.Rules.{IsKept, AddsOne, kept};
+    ghost use Rattle.sup_log.specs.Rules.{IsKept, Adds, kept};
 
     ghost holds = { IsKept };
 
@@ -40,7 +40,7 @@ impl Rule<Publication, u64> for Law {
 
     ghost keeps = { kept };
 
-    ghost moves = { λ ask. AddsOne };
+    ghost moves = { Adds };
 }
 
 /// The entries of one step, which is one publication. Each step picks them.
@@ -68,8 +68,17 @@ impl<B: Entries> Play<Publication, u64> for Extends<B> {
     ghost then = { Extended B.entries };
 }
 
-/// The history of one press, whose publications stand in the proofs alone. The word is always 0: a step that reads it extends the
-/// history, since the right to do so is here.
+/// A step that compares what was seen with the history, and leaves it as it is.
+struct Compares;
+
+impl Play<Publication, u64> for Compares {
+    ghost use Rattle.sup_log.specs.Rules.{Compared};
+
+    ghost then = { Compared };
+}
+
+/// The history of one press, whose publications exist in the proofs alone. The word is always 0: a load of it extends the history, since the
+/// right to do so is here.
 #[derive(Drop)]
 pub struct History {
     head: Word<Publication, u64, Law>,
@@ -93,7 +102,7 @@ impl Model for History {
 }
 
 impl History {
-    /// A history of its own, with no publication.
+    /// Makes a history with no publication.
     pub fn new() -> History
         ensures { (result.editions ≡ []) × (result.front ≡ []) }
     {
@@ -110,7 +119,7 @@ impl History {
         }
     }
 
-    /// A ticket for all of it.
+    /// Returns a ticket for all of it.
     pub fn tell(&self) -> Ticket
         ensures { result ≡ self.now }
     {
@@ -121,15 +130,31 @@ impl History {
         }
     }
 
-    /// How many publications there were.
+    /// Returns how many publications there were.
     pub fn editions(&self) -> u64
         ensures { result ≡ length self.now.editions }
     {
         self.editions
     }
 
-    /// Adds these entries in one publication, by one load of the word. Nobody else has the right to extend it, so all is seen
-    /// that there was before.
+    /// Proves that a ticket tells no more than there is. It takes one load of the word: the load shows a history that begins with all that was
+    /// told, and the right says how long it is.
+    pub fn covers(&mut self, told: &Ticket)
+        requires { told.now.press ≡ self.old.press }
+        ensures kept { self.new ≡ self.old }
+        ensures front { IsPrefix told.now.front self.old.front }
+        ensures editions { IsPrefix told.now.editions self.old.editions }
+    {
+        self.seen.learn(&told.seen);
+        let mut offer = compared(&mut self.right);
+        let _ = self
+            .head
+            .load::<Compares, Grown>(&mut self.seen, &mut offer);
+        taken(&mut self.right, offer.into_gain());
+    }
+
+    /// Adds these entries in one publication, by one load of the word. Nobody else has the right to extend the history, so what this
+    /// press has seen of it is all there was.
     pub fn extend(&mut self, entries: &[Entry])
         requires some { 0 < length entries.now }
         requires room { (length self.old.front + length entries.now < 2 ^ 64) × (length self.old.editions + 1 < 2 ^ 64) }

@@ -1,4 +1,4 @@
-//! The press: it makes entries pending, and publishes them.
+//! The press, which collects pending entries and publishes them.
 ghost use Rattle.std.specs.Prelude.{◌≡◌, ◌==◌, ◌<◌, ◌≤◌, ◌+◌, ◌^◌, List, [], ◌∷◌, ◌++◌, true, false, Some, length, slice_get, IfOk, IfSome, IfNone, MatchResult};
 ghost use mathlib.Core.List.{IsPrefix};
 ghost use Rattle.sup_types.specs.declared.history.Entry.{Entry};
@@ -6,7 +6,7 @@ ghost use Rattle.sup_core.specs.Replies.{asked_argument};
 ghost use Rattle.sup_core.specs.Account.{state_after, reply_after};
 ghost use Rattle.sup_log.specs.Tokens.{in_one_step, so_far};
 
-use crate::copies::{Copies, Seats};
+use crate::copies::Copies;
 use crate::faults::NoPlace;
 use crate::history::History;
 use crate::lens::Lens;
@@ -17,13 +17,10 @@ use std::sync::Wait;
 use sup_core::Asked;
 use sup_types::{Entry, Operation, OutOfMemory, Reply, Template};
 
-/// Publishes an operation log into two copies of a supervisor. The copy that no lens looks at takes the pending entries as its
-/// caller asks for the replies to them.
+/// Publishes an operation log in two copies of a supervisor. The copy that is not shown answers the pending entries.
 ///
-/// It keeps `rt`, since it waits for the lenses that still look at the copy that was shown before: where it is made ready, where a new
-/// lens finds no place, and at its end.
+/// It keeps `rt`, since it waits for looks: when it becomes ready, and at its end.
 pub struct Press<R: Wait + Drop> {
-    alloc: Global,
     history: History,
     pending: Vec<Entry>,
     stepped: usize,
@@ -45,7 +42,7 @@ impl<R: Wait + Drop> Model for Press<R> {
         × (p.stepped ≤ length p.pending.items) × (p.copies.next ≡ fold taken p.copies.shown.standing (take p.stepped p.pending.items)) };
 }
 
-/// Adds these entries to the history in one publication. A ticket for all of it.
+/// Adds these entries to the history in one publication, and returns a ticket for all of it.
 fn extended(history: &mut History, entries: &[Entry]) -> Ticket
     requires some { 0 < length entries.now }
     requires room { (length history.old.front + length entries.now < 2 ^ 64) × (length history.old.editions + 1 < 2 ^ 64) }
@@ -57,7 +54,10 @@ fn extended(history: &mut History, entries: &[Entry]) -> Ticket
 }
 
 impl<R: Wait + Drop> Press<R> {
-    /// Two copies of a supervisor of this template, and room for so many lenses at a time.
+    /// Makes a press with nothing published and nothing pending, and with this many places for lenses.
+    ///
+    /// Each publication visits each place, taken or not, at a price of some fifty instructions. So ask for as many places as there are
+    /// threads that look at the same time.
     pub fn new(
         alloc: Global,
         rt: R,
@@ -70,7 +70,6 @@ impl<R: Wait + Drop> Press<R> {
         let history = History::new();
         let copies = Copies::new(alloc, &rt, template, places, &history.tell())?;
         Ok(Press {
-            alloc,
             history,
             pending: Vec::new(alloc),
             stepped: 0,
@@ -79,41 +78,21 @@ impl<R: Wait + Drop> Press<R> {
         })
     }
 
-    /// A lens that has seen all that was published. Refused where no place or no memory is left, with nothing changed. Where
-    /// no place is left that is in use, the copies move on to where there are more, unless entries were stepped that are not published
-    /// yet. That waits for the lenses that look.
+    /// Returns a lens that has seen all that was published. It waits for nothing, and is refused only if all places are taken as the call
+    /// begins. A lens that is dropped gives its place back.
     pub fn lens(&mut self) -> Result<Lens, NoPlace>
-        ensures kept { self.new ≡ record self.old { is_out = self.new.is_out } }
+        ensures kept { self.new ≡ self.old }
         ensures lens { IfOk result (λ l. l ≡ record { press = self.old.press; template = self.old.template; editions = self.old.editions; front = self.old.published }) }
     {
         let front = self.history.tell();
-        let seats = match self.copies.seats() {
-            Ok(seats) => seats,
-            Err(NoPlace) => {
-                if self.stepped > 0 || !self.copies.widen(self.alloc, &self.rt, &front) {
-                    return Err(NoPlace);
-                }
-                self.copies.seats()?
-            }
-        };
-        let Seats {
-            reader,
-            wider,
-            pairs,
-            group,
-        } = seats;
         Ok(Lens {
-            reader,
-            wider,
-            pairs,
-            group,
-            is_apart: false,
+            reader: self.copies.seat()?,
             front,
             template: *self.copies.template(),
         })
     }
 
-    /// Makes an entry pending. After a refusal nothing has changed.
+    /// Adds an entry to the pending ones. After a refusal nothing has changed.
     pub fn append(&mut self, entry: Entry) -> Result<(), OutOfMemory>
         requires { length self.old.published + length self.old.pending < self.old.template.entries }
         ensures { MatchResult result (λ _. self.new ≡ record self.old { pending = self.old.pending ++ entry ∷ [] }) (λ _. self.new ≡ self.old) }
@@ -124,7 +103,7 @@ impl<R: Wait + Drop> Press<R> {
         }
     }
 
-    /// Takes back the entry that was made pending last, for which no step was taken.
+    /// Takes back the entry that was appended last, if it was not yet stepped.
     pub fn retract(&mut self)
         requires { self.old.stepped < length self.old.pending }
         ensures { (before : List Entry) (last : Entry) → self.old.pending ≡ before ++ last ∷ [] → self.new ≡ record self.old { pending = before } }
@@ -132,7 +111,7 @@ impl<R: Wait + Drop> Press<R> {
         let _ = self.pending.pop();
     }
 
-    /// What is pending, in order.
+    /// Returns what is pending, in order.
     pub fn pending(&self) -> &[Entry]
         ensures items { result.now ≡ self.now.pending }
         ensures room { length self.now.published + length self.now.pending ≤ self.now.template.entries }
@@ -140,17 +119,15 @@ impl<R: Wait + Drop> Press<R> {
         self.pending.as_slice()
     }
 
-    /// Has the copy that no lens is to look at taken out of lenses' reach, and brought up to date. That copy is asked, and takes the
-    /// entries. It waits for the lenses that still look at it.
-    #[inline(always)]
+    /// Takes the copy that is not shown out of the reach of lenses, and brings it up to date. That copy is asked, and steps the entries. It
+    /// waits for the looks that still use the copy, and yields meanwhile: a look that lasts keeps this thread's core busy.
     pub fn ready(&mut self)
         ensures { self.new ≡ record self.old { is_out = true } }
     {
         self.copies.ready(&self.rt);
     }
 
-    /// Whether the entries that were published or stepped are all that there may be.
-    #[inline(always)]
+    /// Tells whether the entries that were published or stepped are as many as the template allows.
     pub fn is_full(&self) -> bool
         requires ready { self.now.is_out ≡ true }
         ensures value { result ≡ (length (so_far self.now) == self.now.template.entries) }
@@ -159,9 +136,8 @@ impl<R: Wait + Drop> Press<R> {
         self.copies.is_spent()
     }
 
-    /// What an entry with this operation and moment asks after those that were published or stepped: the argument whose start
-    /// decides the reply, if there is one. None where these are all the entries that there may be.
-    #[inline(always)]
+    /// Returns what an entry with this operation and moment asks after those that were published or stepped: the argument whose start
+    /// decides the reply, if there is one. It returns `None` if these are as many entries as the template allows.
     pub fn asks(&self, operation: &Operation, moment: u64) -> Option<Asked>
         requires ready { self.now.is_out ≡ true }
         ensures full { IfNone result (length (so_far self.now) ≡ self.now.template.entries) }
@@ -174,9 +150,8 @@ impl<R: Wait + Drop> Press<R> {
         Some(self.copies.asks(operation, moment))
     }
 
-    /// Steps the first pending entry that was not yet stepped, for which this was asked. The reply to it. An entry that was never
-    /// stepped is published all the same.
-    #[inline(always)]
+    /// Steps the first pending entry that was not yet stepped, for which this was asked, and returns the reply to it. An entry that was
+    /// never stepped is published anyway.
     pub fn step(&mut self, asked: &Asked) -> Reply
         requires ready { self.old.is_out ≡ true }
         requires some { self.old.stepped < length self.old.pending }
@@ -189,9 +164,9 @@ impl<R: Wait + Drop> Press<R> {
         reply
     }
 
-    /// Publishes what is pending, in order and in one step: all of it is one publication, and no front ends within it. It
-    /// waits for the lenses that look at the copy that is to absorb it, unless the press is ready, and is never refused.
-    #[inline(always)]
+    /// Publishes what is pending, in order and in one step: all of it is one publication, and no front ends within it. It takes no memory,
+    /// and waits as [`Press::ready`] does unless the press is ready. What a batch of more than 64 entries took is given back with the next
+    /// publication.
     pub fn publish(&mut self)
         ensures { self.new ≡ record self.old { editions = self.old.editions ++ in_one_step self.old.pending; published = self.old.published ++ self.old.pending; pending = []; stepped = 0; is_out = self.new.is_out } }
     {
@@ -202,8 +177,7 @@ impl<R: Wait + Drop> Press<R> {
         self.publish_ready();
     }
 
-    /// Publishes what is pending, as [`Press::publish`] does, by a press that is ready.
-    #[inline(always)]
+    /// Publishes what is pending, as [`Press::publish`] does. It waits for nothing.
     pub fn publish_ready(&mut self)
         requires { self.old.is_out ≡ true }
         ensures { self.new ≡ record self.old { editions = self.old.editions ++ in_one_step self.old.pending; published = self.old.published ++ self.old.pending; pending = []; stepped = 0; is_out = self.new.is_out } }
@@ -217,26 +191,23 @@ impl<R: Wait + Drop> Press<R> {
         self.copies.show(&self.rt, &mut self.pending, &front);
     }
 
-    /// A ticket for all that is published.
+    /// Returns a ticket for all that is published.
     pub fn tell(&self) -> Ticket
         ensures { result ≡ record { press = self.now.press; editions = self.now.editions; front = self.now.published } }
     {
         self.history.tell()
     }
 
-    /// Shows that a ticket of this press tells no more than is published.
-    pub fn covers(&self, told: &Ticket)
-        requires { told.now.press ≡ self.now.press }
-        ensures { IsPrefix told.now.front self.now.published × IsPrefix told.now.editions self.now.editions }
+    /// Proves that a ticket of this press tells no more than is published. It waits for nothing.
+    pub fn covers(&mut self, told: &Ticket)
+        requires { told.now.press ≡ self.old.press }
+        ensures kept { self.new ≡ self.old }
+        ensures covered { IsPrefix told.now.front self.old.published × IsPrefix told.now.editions self.old.editions }
     {
-        if !told.begins(&self.history.tell()) {
-            // No ticket tells more, since the press alone adds to its history. The proof does not know that, so it waits here
-            // for what never comes.
-            for _ in self.rt.forever() {}
-        }
+        self.history.covers(told);
     }
 
-    /// How many publications had something pending.
+    /// Returns how many publications had something pending.
     pub fn editions(&self) -> u64
         ensures { result ≡ length self.now.editions }
     {
@@ -247,7 +218,6 @@ impl<R: Wait + Drop> Press<R> {
 impl<R: Wait + Drop> Drop for Press<R> {
     fn drop(self) {
         let Press {
-            alloc: _,
             history: _history,
             pending: _pending,
             stepped: _,

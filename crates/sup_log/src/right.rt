@@ -1,19 +1,19 @@
 //! The right to extend the history of a press, which that press alone has.
 //!
-//! Nobody else extends the history, so a step that extends it need change no word: a load does. The proof goes by the number of
-//! publications. The book keeps one part of it, the right is the other, and it changes only where both are. Both stand in the
-//! proofs alone.
+//! Nobody else extends the history, so a step that extends it need not change a word: a load is enough. The proof rests on the number
+//! of publications. The book keeps one part of this number, the right is the other part, and it changes only where both parts meet.
+//! Both exist in the proofs alone.
 //!
-//! The right is a pen, which may go to another thread and has no bytes. It writes no word: its book is none that was opened.
+//! The right is a pen, which may go to another thread and has no bytes. It writes no word, since its book was never opened.
 ghost use Rattle.std.specs.Prelude.{◌≡◌, ◌+◌, [], ◌∷◌, None, length};
 ghost use Rattle.logbook.specs.Pages.{nib, may_write};
-ghost use Rattle.sup_log.specs.Rules.{number_name};
+ghost use Rattle.sup_log.specs.Rules.{number_name, asking};
 
 use crate::history::{Law, Publication};
 use logbook::{Gain, Gained, Offer, Pen, Start};
 use std::marker::PhantomData;
 
-/// Whoever has extended the history has the right to do so again.
+/// Gives the right back to whoever has extended the history.
 pub struct Grown;
 
 impl Gain<Publication, u64> for Grown {
@@ -22,7 +22,7 @@ impl Gain<Publication, u64> for Grown {
     ghost after = { gained };
 }
 
-/// The two parts of the number of publications, which is 0: the one that the book of the history keeps, and the right.
+/// Makes the two parts of the number of publications, which is 0: the one that the book of the history keeps, and the right.
 pub fn parts() -> (
     Start<Publication, u64, Law>,
     Gained<Publication, u64, Grown>,
@@ -39,17 +39,27 @@ pub fn parts() -> (
     )
 }
 
-/// An update that adds one publication. It is made of the right, which the pen has no more.
+/// Makes the right into an update that adds one publication. The pen no longer has it.
 pub fn offered(right: &mut Pen) -> Offer<Publication, u64, Law, Grown>
     requires { right.old.nib ≡ nib may_write 0 right.old.nib.value }
-    ensures { (result.names ≡ right.old.book.cells_name ∷ []) × (result.state ≡ None) × (length result.about ≡ right.old.nib.value + 1) }
+    ensures { (result.names ≡ right.old.book.cells_name ∷ []) × (result.state ≡ None) × (length result.about ≡ right.old.nib.value + 1) × (result.ask ≡ asking 1) }
 {
     Offer {
         marker: PhantomData,
     }
 }
 
-/// The pen has the right that was gained.
+/// Makes the right into an update that adds no publication, and so tells how many there are. The pen no longer has it.
+pub fn compared(right: &mut Pen) -> Offer<Publication, u64, Law, Grown>
+    requires { right.old.nib ≡ nib may_write 0 right.old.nib.value }
+    ensures { (result.names ≡ right.old.book.cells_name ∷ []) × (result.state ≡ None) × (length result.about ≡ right.old.nib.value) × (result.ask ≡ asking 0) }
+{
+    Offer {
+        marker: PhantomData,
+    }
+}
+
+/// Gives the pen the right that was gained.
 pub fn taken(right: &mut Pen, gained: Gained<Publication, u64, Grown>)
     ensures { (right.new.book.cells_name ≡ number_name gained.names) × (right.new.nib ≡ nib may_write 0 gained.answer) × (gained.answer ≡ length gained.about) }
 {

@@ -13,7 +13,7 @@ use Rattle.sup_types.specs.declared.history.Reply.{Reply}
 use Rattle.sup_core.specs.Account.{Item, account, item_of, reply_after}
 use Rattle.sup_core.specs.AccountLaws.{account-push}
 use Rattle.sup_log.specs.Tokens.{Told}
-use Rattle.sup_log.specs.PrefixLaws.{prefix_trans}
+use base.Growing.{prefix_trans}
 use Rattle.sup_desk.specs.Knowledge.{Knowledge, entries_of, IsUpdated}
 use Rattle.sup_desk.specs.EntryLaws.{entries-append, entries-one}
 use Rattle.sup_desk.specs.Batches.{AreEntered, IsApplied}

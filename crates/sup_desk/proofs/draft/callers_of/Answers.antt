@@ -2,7 +2,6 @@
 use Rattle.std.proofs.Common.{◌≡◌, ◌+◌, ◌∷◌, [], length, rules, arith, ap, ◌∙◌, length-append}
 use Rattle.sup_desk.specs.Audits.{HasSeenAll}
 use Rattle.sup_desk.proofs.Audited.{each_more}
-use Rattle.sup_desk.proofs.draft.callers_of.Invariants.{left}
 use Rattle.sup_desk.proofs.draft.callers_of.Goals as goal
 
 pub open-claim-requires-clause-count : goal.open-claim-requires-clause-count
@@ -17,7 +16,7 @@ loop-place-preserved g c =
     let number : one.number ≡ length callers + 1 = search rules in
     let seen : HasSeenAll c.args.press.now.published one = search rules in
     record {
-      press = c.lens.ensures.kept ∙ ap (left c.lens.new.self.is_out) was.press;
+      press = c.lens.ensures.kept ∙ was.press;
       roll = search rules;
       numbered = rw items (each_more (λ k h. h.number ≡ k + 1) callers one was.numbered number);
       seen = rw items (each_more (λ k h. HasSeenAll c.args.press.now.published h) callers one was.seen seen);

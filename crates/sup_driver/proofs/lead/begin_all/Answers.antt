@@ -1,5 +1,5 @@
 use Rattle.std.proofs.Common.{◌∙◌}
-use Rattle.sup_log.specs.PrefixLaws.{prefix_trans}
+use base.Growing.{prefix_trans}
 use Rattle.sup_driver.proofs.Led.{restarted_one_more}
 use Rattle.sup_driver.proofs.lead.begin_all.Goals as goal
 

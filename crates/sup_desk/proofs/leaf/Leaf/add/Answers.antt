@@ -31,8 +31,8 @@ returns-clause-ok g c =
     let none : entries_of l.roll.history (l.made + 1) ≡ [] =
     ap (λ r. entries_of r.history (l.made + 1)) old.4.0 ∙ entries-none l.made l.press.published (l.made + 1) old.4.1 (omega arith) in
     let kept = c.in_ok-lens.ensures.kept in
-    let step = λ (w : Written). let next : Written = record { editions = w.editions; published = w.published; pending = w.pending; made = w.made + 1; handles = w.handles; fault = w.fault; is_out = c.lens.new.self.is_out } in next in (
+    let step = λ (w : Written). let next : Written = record { editions = w.editions; published = w.published; pending = w.pending; made = w.made + 1; handles = w.handles; fault = w.fault; is_out = w.is_out } in next in (
       c.in_ok-lens.ensures.lens ∙ (λ i. record { press = old.0 i; template = old.1 i; editions = (is i).editions; front = (is i).published }),
       c.open-claim.ensures.claim ∙ (λ i. record { roll = (old.4.0 i).id; number = (is i).made + 1; calls = none i }),
-      (λ i. record { editions = (kept i).editions; published = (kept i).published; pending = (kept i).pending; made = l.made + 1; handles = l.handles; fault = l.fault; is_out = c.lens.new.self.is_out }) ∙ ap step is,
+      (λ i. record { editions = (kept i).editions; published = (kept i).published; pending = (kept i).pending; made = l.made + 1; handles = l.handles; fault = l.fault; is_out = (kept i).is_out }) ∙ ap step is,
     )
