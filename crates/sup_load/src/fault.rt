@@ -25,7 +25,7 @@ pub enum StopFault {
     Gone,
     /// All handles of the desk were made.
     NoHandle,
-    /// There is no place for a lens, or no memory for one.
+    /// All places for lenses are taken.
     NoPlace,
     /// A number is out of the range of the template or the desk.
     BadTemplate,

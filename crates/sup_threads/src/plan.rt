@@ -30,7 +30,7 @@ pub enum LiveFault {
     /// The desk has not enough handles left: a crew takes two.
     #[error("the desk has fewer handles left than the two that a crew takes")]
     NoHandle,
-    /// The press has no place for a lens, or no memory for one.
+    /// All places for lenses are taken.
     #[error("no place for a lens is left")]
     NoPlace,
 }
