@@ -188,9 +188,8 @@ where
 /// child that was made has ended, when the driver found no note for the plan's number of turns in a row, or when an update is
 /// refused. What was not done is in the report.
 ///
-/// A fault comes before the first update. It leaves the history and the driver's calls as they were. It is NoPlace where the desk
-/// has no place for a worker's asker or no memory for it, and OutOfMemory where there is none for the rest or a thread can't
-/// be started.
+/// A fault comes before the first update. It leaves the history and the driver's calls as they were. It is NoPlace if the desk
+/// has no place for a worker's asker, and OutOfMemory if memory runs out or a thread can't be started.
 pub fn run_crew_with<'d, N, S, P, J, B, R>(
     rt: &R,
     alloc: Global,

@@ -107,7 +107,7 @@ pub enum HandleFault {
     /// As many handles were made as the ground said.
     #[error("all handles were made")]
     NoHandle,
-    /// The press has no place for a lens, or no memory for one.
+    /// All places for lenses are taken.
     #[error("no place for a lens is left")]
     NoPlace,
 }

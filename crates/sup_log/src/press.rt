@@ -56,7 +56,7 @@ fn extended(history: &mut History, entries: &[Entry]) -> Ticket
 impl<R: Wait + Drop> Press<R> {
     /// Makes a press with nothing published and nothing pending, and with this many places for lenses.
     ///
-    /// Each publication visits each place, taken or not, at a price of some fifty instructions. So ask for as many places as there are
+    /// Each publication visits each place, taken or not, at a price of some forty instructions. So ask for as many places as there are
     /// threads that look at the same time.
     pub fn new(
         alloc: Global,

@@ -16,7 +16,7 @@ pub enum CrewFault {
     /// All handles of the desk were made, and the run was to have one of its own.
     #[error("all handles of the desk were made")]
     NoHandle,
-    /// The press has no place for a lens, or no memory for one.
+    /// All places for lenses are taken.
     #[error("no place for a lens is left")]
     NoPlace,
 }
