@@ -1,8 +1,5 @@
-use Rattle.std.proofs.Common.{◌≡◌, List, [], length, refl, sym, ◌∙◌, ap, arith}
+use Rattle.std.proofs.Common.{◌≡◌, [], sym, ◌∙◌, ap, arith}
 use Rattle.std.proofs.lemmas.List.{nil_from_length}
-use Rattle.sup_types.specs.declared.history.Operation.{Operation}
-use Rattle.sup_types.specs.declared.history.Reply.{Reply}
-use Rattle.sup_desk.specs.Batches.{AreEntered}
 use Rattle.sup_desk.specs.Books.{Kept}
 use Rattle.sup_desk.proofs.Results.{HasMet, seen_with, none_applied}
 use Rattle.sup_desk.proofs.laws.enter_all.Goals as goal

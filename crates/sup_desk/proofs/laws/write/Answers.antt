@@ -1,10 +1,7 @@
 -- The entry is that which was appended. What was asked before leaves the leaf as it was.
-use Rattle.std.proofs.Common.{[], ◌∷◌, ◌++◌, refl, ap, subst, sym, ◌∙◌}
+use Rattle.std.proofs.Common.{refl, subst, sym}
 use Rattle.sup_types.specs.declared.history.Entry.{Entry}
-use Rattle.sup_core.specs.Account.{reply_after}
 use Rattle.sup_desk.specs.Knowledge.{IsAnswerTo}
-use Rattle.sup_desk.specs.Books.{Written}
-use Rattle.sup_desk.specs.Books.{with_pending}
 use Rattle.sup_desk.proofs.laws.write.Goals as goal
 use Rattle.sup_desk.proofs.laws.write.Goals.{in-Some-arg, in-None}
 
