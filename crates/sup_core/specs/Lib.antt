@@ -5,7 +5,7 @@ pub mod Changes
 pub mod Account
 pub mod Queries
 pub mod Children
-pub mod Hints
+pub mod Near
 pub mod ListingLaws
 pub mod AccountLaws
 pub mod HistoryLaws

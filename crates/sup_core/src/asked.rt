@@ -26,14 +26,14 @@ pub struct Asked {
 pub const NO_PLACE: usize = usize::MAX;
 
 impl Asked {
-    /// Nothing is asked.
+    /// Asks nothing.
     pub(crate) fn nothing() -> Asked
         ensures { result.arg ≡ None }
     {
         Asked::new(None, NO_PLACE)
     }
 
-    /// It is asked about this argument, if there is one, of a child that was found there.
+    /// Asks about this argument, if there is one, of a child that was found there.
     pub(crate) fn new(arg: Option<Text>, place: usize) -> Asked
         ensures { result.arg ≡ arg }
     {
@@ -45,12 +45,12 @@ impl Asked {
 }
 
 impl Spot {
-    /// Of a child that was not looked up.
+    /// Returns the spot of a child that was not looked up.
     pub fn unknown() -> Spot {
         Spot { place: NO_PLACE }
     }
 
-    /// Of a child that stands there.
+    /// Returns the spot of a child that stands there.
     pub(crate) fn at(place: usize) -> Spot {
         Spot { place }
     }

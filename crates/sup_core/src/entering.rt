@@ -29,7 +29,6 @@ impl<A: Allocator + Copy> Sup<A> {
     /// Enters an entry as [`Sup::step`] does. The child is looked for at this spot first, and by its number only if it does not stand
     /// there. So the reply is right whatever spot is told: that of [`Sup::asks`] for this entry, or the [`Sup::spot`] that another
     /// supervisor had after it.
-    #[inline(always)]
     pub fn step_at(&mut self, entry: &Entry, spot: Spot) -> Reply
         requires { self.old.steps < self.old.template.entries }
         ensures reply { result ≡ reply_to self.old entry.now }
@@ -43,8 +42,6 @@ impl<A: Allocator + Copy> Sup<A> {
     /// Enters an operation at this moment as the next entry, with what the start function answers where it is asked, and answers the
     /// reply to it. The start function is asked at most once, and the child is looked up once. Which handle the entry is of makes no
     /// difference.
-    // (Inlined, so that the reply is not written in pieces and then read as one, which takes time.)
-    #[inline(always)]
     pub fn update<S: FixedStarter>(
         &mut self,
         starter: &S,
@@ -80,7 +77,7 @@ impl<A: Allocator + Copy> Sup<A> {
     }
 }
 
-/// What this start function says to an argument, if one is asked for.
+/// Returns what this start function says to an argument, if one is asked for.
 fn answer_to<S: FixedStarter>(starter: &S, arg: &Option<Text>, moment: u64) -> Answer
     ensures { result ≡ answer_to S.answer arg.now moment }
 {

@@ -28,14 +28,13 @@
 //! ```
 //!
 //! `supervisor` has the supervisor, `entering` how entries come in, `asked` what it asks of its caller, `table` its rows by
-//! their numbers, `hints` where the last numbers stand, `place` what stands there, and `child` what is kept of one.
+//! their numbers, `near` the hash of a number, and `child` what is kept of one.
 #![tactic(auto)]
 
 mod asked;
 mod child;
 mod entering;
-mod hints;
-mod place;
+mod near;
 mod supervisor;
 mod table;
 

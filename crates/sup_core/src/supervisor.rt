@@ -34,7 +34,6 @@ pub struct Sup<A: Allocator = Global> {
     alloc: A,
     window: Window<A>,
     latest: u64,
-    // (What each entry writes and queries read stands together, on few lines of a cache: the table ends with its counts.)
     table: Table<A>,
     steps: u64,
     down: bool,
@@ -54,7 +53,7 @@ impl<A: Allocator> Model for Sup<A> {
 }
 
 impl<A: Allocator + Copy> Sup<A> {
-    /// A supervisor without children. It makes room for all that its template allows.
+    /// Makes a supervisor without children, with room for all that its template allows.
     pub fn new(alloc: A, template: Template) -> Result<Self, OutOfMemory>
         ensures { IfOk result (λ s. IsAfter s [] × (s.template ≡ template)) }
     {
@@ -71,7 +70,7 @@ impl<A: Allocator + Copy> Sup<A> {
         })
     }
 
-    /// Whether the supervisor gave up, was stopped or went down with a significant child.
+    /// Returns whether the supervisor gave up, was stopped or went down with a significant child.
     pub fn is_down(&self) -> bool
         ensures value { result ≡ self.now.down }
         ensures history { (history : List Entry) → IsAfter self.now history → result ≡ is_down (account self.now.template history) }
@@ -79,7 +78,7 @@ impl<A: Allocator + Copy> Sup<A> {
         self.down
     }
 
-    /// How many entries there were.
+    /// Returns how many entries there were.
     pub fn stamp(&self) -> u64
         ensures value { result ≡ self.now.steps }
         ensures history { (history : List Entry) → IsAfter self.now history → result ≡ length history }
@@ -87,7 +86,7 @@ impl<A: Allocator + Copy> Sup<A> {
         self.steps
     }
 
-    /// Whether there were as many entries as the template allows.
+    /// Returns whether there were as many entries as the template allows.
     pub fn is_spent(&self) -> bool
         ensures value { result ≡ (self.now.steps == self.now.template.entries) }
         ensures room { result ≡ false → self.now.steps < self.now.template.entries }
@@ -96,7 +95,7 @@ impl<A: Allocator + Copy> Sup<A> {
         self.steps == self.template.entries
     }
 
-    /// How many children there are.
+    /// Returns how many children there are.
     pub fn counts(&self) -> Seen<Counts>
         ensures value { result ≡ seen_of self.now (counts_of self.now.template.kind self.now.rows) }
         ensures history { (history : List Entry) → IsAfter self.now history
@@ -125,7 +124,7 @@ impl<A: Allocator + Copy> Sup<A> {
         })
     }
 
-    /// The listed child with this number.
+    /// Returns the listed child with this number.
     pub fn child(&self, number: u64) -> Seen<Option<Row>>
         ensures value { result ≡ seen_of self.now (row_at number self.now.rows) }
         ensures history { (history : List Entry) → IsAfter self.now history
@@ -143,7 +142,7 @@ impl<A: Allocator + Copy> Sup<A> {
         Seen::Up(self.table.row_at(number))
     }
 
-    /// The listed children, by ascending numbers. Of no children, and where the supervisor is down, it takes no memory and is
+    /// Returns the listed children, by ascending numbers. Of no children, and where the supervisor is down, it takes no memory and is
     /// never refused.
     pub fn rows(&self) -> Result<Seen<Vec<Row, A>>, OutOfMemory>
         ensures value { IfOk result (λ seen. MatchSeen seen
@@ -168,7 +167,7 @@ impl<A: Allocator + Copy> Sup<A> {
         Ok(Seen::Up(self.table.copied(self.alloc)?))
     }
 
-    /// The argument whose start decides the reply to an entry with this operation and moment, if there is one.
+    /// Returns the argument whose start decides the reply to an entry with this operation and moment, if there is one.
     pub fn wants_answer(&self, operation: &Operation, moment: u64) -> Option<Text>
         ensures value { result ≡ asked_argument self.now operation.now moment }
         ensures history { (history : List Entry) → IsAfter self.now history
@@ -177,9 +176,8 @@ impl<A: Allocator + Copy> Sup<A> {
         self.asked_argument(operation, moment).arg
     }
 
-    /// What an entry with this operation and moment asks: the argument whose start decides the reply, if there is one. The
+    /// Returns what an entry with this operation and moment asks: the argument whose start decides the reply, if there is one. The
     /// entry with the answer is then entered by [`Sup::step_at`], which does not look for the child again.
-    #[inline(always)]
     pub fn asks(&self, operation: &Operation, moment: u64) -> Asked
         ensures value { result.arg ≡ asked_argument self.now operation.now moment }
         ensures history { (history : List Entry) → IsAfter self.now history
@@ -188,7 +186,6 @@ impl<A: Allocator + Copy> Sup<A> {
         self.asked_argument(operation, moment)
     }
 
-    #[inline(always)]
     pub(crate) fn asked_argument(&self, operation: &Operation, moment: u64) -> Asked
         ensures { result.arg ≡ asked_argument self.now operation.now moment }
     {
@@ -211,13 +208,10 @@ impl<A: Allocator + Copy> Sup<A> {
             Operation::Retry(number) => (Status::Restarting, *number),
             Operation::Terminate(_) | Operation::Stop => return Asked::nothing(),
         };
-        // (Taken apart: handed on as it is, all that is asked would have its place in memory, where this call writes its answer, and
-        // what asks nothing would be written there, too.)
-        let Asked { arg, spot } = self.asked_again(status, number, moment);
-        Asked { arg, spot }
+        self.asked_again(status, number, moment)
     }
 
-    /// The argument of the listed child with this number and status, if one more attempt is allowed.
+    /// Returns the argument of the listed child with this number and status, if one more attempt is allowed.
     fn asked_again(&self, status: Status, number: u64, moment: u64) -> Asked
         ensures { result.arg ≡ if list_any (stands_as status number) self.now.rows then asked_again (arrived self.now moment) number else None }
     {
@@ -227,17 +221,13 @@ impl<A: Allocator + Copy> Sup<A> {
         self.table.asked_of(status, number)
     }
 
-    /// Where the child stood that the last entry took out or let wait. A supervisor that lacks just this entry has it there, so that
+    /// Returns where the child stood that the last entry took out or let wait. A supervisor that lacks just this entry has it there, so that
     /// [`Sup::step_at`] need not look for it. An entry of no child leaves what the one before it found.
-    #[inline(always)]
     pub fn spot(&self) -> Spot {
         Spot::at(self.table.stood())
     }
 
     /// Enters an entry of any handle with this moment, operation and answer. `place` is where the operation's child may have been found.
-    // (Inlined, as all is that makes the reply to a restart or to a termination: else it would be written in pieces and then read as
-    // one, which takes time.)
-    #[inline(always)]
     pub(crate) fn advance(
         &mut self,
         moment: u64,
@@ -256,8 +246,7 @@ impl<A: Allocator + Copy> Sup<A> {
         self.perform(operation, answer, place)
     }
 
-    /// `place` is where the operation's child may have been found.
-    #[inline(always)]
+    /// Enters an operation that has arrived. `place` is where its child may have been found.
     fn perform(&mut self, operation: &Operation, answer: Answer, place: usize) -> Reply
         requires up { self.old.down ≡ false }
         requires room { self.old.made < self.old.steps }
@@ -282,7 +271,6 @@ impl<A: Allocator + Copy> Sup<A> {
         self.steps += 1;
     }
 
-    #[inline(always)]
     fn start(&mut self, arg: &Text, answer: Answer) -> Reply
         requires up { self.old.down ≡ false }
         requires room { self.old.made < self.old.steps }
@@ -299,7 +287,6 @@ impl<A: Allocator + Copy> Sup<A> {
         }
     }
 
-    #[inline(always)]
     fn exit(&mut self, number: u64, reason: &Reason, answer: Answer, place: usize) -> Reply
         requires up { self.old.down ≡ false }
         requires room { self.old.made < self.old.steps }
@@ -315,7 +302,7 @@ impl<A: Allocator + Copy> Sup<A> {
         }
     }
 
-    /// A child ended, and is not started again.
+    /// Lets a child go that ended and is not started again.
     fn let_go(&mut self, number: u64, place: usize) -> Reply
         requires { self.old.down ≡ false }
         ensures reply { result ≡ if list_any (runs_as number) self.old.rows then let_go self.old number else Reply.Stray number }
@@ -331,7 +318,7 @@ impl<A: Allocator + Copy> Sup<A> {
         Reply::ShutDown(number)
     }
 
-    /// Whether the end of a child that is listed no more takes the supervisor down.
+    /// Returns whether the end of a child that is listed no more takes the supervisor down.
     fn shuts_down(&self) -> bool
         ensures { result ≡ shuts_down self.now.template self.now.rows }
     {
@@ -355,7 +342,6 @@ impl<A: Allocator + Copy> Sup<A> {
         }
     }
 
-    #[inline(always)]
     fn terminate(&mut self, number: u64, place: usize) -> Reply
         requires { self.old.down ≡ false }
         ensures reply { result ≡ if list_any (has_number number) self.old.rows then Reply.Ended else Reply.NotFound }
@@ -377,8 +363,7 @@ impl<A: Allocator + Copy> Sup<A> {
         Reply::Stopped
     }
 
-    /// An attempt to restart the listed child with this number and status, if there is one.
-    #[inline(always)]
+    /// Attempts to restart the listed child with this number and status; none where there is none.
     fn restart(
         &mut self,
         status: Status,
@@ -393,69 +378,21 @@ impl<A: Allocator + Copy> Sup<A> {
             (λ reply. (list_any (stands_as status number) self.old.rows ≡ true) × (reply ≡ attempted self.old number answer)
             × ((operation : Operation) → self.new ≡ changed self.old operation reply)) }
     {
-        match answer {
-            Answer::Running => self.replace(status, number, place),
-            Answer::Ignore => self.drop_out(status, number, place),
-            Answer::Failed(code) => self.keep_waiting(status, number, code, place),
-        }
-    }
-
-    /// The restart was answered `Running`.
-    #[inline(always)]
-    fn replace(&mut self, status: Status, number: u64, place: usize) -> Option<Reply>
-        requires up { self.old.down ≡ false }
-        requires room { self.old.made < self.old.steps }
-        ensures { MatchOption result
-            ((list_any (stands_as status number) self.old.rows ≡ false) × (self.new ≡ self.old))
-            (λ reply. (list_any (stands_as status number) self.old.rows ≡ true) × (reply ≡ attempted self.old number Answer.Running)
-            × ((operation : Operation) → self.new ≡ changed self.old operation reply)) }
-    {
-        let arg = self.table.take_as(status, number, place)?;
+        let arg = match answer {
+            Answer::Running | Answer::Ignore => self.table.take_as(status, number, place)?,
+            Answer::Failed(_) => self.table.wait_as(status, number, place)?,
+        };
         if !self.note_attempt() {
             return Some(self.give_up());
         }
-        Some(Reply::Restarted(number, self.table.list(&arg)))
+        Some(match answer {
+            Answer::Running => Reply::Restarted(number, self.list(&arg)),
+            Answer::Ignore => Reply::Ignored(number),
+            Answer::Failed(code) => Reply::Restarting(number, code),
+        })
     }
 
-    /// The restart was answered `Ignore`.
-    fn drop_out(&mut self, status: Status, number: u64, place: usize) -> Option<Reply>
-        requires { self.old.down ≡ false }
-        ensures { MatchOption result
-            ((list_any (stands_as status number) self.old.rows ≡ false) × (self.new ≡ self.old))
-            (λ reply. (list_any (stands_as status number) self.old.rows ≡ true) × (reply ≡ attempted self.old number Answer.Ignore)
-            × ((operation : Operation) → self.new ≡ changed self.old operation reply)) }
-    {
-        self.table.take_as(status, number, place)?;
-        if !self.note_attempt() {
-            return Some(self.give_up());
-        }
-        Some(Reply::Ignored(number))
-    }
-
-    /// The restart failed with this code.
-    fn keep_waiting(
-        &mut self,
-        status: Status,
-        number: u64,
-        code: u32,
-        place: usize,
-    ) -> Option<Reply>
-        requires { self.old.down ≡ false }
-        ensures { MatchOption result
-            ((list_any (stands_as status number) self.old.rows ≡ false) × (self.new ≡ self.old))
-            (λ reply. (list_any (stands_as status number) self.old.rows ≡ true) × (reply ≡ attempted self.old number (Answer.Failed code))
-            × ((operation : Operation) → self.new ≡ changed self.old operation reply)) }
-    {
-        if !self.table.wait_as(status, number, place) {
-            return None;
-        }
-        if !self.note_attempt() {
-            return Some(self.give_up());
-        }
-        Some(Reply::Restarting(number, code))
-    }
-
-    /// There were more attempts than are allowed.
+    /// Goes down, since there were more attempts than are allowed.
     fn give_up(&mut self) -> Reply
         ensures reply { result ≡ Reply.GaveUp }
         ensures next { self.new ≡ record self.old { rows = []; down = true } }
@@ -464,7 +401,7 @@ impl<A: Allocator + Copy> Sup<A> {
         Reply::GaveUp
     }
 
-    /// Notes an attempt at the latest moment, and answers whether it is allowed.
+    /// Notes an attempt at the latest moment, and returns whether it is allowed.
     fn note_attempt(&mut self) -> bool
         ensures value { result ≡ bears self.old }
         ensures next { self.new ≡ record self.old { attempts = remembered self.old.template.intensity (self.old.attempts ++ self.old.latest ∷ []) } }
