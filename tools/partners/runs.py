@@ -32,7 +32,9 @@ def program():
         if not os.access(given, os.X_OK):
             raise Missing(f"SUPLOAD names no program: {given}")
         return os.path.abspath(given)
-    if subprocess.run([f"{TOP}/supload", "--help"], stdout=subprocess.DEVNULL, check=False).returncode != 0:
+    # (help is answered without a build; a server whose input is empty ends at once)
+    how = {"stdin": subprocess.DEVNULL, "stdout": subprocess.DEVNULL, "check": False}
+    if subprocess.run([f"{TOP}/supload", "serve"], **how).returncode != 0:
         raise Missing("./supload does not run; SUPLOAD=PATH names another program")
     return f"{TOP}/crates/sup_load/out/sup_load"
 
