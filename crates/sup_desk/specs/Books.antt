@@ -1,11 +1,11 @@
 -- What stands under the lock, and when it is consistent.
-use Rattle.std.specs.Prelude.{◌≡◌, ℕ, ◌+◌, Bool, List, [], ◌++◌, length, slice_index, ◌<◌, ◌≤◌, ◌⊎◌, Option, Some, None, ⊤}
+use Rattle.std.specs.Prelude.{◌≡◌, ℕ, ◌+◌, List, [], ◌∷◌, ◌++◌, length, slice_index, ◌<◌, ◌≤◌, ◌⊎◌, Option, Some, None, ⊤}
 use Rattle.std.specs.List.{All}
 use Rattle.logbook.specs.Pages.{Book}
 use Rattle.atomic_table.specs.Seated.{TableId}
 use Rattle.sup_types.specs.declared.template.Template.{Template}
 use Rattle.sup_types.specs.declared.history.Entry.{Entry}
-use Rattle.sup_log.specs.Tokens.{Publication, in_one_step}
+use Rattle.sup_log.specs.Tokens.{Publication, Record, in_one_step}
 use Rattle.sup_desk.specs.declared.journal.JournalFault.{JournalFault}
 use Rattle.sup_desk.specs.declared.faults.UpdateFault.{UpdateFault}
 use Rattle.sup_desk.specs.declared.faults.UpdateFault.TheVariants.{Gone, Journal}
@@ -35,7 +35,7 @@ pub record Kept : Type 0 where
   pub handles : ℕ
   pub fault : Option JournalFault
 
--- the same with entries that are not yet published, and whether the copy that steps them is taken out of lenses' reach
+-- the same with entries that are not yet published
 pub record Written : Type 0 where
   pub editions : List Publication
   pub published : List Entry
@@ -43,7 +43,6 @@ pub record Written : Type 0 where
   pub made : ℕ
   pub handles : ℕ
   pub fault : Option JournalFault
-  pub is_out : Bool
 
 -- the book, after these entries in one publication
 abbrev pub grown_by : Kept → List Entry → Kept
@@ -81,5 +80,9 @@ IsCounted made counts history =
 
 -- what is written, with these entries too
 abbrev pub with_pending : Written → List Entry → Written
-with_pending leaf entries =
-    record { editions = leaf.editions; published = leaf.published; pending = leaf.pending ++ entries; made = leaf.made; handles = leaf.handles; fault = leaf.fault; is_out = leaf.is_out }
+with_pending before entries =
+    record { editions = before.editions; published = before.published; pending = before.pending ++ entries; made = before.made; handles = before.handles; fault = before.fault }
+
+-- a press with one entry more, which it has stepped
+abbrev pub stepped_with : Record → Entry → Record
+stepped_with r entry = record { press = r.press; template = r.template; editions = r.editions; published = r.published; pending = r.pending ++ entry ∷ []; stepped = r.stepped + 1; is_out = r.is_out }

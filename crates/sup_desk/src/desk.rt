@@ -14,9 +14,9 @@ use crate::ground::Ground;
 use crate::handle::HandleOf;
 use crate::journal::{Journal, NoJournal};
 use crate::laws::{add_asker, add_handle, audit};
-use crate::leaf::Closed;
 use crate::name::Name;
 use crate::recovery::{RecoverFault, recover_leaf};
+use crate::transaction::Closed;
 use std::sync::{Mutex, MutexGuard, Wait};
 use sup_log::{NoPlace, Ticket};
 use sup_types::{Entry, Starter};
@@ -55,7 +55,7 @@ impl<N: Name, S: Starter + Drop, R: Wait + Drop, J: Journal + Drop> Desk<N, S, R
         requires journal { J.has journal N.template [] [] }
     {
         Desk {
-            book: Mutex::new(Book::of(ground.leaf().with_journal(journal))),
+            book: Mutex::new(Book::of(ground.transaction().with_journal(journal))),
             starter,
         }
     }
@@ -107,16 +107,6 @@ impl<N: Name, S: Starter + Drop, R: Wait + Drop, J: Journal + Drop> Desk<N, S, R
         book.into_inner().close()
     }
 
-    /// The book, once nobody else has it.
-    // (Tried first, since what waits saves registers, and is followed by a look at the flag of those that stopped.)
-    #[inline(always)]
-    pub(crate) fn locked<W: Wait>(&self, rt: &W) -> MutexGuard<'_, Book<N, R, J>> {
-        match self.book.try_lock() {
-            Some(book) => book,
-            None => self.book.lock(rt),
-        }
-    }
-
     /// Returns a handle that has seen all of the history and made no call. It waits for the lock, and for no query. After a refusal nothing
     /// has changed. NoHandle once as many handles were made as the ground allows; NoPlace only if handles and askers have all of its places.
     /// One that is dropped gives its place back.
@@ -130,7 +120,7 @@ impl<N: Name, S: Starter + Drop, R: Wait + Drop, J: Journal + Drop> Desk<N, S, R
     pub fn bind(&self, caller: Caller<N>) -> HandleOf<'_, N, Desk<N, S, R, J>>
         ensures { result ≡ caller }
     {
-        HandleOf::of(caller, self)
+        HandleOf { caller, desk: self }
     }
 
     /// Returns an asker, which is no handle: it asks, and no audit counts it. It takes one of the places that handles take, too, and

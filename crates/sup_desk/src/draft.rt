@@ -7,10 +7,10 @@ ghost use Rattle.sup_desk.specs.Recoveries.{StopsAt};
 use crate::asker::Asker;
 use crate::caller::Caller;
 use crate::journal::NoJournal;
-use crate::leaf::Leaf;
 use crate::name::Name;
 use crate::recovery::RecoverFault;
 use crate::roll::Roll;
+use crate::transaction::Transaction;
 use std::alloc::Global;
 use std::marker::{Model, PhantomData};
 use std::sync::Wait;
@@ -114,7 +114,7 @@ impl<N: Name, R: Wait + Drop> Draft<N, R> {
         self,
         roll: Roll,
         entries: &[Entry],
-    ) -> Result<(Leaf<N, R, NoJournal>, Vec<Caller<N>>), OutOfMemory>
+    ) -> Result<(Transaction<N, R, NoJournal>, Vec<Caller<N>>), OutOfMemory>
         requires roll { roll ≡ record { id = N.roll; history = []; made = 0 } }
         requires all { self.history ≡ entries.now }
         ensures leaf { IfOk result (λ p. (p.0.fault ≡ None) × (p.0.pending ≡ []) × (p.0.published ≡ entries.now) × (p.0.made ≡ length p.1.items)) }
@@ -135,7 +135,11 @@ impl<N: Name, R: Wait + Drop> Draft<N, R> {
             counts.as_slice(),
         )?;
         let made = counts.len() as u64;
-        Ok((Leaf::begin(press, NoJournal, roll, made, handles), callers))
+        let _ = press.pending();
+        Ok((
+            Transaction::begin(press, NoJournal, roll, made, handles),
+            callers,
+        ))
     }
 }
 

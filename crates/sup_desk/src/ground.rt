@@ -4,9 +4,9 @@ ghost use Rattle.std.specs.Prelude.{◌≡◌, ◌≤◌, ◌↔◌, [], IfOk, N
 use crate::draft::Draft;
 use crate::faults::DeskFault;
 use crate::journal::NoJournal;
-use crate::leaf::Leaf;
 use crate::name::Name;
 use crate::roll::Roll;
+use crate::transaction::Transaction;
 use std::alloc::Global;
 use std::marker::Model;
 use std::sync::Wait;
@@ -69,10 +69,10 @@ impl<R: Wait + Drop> Ground<R> {
         }
     }
 
-    /// The leaf of this ground, which N names: nothing is written, and no handle was made.
-    pub(crate) fn leaf<N: Name>(self) -> Leaf<N, R, NoJournal>
+    /// Returns the transaction of this ground, which N names: nothing is written, and no handle was made.
+    pub(crate) fn transaction<N: Name>(self) -> Transaction<N, R, NoJournal>
         requires { (self.press ≡ N.press) × (self.template ≡ N.template) × (self.roll ≡ N.roll) }
-        ensures { result ≡ record { editions = []; published = []; pending = []; made = 0; handles = self.handles; fault = None; is_out = result.is_out } }
+        ensures { result ≡ record { editions = []; published = []; pending = []; made = 0; handles = self.handles; fault = None } }
     {
         let Ground {
             press,
@@ -80,7 +80,7 @@ impl<R: Wait + Drop> Ground<R> {
             handles,
             counts: _,
         } = self;
-        Leaf::begin(press, NoJournal, roll, 0, handles)
+        Transaction::begin(press, NoJournal, roll, 0, handles)
     }
 
     /// The draft of this ground, which N names, and its roll: nothing is entered.

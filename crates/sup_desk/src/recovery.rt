@@ -9,8 +9,8 @@ use crate::draft::Draft;
 use crate::faults::DeskFault;
 use crate::ground::Ground;
 use crate::journal::NoJournal;
-use crate::leaf::Leaf;
 use crate::name::Name;
+use crate::transaction::Transaction;
 use std::sync::Wait;
 use sup_types::Entry;
 use thiserror::Error;
@@ -77,7 +77,7 @@ pub fn enter_again<N: Name, R: Wait + Drop>(
 pub fn recover_leaf<N: Name, R: Wait + Drop>(
     ground: Ground<R>,
     entries: &[Entry],
-) -> Result<(Leaf<N, R, NoJournal>, Vec<Caller<N>>), RecoverFault>
+) -> Result<(Transaction<N, R, NoJournal>, Vec<Caller<N>>), RecoverFault>
     requires { (ground.press ≡ N.press) × (ground.template ≡ N.template) × (ground.roll ≡ N.roll) }
     ensures leaf { IfOk result (λ p. (p.0.fault ≡ None) × (p.0.pending ≡ []) × (p.0.published ≡ entries.now) × (p.0.made ≡ length p.1.items)) }
     ensures callers { IfOk result (λ p. AreNumbered p.1.items × HaveSeenAll entries.now p.1.items (length p.1.items)) }

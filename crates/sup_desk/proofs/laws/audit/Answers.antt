@@ -1,5 +1,6 @@
 use Rattle.std.proofs.Common.{rules, ◌<◌, length, ◌∙◌, arith, subst}
-use Rattle.sup_desk.specs.Audits.{HasSeenAll}
+use Rattle.sup_desk.specs.Knowledge.{Knowledge}
+use Rattle.sup_desk.specs.Audits.{HasSeenAll, IsGrown}
 use Rattle.sup_desk.specs.Books.{Kept}
 use Rattle.sup_desk.proofs.Audited.{grown_set, seen_set}
 use Rattle.sup_desk.proofs.laws.audit.Goals as goal
@@ -10,10 +11,10 @@ loop-handle-preserved g c =
     let old = c.loop-handle.invariant in
     record {
       book = c.see_all.ensures.same ∙ old.book;
-      grown = grown_set c.args.handles.now c.loop-handle.handles c.loop-handle.handle-index c.handle-item.result c.see_all.new.self
-          old.grown within c.see_all.ensures.grown;
-      seen = seen_set c.args.book.now.history c.loop-handle.handles c.loop-handle.handle-index c.see_all.new.self
-          old.seen within (subst (λ (k : Kept). HasSeenAll k.history c.see_all.new.self) old.book c.see_all.ensures.seen);
+      grown = grown_set c.args.handles.now c.loop-handle.handles c.loop-handle.handle-index c.handle-item.result c.see_all.new.caller
+          old.grown within (subst (λ (k : Knowledge). IsGrown k c.see_all.new.caller) c.handle.view_is c.see_all.ensures.grown);
+      seen = seen_set c.args.book.now.history c.loop-handle.handles c.loop-handle.handle-index c.see_all.new.caller
+          old.seen within (subst (λ (k : Kept). HasSeenAll k.history c.see_all.new.caller) old.book c.see_all.ensures.seen);
     }
 
 pub returns-then-handles-made-clause-split : goal.returns-then-handles-made-clause-split
