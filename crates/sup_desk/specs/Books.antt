@@ -1,6 +1,5 @@
 -- What stands under the lock, and when it is consistent.
-use Rattle.std.specs.Prelude.{◌≡◌, ℕ, ◌+◌, List, [], ◌∷◌, ◌++◌, length, slice_index, ◌<◌, ◌≤◌, ◌⊎◌, Option, Some, None, ⊤}
-use Rattle.std.specs.List.{All}
+use Rattle.std.specs.Prelude.{◌≡◌, ℕ, ◌+◌, List, [], ◌∷◌, ◌++◌, ◌≤◌, ◌⊎◌, Option, Some, None, ⊤}
 use Rattle.logbook.specs.Pages.{Book}
 use Rattle.atomic_table.specs.Seated.{TableId}
 use Rattle.sup_types.specs.declared.template.Template.{Template}
@@ -9,7 +8,6 @@ use Rattle.sup_log.specs.Tokens.{Publication, Record, in_one_step}
 use Rattle.sup_desk.specs.declared.journal.JournalFault.{JournalFault}
 use Rattle.sup_desk.specs.declared.faults.UpdateFault.{UpdateFault}
 use Rattle.sup_desk.specs.declared.faults.UpdateFault.TheVariants.{Gone, Journal}
-use Rattle.sup_desk.specs.Knowledge.{entries_of}
 
 -- the name of no press
 abbrev pub no_press : Book
@@ -71,12 +69,6 @@ IsClean (Some fault) pending = ⊤
 -- a handle with this number was made: numbers go from 1
 abbrev pub IsMade : ℕ → ℕ → Type 0
 IsMade made number = (1 ≤ number) × (number ≤ made)
-
--- the count of each handle is the number of its entries, and each entry is of a handle that was made
-abbrev pub IsCounted : ℕ → List ℕ → List Entry → Type 0
-IsCounted made counts history =
-    ((k : ℕ) → k < made → slice_index counts k ≡ length (entries_of history (k + 1)))
-    × All (λ entry. IsMade made entry.handle) history
 
 -- what is written, with these entries too
 abbrev pub with_pending : Written → List Entry → Written

@@ -1,9 +1,9 @@
 //! The book: what stands under the lock.
-ghost use Rattle.std.specs.Prelude.{◌≡◌};
+ghost use Rattle.std.specs.Prelude.{◌≡◌, [], None};
 ghost use Rattle.sup_desk.specs.Books.{IsClean};
 ghost use Rattle.sup_desk.specs.Journals.{HasJust};
 
-use crate::journal::Journal;
+use crate::journal::{Journal, NoJournal};
 use crate::name::Name;
 use crate::transaction::{Closed, Transaction};
 use std::marker::Model;
@@ -26,15 +26,21 @@ impl<N: Name, R: Wait + Drop, J: Journal + Drop> Model for Book<N, R, J> {
     ghost invariant = { λ b. IsClean b.transaction.fault b.transaction.pending };
 }
 
-impl<N: Name, R: Wait + Drop, J: Journal + Drop> Book<N, R, J> {
-    /// Returns a book of this transaction, in which nothing is pending.
-    pub(crate) fn of(transaction: Transaction<N, R, J>) -> Book<N, R, J>
-        requires { IsClean transaction.fault transaction.pending }
-        ensures { result ≡ record { editions = transaction.editions; history = transaction.published; made = transaction.made; handles = transaction.handles; fault = transaction.fault } }
+impl<N: Name, R: Wait + Drop> Book<N, R, NoJournal> {
+    /// Returns the same with this journal, which has recorded all of the history.
+    pub(crate) fn with_journal<J: Journal + Drop>(self, journal: J) -> Book<N, R, J>
+        requires going { self.fault ≡ None }
+        requires journal { J.has journal N.template self.history [] }
+        ensures { result ≡ self }
     {
-        Book { transaction }
+        let Book { transaction } = self;
+        Book {
+            transaction: transaction.with_journal(journal),
+        }
     }
+}
 
+impl<N: Name, R: Wait + Drop, J: Journal + Drop> Book<N, R, J> {
     /// Ends the book, and returns what is left of it.
     pub(crate) fn close(self) -> Closed<J>
         ensures ticket { result.ticket ≡ record { press = N.press; editions = self.editions; front = self.history } }

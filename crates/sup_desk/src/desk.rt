@@ -15,7 +15,7 @@ use crate::handle::HandleOf;
 use crate::journal::{Journal, NoJournal};
 use crate::laws::{add_asker, add_handle, audit};
 use crate::name::Name;
-use crate::recovery::{RecoverFault, recover_leaf};
+use crate::recovery::{RecoverFault, Recovery};
 use crate::transaction::Closed;
 use std::sync::{Mutex, MutexGuard, Wait};
 use sup_log::{NoPlace, Ticket};
@@ -55,7 +55,7 @@ impl<N: Name, S: Starter + Drop, R: Wait + Drop, J: Journal + Drop> Desk<N, S, R
         requires journal { J.has journal N.template [] [] }
     {
         Desk {
-            book: Mutex::new(Book::of(ground.transaction().with_journal(journal))),
+            book: Mutex::new(ground.book(journal)),
             starter,
         }
     }
@@ -79,19 +79,11 @@ impl<N: Name, S: Starter + Drop, R: Wait + Drop, J: Journal + Drop> Desk<N, S, R
             × All (λ entry. IsMade (length r.callers.items) entry.handle) entries.now) }
         ensures err { IfErr result (λ f. IsCauseOf f N.template ground.handles entries.now) }
     {
-        let (leaf, callers) = recover_leaf(ground, entries)?;
-        let ticket = leaf.tell();
-        // (each entry is of one of these)
-        let _ = leaf.made();
-        let desk = Desk {
-            book: Mutex::new(Book::of(leaf.with_journal(journal))),
-            starter,
-        };
-        Ok(Recovered {
-            desk,
-            ticket,
-            callers,
-        })
+        let mut recovery = Recovery::begin(ground)?;
+        for entry in entries {
+            recovery.enter(*entry)?;
+        }
+        Ok(recovery.finish(starter, journal))
     }
 
     /// Ends the desk: a ticket for all of its history, and the journal. The journal has recorded just this history, unless it

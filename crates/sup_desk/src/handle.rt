@@ -200,15 +200,8 @@ impl<'d, N: Name, S: Starter + Drop, R: Wait + Drop, J: Journal + Drop> HandleOf
             fault,
         })
     }
-}
 
-/// Tickets.
-impl<'d, N: Name, S: Starter + Drop, R: Wait + Drop, J: Journal + Drop> HandleOf<
-    'd,
-    N,
-    Desk<N, S, R, J>,
-> {
-    /// A ticket for all of the history, which the handle has then seen. Its calls are all that stand there under its
+    /// Gives a ticket for all of the history, which the handle has then seen. Its calls are all that stand there under its
     /// number. It waits for the lock.
     pub fn ticket<W: Wait>(&mut self, rt: &W) -> Ticket
         ensures ticket { result ≡ record { press = N.press; editions = self.new.editions; front = self.new.front } }
@@ -218,7 +211,7 @@ impl<'d, N: Name, S: Starter + Drop, R: Wait + Drop, J: Journal + Drop> HandleOf
         ensures calls { (self.new.calls ≡ self.old.calls) × (self.new.number ≡ self.old.number) }
     {
         let desk = self.desk;
-        give_ticket(&mut *desk.book.lock(rt), self)
+        give_ticket(&mut *desk.book.lock(rt), &mut self.caller)
     }
 }
 
@@ -260,7 +253,7 @@ impl<'d, N: Name, D> HandleOf<'d, N, D> {
         self.caller.asker.front()
     }
 
-    /// How many children there are at one front, which begins with all that the handle had seen, learnt or done.
+    /// Asks as [`Asker::count_children`] does, at one front that begins with all that the handle had seen, learnt or done.
     pub fn count_children(&mut self) -> Result<Seen<Counts>, Gone>
         ensures front { IsPrefix self.old.front self.new.front }
         ensures editions { IsPrefix self.old.editions self.new.editions }
@@ -270,7 +263,7 @@ impl<'d, N: Name, D> HandleOf<'d, N, D> {
         self.caller.asker.count_children()
     }
 
-    /// The listed child with this number at such a front.
+    /// Asks as [`Asker::child`] does, at such a front.
     pub fn child(&mut self, number: u64) -> Result<Seen<Option<Row>>, Gone>
         ensures front { IsPrefix self.old.front self.new.front }
         ensures editions { IsPrefix self.old.editions self.new.editions }
@@ -280,7 +273,7 @@ impl<'d, N: Name, D> HandleOf<'d, N, D> {
         self.caller.asker.child(number)
     }
 
-    /// The listed children at such a front, by ascending numbers.
+    /// Asks as [`Asker::which_children`] does, at such a front.
     pub fn which_children(&mut self) -> Result<Seen<Vec<Row>>, QueryFault>
         ensures front { IsPrefix self.old.front self.new.front }
         ensures editions { IsPrefix self.old.editions self.new.editions }
@@ -290,9 +283,7 @@ impl<'d, N: Name, D> HandleOf<'d, N, D> {
         self.caller.asker.which_children()
     }
 
-    /// Calls `f` once on a view at such a front, and not at all if the supervisor is down. `f` must make no update, no handle and no
-    /// asker: these wait for the lock, and whoever has it may wait for this look. `f` should be short: an update that waits for
-    /// this look yields and does not sleep, so it keeps its core busy.
+    /// Looks as [`Asker::inspect`] does, at such a front. `f` must make no update, no handle and no asker, and should be short.
     pub fn inspect<T, F: FnOnce(&View) -> T>(&mut self, f: F) -> Result<Seen<T>, Gone>
         requires { F.IsAlwaysCallable f }
         ensures front { IsPrefix self.old.front self.new.front }
@@ -304,7 +295,7 @@ impl<'d, N: Name, D> HandleOf<'d, N, D> {
         self.caller.asker.inspect(f)
     }
 
-    /// From now on its front begins with the ticket's, which is of the same desk. It enters nothing and always succeeds.
+    /// Learns as [`Asker::learn`] does.
     pub fn learn(&mut self, ticket: &Ticket) -> Result<(), Gone>
         requires { ticket.now.press ≡ N.press }
         ensures answered { IsOk result }

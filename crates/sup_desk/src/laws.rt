@@ -8,7 +8,7 @@ ghost use Rattle.sup_desk.specs.Knowledge.{entries_of, IsEntryOf};
 ghost use Rattle.sup_desk.specs.Results.{HasSeenMore, IsUpdateResult};
 ghost use Rattle.sup_desk.specs.declared.journal.JournalFault.{JournalFault};
 ghost use Rattle.sup_desk.specs.Books.{IsMade, IsLeft, IsOfStep, grown_by, broken_by};
-ghost use Rattle.sup_desk.specs.Audits.{AreNumbered, AreGrown, IsGrown, HasSeenAll, HaveSeenAll};
+ghost use Rattle.sup_desk.specs.Audits.{AreNumbered, AreGrown, HaveSeenAll};
 ghost use Rattle.sup_desk.specs.Batches.{AreEntered, AreWritten, IsApplied, IsOneEntered, IsQueueEntered};
 ghost use Rattle.std.specs.VecDeque.{deque_len};
 
@@ -34,28 +34,10 @@ pub struct Done {
     pub ticket: Ticket,
 }
 
-/// Lets the caller see all of the history, in which its calls are all that stand under its number, and returns a ticket for it.
-pub(crate) fn see_all<N: Name, R: Wait + Drop, J: Journal + Drop>(
-    book: &mut Book<N, R, J>,
-    caller: &mut Caller<N>,
-) -> Ticket
-    ensures ticket { result ≡ record { press = N.press; editions = caller.new.editions; front = caller.new.front } }
-    ensures caller { caller.new ≡ record caller.old { editions = book.old.editions; front = book.old.history } }
-    ensures seen { HasSeenAll book.old.history caller.new }
-    ensures grown { IsGrown caller.old caller.new }
-    ensures made { IsMade book.old.made caller.new.number }
-    ensures whole { book.old.history ≡ history_of book.old.editions }
-    ensures within { length book.old.history ≤ N.template.entries }
-    ensures same { book.new ≡ book.old }
-{
-    book.transaction.meet(caller);
-    book.transaction.show(caller)
-}
-
 /// Gives the handle a ticket for all of the history, in which its calls are all that stand under its number.
-pub fn give_ticket<N: Name, D, R: Wait + Drop, J: Journal + Drop>(
+pub fn give_ticket<N: Name, R: Wait + Drop, J: Journal + Drop>(
     book: &mut Book<N, R, J>,
-    handle: &mut HandleOf<'_, N, D>,
+    handle: &mut Caller<N>,
 ) -> Ticket
     ensures ticket { result ≡ record { press = N.press; editions = handle.new.editions; front = handle.new.front } }
     ensures front { (handle.new.front ≡ book.old.history) × (handle.new.editions ≡ book.old.editions) }
@@ -67,7 +49,8 @@ pub fn give_ticket<N: Name, D, R: Wait + Drop, J: Journal + Drop>(
     ensures calls { (handle.new.calls ≡ handle.old.calls) × (handle.new.number ≡ handle.old.number) }
     ensures same { book.new ≡ book.old }
 {
-    see_all(book, &mut handle.caller)
+    book.transaction.meet(handle);
+    book.transaction.show(handle)
 }
 
 /// Enters an update of a caller whose calls are all that stand under its number. What the caller has seen stays as it was.
@@ -297,6 +280,7 @@ pub fn add_handle<N: Name, R: Wait + Drop, J: Journal + Drop>(
     ensures added { OnOk result (book.new ≡ record book.old { made = book.old.made + 1 }) }
     ensures err { OnErr result (book.new ≡ book.old) }
     ensures none { (result ≡ Err HandleFault.NoHandle) ↔ (book.old.made ≡ book.old.handles) }
+    ensures room { OnOk result (book.old.made < book.old.handles) }
 {
     book.transaction.add()
 }
@@ -330,7 +314,7 @@ pub fn audit<N: Name, S: Starter + Drop, R: Wait + Drop, J: Journal + Drop>(
         return Err(TicketFault::Split);
     }
     for handle in handles.iter_mut() {
-        see_all(book, &mut handle.caller);
+        give_ticket(book, &mut handle.caller);
     }
     Ok(book.transaction.tell())
 }

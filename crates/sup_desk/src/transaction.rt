@@ -6,13 +6,13 @@ ghost use Rattle.sup_log.specs.Tokens.{history_of, in_one_step};
 ghost use Rattle.sup_desk.specs.Knowledge.{entries_of, IsEntryOf};
 ghost use Rattle.sup_desk.specs.Books.{IsMade, IsOfStep, stepped_with, with_pending};
 ghost use Rattle.sup_desk.specs.Journals.{IsKept, HoldsOneMore, HoldsAsBefore};
-ghost use Rattle.sup_desk.specs.Rolls.{IsEnrolled};
 
 use crate::asker::Asker;
 use crate::caller::Caller;
 use crate::faults::{HandleFault, UpdateFault};
 use crate::journal::{Journal, JournalFault, NoJournal};
 use crate::name::Name;
+use crate::recovery::RecoverFault;
 use crate::roll::Roll;
 use std::marker::{Model, PhantomData};
 use std::sync::Wait;
@@ -110,27 +110,20 @@ fn take<R: Wait + Drop, J: Journal>(
 }
 
 impl<N: Name, R: Wait + Drop, J: Journal + Drop> Transaction<N, R, J> {
-    /// Returns a transaction with this roll, on which all that the press has published was entered. Nothing is pending.
-    pub fn begin(
-        press: Press<R>,
-        journal: J,
-        roll: Roll,
-        made: u64,
-        handles: u64,
-    ) -> Transaction<N, R, J>
-        requires journal { J.has journal N.template press.published [] }
-        requires press { (press.press ≡ N.press) × (press.template ≡ N.template) × (press.pending ≡ []) × (press.stepped ≡ 0) × (press.published ≡ history_of press.editions) }
-        requires room { length press.published ≤ N.template.entries }
-        requires roll { IsEnrolled N.roll press.published made roll }
-        requires handles { (made ≤ handles) × (handles ≤ 1024) }
-        ensures { result ≡ record { editions = press.editions; published = press.published; pending = []; made = made; handles = handles; fault = None } }
+    /// Returns a transaction of no handle, on a press that has published nothing.
+    pub fn begin(press: Press<R>, journal: J, roll: Roll, handles: u64) -> Transaction<N, R, J>
+        requires journal { J.has journal N.template [] [] }
+        requires press { (press.press ≡ N.press) × (press.template ≡ N.template) × (press.pending ≡ []) × (press.stepped ≡ 0) × (press.published ≡ []) × (press.editions ≡ []) }
+        requires roll { roll ≡ record { id = N.roll; history = []; made = 0 } }
+        requires handles { handles ≤ 1024 }
+        ensures { result ≡ record { editions = []; published = []; pending = []; made = 0; handles = handles; fault = None } }
     {
         Transaction {
             press,
             journal,
             fault: None,
             roll,
-            made,
+            made: 0,
             handles,
             of: PhantomData,
         }
@@ -138,8 +131,7 @@ impl<N: Name, R: Wait + Drop, J: Journal + Drop> Transaction<N, R, J> {
 
     /// Returns how many handles were made.
     pub fn made(&self) -> u64
-        ensures made { result ≡ self.now.made }
-        ensures entries { All (λ entry. IsMade self.now.made entry.handle) self.now.published }
+        ensures { result ≡ self.now.made }
     {
         self.made
     }
@@ -158,7 +150,7 @@ impl<N: Name, R: Wait + Drop, J: Journal + Drop> Transaction<N, R, J> {
         let Ok(lens) = self.press.lens() else {
             return Err(HandleFault::NoPlace);
         };
-        let claim = self.roll.open(self.made + 1, 0);
+        let claim = self.roll.open(self.made + 1);
         self.made += 1;
         Ok(Caller::begin(claim, Asker::begin(lens)))
     }
@@ -171,9 +163,10 @@ impl<N: Name, R: Wait + Drop, J: Journal + Drop> Transaction<N, R, J> {
         self.press.lens()
     }
 
-    /// Returns a ticket for all that was published.
+    /// Returns a ticket for all that was published: each entry of it is of a handle that was made.
     pub fn tell(&self) -> Ticket
-        ensures { result ≡ record { press = N.press; editions = self.now.editions; front = self.now.published } }
+        ensures ticket { result ≡ record { press = N.press; editions = self.now.editions; front = self.now.published } }
+        ensures entries { All (λ entry. IsMade self.now.made entry.handle) self.now.published }
     {
         self.press.tell()
     }
@@ -249,6 +242,24 @@ impl<N: Name, R: Wait + Drop, J: Journal + Drop> Transaction<N, R, J> {
         match take(&mut self.press, &mut self.journal, entry, &asked) {
             Ok(reply) => Ok(reply),
             Err(_) => Err(UpdateFault::OutOfMemory),
+        }
+    }
+
+    /// Writes an entry of before as it was, behind what is pending: no start function is asked. After a refusal nothing has changed.
+    pub fn write_again(&mut self, entry: Entry) -> Result<(), RecoverFault>
+        requires going { self.old.fault ≡ None }
+        ensures ok { OnOk result (self.new ≡ with_pending self.old (entry ∷ [])) }
+        ensures kept { OnErr result (self.new ≡ self.old) }
+        ensures full { IfErr result (λ f. f ≡ RecoverFault.HistoryFull → length (self.old.published ++ self.old.pending) ≡ N.template.entries) }
+        ensures faults { IfErr result (λ f. (f ≡ RecoverFault.NoHandle → ⊥) × (f ≡ RecoverFault.BadTemplate → ⊥)) }
+    {
+        self.press.ready();
+        let Some(asked) = self.press.asks(&entry.operation, entry.moment) else {
+            return Err(RecoverFault::HistoryFull);
+        };
+        match take(&mut self.press, &mut self.journal, entry, &asked) {
+            Ok(_) => Ok(()),
+            Err(_) => Err(RecoverFault::OutOfMemory),
         }
     }
 

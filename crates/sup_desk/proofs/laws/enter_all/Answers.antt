@@ -1,4 +1,4 @@
-use Rattle.std.proofs.Common.{rules, ◌≡◌, List, [], ◌∷◌, ◌++◌, length, take, arith, sym, ◌∙◌, ap, subst, ◌⊎◌, ⊎_elim, inl, inr, append-nil}
+use Rattle.std.proofs.Common.{rules, ◌≡◌, List, [], ◌++◌, length, take, arith, sym, ◌∙◌, ap, subst, ⊎_elim, inl, inr, append-nil}
 use mathlib.Core.List.{IsPrefix}
 use Rattle.sup_log.specs.Tokens.{history_of}
 use Rattle.std.proofs.lemmas.List.{nil_from_length}

@@ -7,8 +7,8 @@ use Rattle.sup_core.specs.Account.{reply_after}
 use Rattle.sup_desk.specs.Books.{Written, with_pending}
 use Rattle.sup_desk.specs.Batches.{AreEntered}
 use Rattle.sup_desk.specs.Knowledge.{entries_of, IsEntryOf}
-use Rattle.sup_desk.specs.BatchLaws.{entered-push, entered-own, entered-entries, entered-replies, next_of}
-use Rattle.sup_desk.specs.EntryLaws.{entries-append, entries_le}
+use Rattle.sup_desk.specs.BatchLaws.{entered-push, entered-entries, entered-replies, next_of}
+use Rattle.sup_desk.specs.EntryLaws.{entries_le}
 use Rattle.sup_desk.proofs.laws.write_all.Goals as goal
 
 pub queue-init : goal.queue-init

@@ -1,7 +1,6 @@
-use Rattle.std.proofs.Common.{◌≡◌, List, ◌++◌, sym, ap, ◌∙◌, ◌⊎◌, inl, inr}
+use Rattle.std.proofs.Common.{◌≡◌, ◌++◌, sym, ap, ◌∙◌, ◌⊎◌, inl, inr}
 use mathlib.Core.List.{IsPrefix}
-use Rattle.sup_types.specs.declared.history.Entry.{Entry}
-use Rattle.sup_log.specs.Tokens.{Publication, Told}
+use Rattle.sup_log.specs.Tokens.{Told}
 use Rattle.sup_desk.specs.Books.{Written}
 use Rattle.sup_desk.specs.Knowledge.{Knowledge}
 use Rattle.sup_desk.specs.EntryLaws.{adopted}
