@@ -52,11 +52,6 @@ seen_set front now i is seen within mine = λ k d below. at k d below (k == i) r
         let low : k < i = omega (arith, differ) in
         subst (λ (h : Knowledge). HasSeenAll front h) (sym (get_or-set_other now i k is d differ)) (seen k d low)
 
--- what an answer promises, where it is no error
-pub ok_by : {T E P : Type 0} (r : Result T E) → is_err r ≡ false → OnOk r P → P
-ok_by (Ok x) is p = p
-ok_by (Err e) is p = absurd (cc is)
-
 -- what holds of each handle by its place holds after one more, if it holds of that one
 pub each_more : (P : ℕ → Knowledge → Type 0) (handles : List Knowledge) (one : Knowledge) → ((k : ℕ) (d : Knowledge) → k < length handles → P k (get_or handles k d))
     → P (length handles) one → (k : ℕ) (d : Knowledge) → k < length (handles ++ one ∷ []) → P k (get_or (handles ++ one ∷ []) k d)

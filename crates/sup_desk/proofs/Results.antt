@@ -18,11 +18,9 @@ use Rattle.sup_desk.specs.declared.laws.Done.{Done}
 use Rattle.sup_desk.specs.declared.faults.UpdateFault.{UpdateFault}
 use Rattle.sup_desk.specs.declared.faults.UpdateFault.TheVariants.{HistoryFull, OutOfMemory, Gone}
 use Rattle.sup_desk.specs.declared.journal.JournalFault.{JournalFault}
-use Rattle.sup_desk.specs.Books.{Kept, IsLeft, grown_by, broken_by}
+use Rattle.sup_desk.specs.Books.{Kept, Written, IsLeft, grown_by}
 use Rattle.sup_desk.specs.Knowledge.{Knowledge, entries_of, with_entries, IsEntryOf, IsMet, IsUpdated}
-use Rattle.sup_desk.specs.Batches.{AreEntered, IsApplied, IsOneEntered, IsQueueEntered}
-use Rattle.std.proofs.lemmas.List.{nil_from_length}
-use Rattle.sup_desk.specs.BatchLaws.{entered-entries, entered-replies}
+use Rattle.sup_desk.specs.Batches.{AreEntered, IsApplied, IsOneEntered}
 use Rattle.sup_desk.specs.EntryLaws.{entries-append, entries-own}
 use Rattle.sup_desk.specs.Results.{HasSeenMore, IsUpdateResult}
 
@@ -34,6 +32,10 @@ pub record HasMet (book : Kept) (before met : Knowledge) : Type 0 where
   pub own : entries_of met.front met.number ≡ met.calls
   pub seen : HasSeenMore before met
   pub calls : (met.calls ≡ before.calls) × (met.number ≡ before.number)
+
+-- the book of a transaction
+abbrev pub book_of : Written → Kept
+book_of t = record { editions = t.editions; history = t.published; made = t.made; handles = t.handles; fault = t.fault }
 
 -- the handle, once it has seen all of the book
 abbrev pub seen_all : Kept → Knowledge → Knowledge
@@ -72,43 +74,6 @@ one_covered may may_fail template book left before after operation moment (Err e
       subst (λ (x : List Entry × Knowledge). IsPrefix x.1.front x.0) (λ i. (sym same.0 i, sym kept i)) front,
       subst (λ (x : List Publication × Knowledge). IsPrefix x.1.editions x.0) (λ i. (sym same.1 i, sym kept i)) editions,
     )
-
--- what the entries of a queue leave of the history
-pub queue_left : (may_fail : JournalFault → Type 0) (book left : Kept) (entries : List Entry)
-    → (left ≡ grown_by book entries) ⊎ ((f : JournalFault) × (entries ≡ []) × (left ≡ broken_by book f) × may_fail f)
-    → (left.history ≡ book.history ++ entries) × (left.editions ≡ book.editions ++ in_one_step entries)
-queue_left may_fail book left entries (inl is) = (ap (λ (k : Kept). k.history) is, ap (λ (k : Kept). k.editions) is)
-queue_left may_fail book left entries (inr (f, none, is, may)) = (
-  ap (λ (k : Kept). k.history) is ∙ sym (append-nil book.history) ∙ ap (λ (l : List Entry). book.history ++ l) (sym none),
-  ap (λ (k : Kept). k.editions) is ∙ sym (append-nil book.editions) ∙ ap (λ (l : List Entry). book.editions ++ in_one_step l) (sym none),
-)
-
-pub queue_covered : (may : Text → ℕ → Answer → Type 0) (may_fail : JournalFault → Type 0) (template : Template) (book left : Kept) (before after : Knowledge) (operations : List Operation)
-    (moment : ℕ) (replies : List Reply) → IsQueueEntered may may_fail template book before operations moment replies left after
-    → IsPrefix before.front book.history → IsPrefix before.editions book.editions
-    → IsPrefix after.front left.history × IsPrefix after.editions left.editions
-queue_covered may may_fail template book left before after operations moment replies (entries, _, after_is, is) front editions =
-    let same = queue_left may_fail book left entries is in (
-      subst (λ (x : List Entry × Knowledge). IsPrefix x.1.front x.0) (λ i. (sym same.0 i, sym after_is i))
-          (prefix_trans before.front book.history (book.history ++ entries) front (entries, refl)),
-      subst (λ (x : List Publication × Knowledge). IsPrefix x.1.editions x.0) (λ i. (sym same.1 i, sym after_is i))
-          (prefix_trans before.editions book.editions (book.editions ++ in_one_step entries) editions (in_one_step entries, refl)),
-    )
-
--- operations that entered nothing have no reply
-pub none_replied : (may : Text → ℕ → Answer → Type 0) (template : Template) (number moment : ℕ) (front : List Entry) (serial : ℕ) (operations : List Operation) (entries : List Entry) (replies : List Reply)
-    → AreEntered may template number moment front serial operations entries replies → entries ≡ [] → replies ≡ []
-none_replied may template number moment front serial operations entries replies entered none =
-    nil_from_length replies
-    (omega (arith, entered-entries may template number moment front serial operations entries replies entered, entered-replies may template number moment front serial operations entries replies entered, ap length none))
-
--- the caller of a queue, once it has seen what there is then
-pub queue_shown : (may : Text → ℕ → Answer → Type 0) (may_fail : JournalFault → Type 0) (template : Template) (book left : Kept) (before after : Knowledge) (operations : List Operation)
-    (moment : ℕ) (replies : List Reply) (entered : IsQueueEntered may may_fail template book before operations moment replies left after)
-    → seen_all left after ≡ with_entries (seen_all book before) book.editions book.history entered.0
-queue_shown may may_fail template book left before after operations moment replies (entries, _, after_is, is) =
-    let same = queue_left may_fail book left entries is in
-    λ i. record { number = (after_is i).number; editions = same.1 i; front = same.0 i; calls = (after_is i).calls }
 
 module _ (may : Text → ℕ → Answer → Type 0) (template : Template) (press : Book) (book : Kept) (before met after : Knowledge) (moment : ℕ) (has : HasMet book before met) where
   pub is_met : IsMet before book.editions book.history

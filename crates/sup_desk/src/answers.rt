@@ -1,5 +1,5 @@
 //! What a query answers of a view.
-ghost use Rattle.std.specs.Prelude.{◌≡◌, IfOk, true, false};
+ghost use Rattle.std.specs.Prelude.{◌≡◌, IfOk};
 ghost use Rattle.sup_desk.specs.Asking.{IsAnswered};
 ghost use Rattle.sup_core.specs.Rows.{row_at, counts_of};
 ghost use Rattle.sup_core.specs.State.{seen_of, MatchSeen};

@@ -17,7 +17,7 @@ use crate::laws::{add_asker, add_handle, audit};
 use crate::name::Name;
 use crate::recovery::{RecoverFault, Recovery};
 use crate::transaction::Closed;
-use std::sync::{Mutex, MutexGuard, Wait};
+use std::sync::{Mutex, Wait};
 use sup_log::{NoPlace, Ticket};
 use sup_types::{Entry, Starter};
 

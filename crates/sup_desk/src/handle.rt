@@ -1,16 +1,15 @@
 //! Handles: the callers of a desk.
-ghost use Rattle.std.specs.Prelude.{◌≡◌, ◌<◌, ◌≤◌, ◌⊎◌, ◌++◌, [], length, take, drop, IfOk, IsOk, OnOk, OnErr, IfErr, IfSome, IfNone, IsTrue, ◌↔◌, Some, None, true};
+ghost use Rattle.std.specs.Prelude.{◌≡◌, ◌<◌, ◌≤◌, ◌⊎◌, [], length, take, drop, IfOk, IsOk, OnOk, IfErr, IfSome, IfNone, IsTrue, ◌↔◌, Some, None, true};
 ghost use mathlib.Core.List.{IsPrefix};
 ghost use Rattle.sup_core.specs.State.{MatchSeen};
 ghost use Rattle.sup_core.specs.Queries.{which, count, child};
-ghost use Rattle.sup_log.specs.Tokens.{sight, history_of, in_one_step};
+ghost use Rattle.sup_log.specs.Tokens.{sight, history_of};
 ghost use Rattle.sup_desk.specs.Asking.{IsAnswered};
-ghost use Rattle.sup_desk.specs.Knowledge.{entries_of, with_entries};
+ghost use Rattle.sup_desk.specs.Knowledge.{entries_of};
 ghost use Rattle.sup_desk.specs.Batches.{IsApplied};
 ghost use Rattle.sup_desk.specs.declared.journal.JournalFault.{JournalFault};
-ghost use Rattle.sup_desk.specs.Books.{IsMade};
-ghost use Rattle.sup_desk.specs.Results.{HasSeenMore, IsUpdateResult};
-ghost use Rattle.sup_desk.specs.Audits.{AreNumbered, IsGrown, HasSeenAll};
+ghost use Rattle.sup_desk.specs.Results.{IsUpdateResult};
+ghost use Rattle.sup_desk.specs.Audits.{AreNumbered};
 
 use crate::caller::Caller;
 use crate::desk::Desk;

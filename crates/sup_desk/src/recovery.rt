@@ -156,8 +156,8 @@ impl<N: Name, R: Wait + Drop> Recovery<N, R> {
     /// Enters an entry of before, behind those that were entered. A handle is made where its number is first seen, and those of the lower
     /// numbers before it.
     ///
-    /// A fault where the entry can't be entered: NoHandle if no handle of the ground can have its number, HistoryFull if there are as
-    /// many entries as the template allows, and OutOfMemory if memory runs out. Then no entry more is entered.
+    /// It is refused with NoHandle if no handle of the ground can have its number, with HistoryFull if there are as many entries as the
+    /// template allows, and with OutOfMemory if memory runs out. Then the history is as it was.
     pub fn enter(&mut self, entry: Entry) -> Result<(), RecoverFault>
         ensures ok { OnOk result (self.new.history ≡ self.old.history ++ entry ∷ []) }
         ensures kept { OnErr result (self.new.history ≡ self.old.history) }

@@ -7,12 +7,8 @@ use Rattle.sup_types.specs.declared.history.Entry.{Entry}
 use Rattle.sup_desk.specs.Books.{Kept, Written, IsLeft, grown_by}
 use Rattle.sup_desk.specs.Knowledge.{Knowledge, entries_of, with_entries}
 use Rattle.sup_desk.specs.Batches.{IsOneEntered}
-use Rattle.sup_desk.proofs.Results.{HasMet, seen_all, has_met, one_covered, update_result}
+use Rattle.sup_desk.proofs.Results.{HasMet, book_of, seen_all, has_met, one_covered, update_result}
 use Rattle.sup_desk.proofs.laws.enter.Goals as goal
-
--- the book of a transaction
-abbrev book_of : Written → Kept
-book_of t = record { editions = t.editions; history = t.published; made = t.made; handles = t.handles; fault = t.fault }
 
 pub show-ticket-requires : goal.show-ticket-requires
 show-ticket-requires g c =
