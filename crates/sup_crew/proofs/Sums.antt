@@ -6,20 +6,20 @@ use mathlib.Core.Logic.{dite}
 use Rattle.std.specs.Global.{Global}
 use Rattle.atomic_table.specs.Seated.{TableId}
 use Rattle.crossbeam_queue.specs.SegTies.{SegId}
-use Rattle.sup_work.specs.declared.worker.Exit.{Exit}
+use Rattle.sup_crew.specs.declared.worker.Exit.{Exit}
 use Rattle.sup_inbox.specs.declared.note.Note.{Note}
 use Rattle.sup_types.specs.declared.reason.Reason.{Reason}
 use Rattle.sup_inbox.specs.Delivery.{from}
 use Rattle.sup_inbox.specs.Ends.{Posting, AreFrom, IsBy}
 use Rattle.sup_inbox.specs.NoteLaws.{from-own, from-other}
 use Rattle.sup_types.specs.declared.text.Text.{Text}
-use Rattle.sup_work.specs.declared.job.Child.{Child}
-use Rattle.sup_work.specs.declared.worker.Finished.{Finished}
-use Rattle.sup_work.specs.Jobs.{weigh}
-use Rattle.sup_work.specs.Work.{AreWorked, ended_of, ended, untold, AreEnds, IsEnd}
-use Rattle.sup_work.specs.Joins.{unposted_note, posters_of, taken_of, unposted_of, AreEndpoints}
-use Rattle.sup_work.specs.JobLaws.{weigh-append, weigh-one}
-use Rattle.sup_work.specs.WorkLaws.{ended-append}
+use Rattle.sup_crew.specs.declared.job.Child.{Child}
+use Rattle.sup_crew.specs.declared.worker.Finished.{Finished}
+use Rattle.sup_crew.specs.Jobs.{weigh}
+use Rattle.sup_crew.specs.Work.{AreWorked, ended_of, ended, untold, AreEnds, IsEnd}
+use Rattle.sup_crew.specs.Joins.{unposted_note, posters_of, taken_of, unposted_of, AreEndpoints}
+use Rattle.sup_crew.specs.JobLaws.{weigh-append, weigh-one}
+use Rattle.sup_crew.specs.WorkLaws.{ended-append}
 
 -- the weight of what notes tell
 abbrev told : (Child → ℕ) → List Note → ℕ

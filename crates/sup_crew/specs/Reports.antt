@@ -8,16 +8,16 @@ use Rattle.sup_types.specs.declared.history.Operation.TheVariants.{Exit}
 use Rattle.sup_core.specs.Account.{Item, account, argument_of}
 use Rattle.sup_desk.specs.declared.name.Name.{Ghosts}
 use Rattle.sup_inbox.specs.declared.note.Note.{Note}
-use Rattle.sup_work.specs.declared.job.Child.{Child}
+use Rattle.sup_crew.specs.declared.job.Child.{Child}
 use Rattle.sup_crew.specs.declared.plan.Report.{Report}
 use Rattle.sup_crew.specs.declared.driver.Tally.{Tally}
 use Rattle.sup_crew.specs.Calls.{Call, children_made, starts_in, AreDriven}
-use Rattle.sup_work.specs.Jobs.{weigh, children_of}
+use Rattle.sup_crew.specs.Jobs.{weigh, children_of}
 use Rattle.sup_desk.specs.Knowledge.{Knowledge}
 use Rattle.sup_crew.specs.Drivers.{front_of, calls_since, HasCalled, HasAll, IsCause, Run, run_of}
 use Rattle.logbook.specs.Pages.{Book}
 use Rattle.sup_crew.specs.Tallies.{tally_of}
-use Rattle.sup_work.specs.Work.{ended, AreEnds}
+use Rattle.sup_crew.specs.Work.{ended, AreEnds}
 
 -- the children whose exits were entered, with the arguments that the account gives them
 abbrev pub child_ended : List Item → Operation → List Child

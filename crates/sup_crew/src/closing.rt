@@ -3,16 +3,18 @@ ghost use Rattle.std.specs.Prelude.{◌≡◌, ◌<◌, ◌≤◌, [], drop, IfO
 ghost use Rattle.sup_crew.specs.Reports.{IsRun};
 ghost use Rattle.sup_crew.specs.Runs.{IsRunOutcome};
 
+use crate::crew::Crew;
+use crate::drain::HELD;
+use crate::gather::{collect, read_all};
+use crate::job::Body;
 use crate::plan::Report;
 use crate::run::RunOutcome;
 use arrayvec::ArrayVec;
 use std::alloc::Global;
 use std::sync::Wait;
 use sup_desk::Name;
-use sup_drain::HELD;
 use sup_inbox::{Note, Poster, settle};
 use sup_types::{OutOfMemory, Text};
-use sup_work::{Body, Crew, collect, read_all};
 
 /// Room for what the end of a run hands over, made before the run, so that its end takes no memory.
 #[derive(Drop)]

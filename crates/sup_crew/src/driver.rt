@@ -1,22 +1,24 @@
 //! The driver of a run: what it entered, and the jobs that it queued or kept.
 ghost use Rattle.std.specs.Prelude.{◌≡◌, List, ◌+◌, ◌<◌, ◌≤◌, [], ◌∷◌, ◌++◌, length, take, IfOk, IfErr, OnErr, IfNone, IsSome, IfSome, MatchOption, None, Some, vec_len};
 ghost use Rattle.std.specs.Option.{option_or};
-ghost use Rattle.sup_drain.specs.Drains.{replies_of};
-ghost use Rattle.sup_work.specs.Dispatchers.{IsSameQueue, HasDispatched};
+ghost use Rattle.sup_crew.specs.Drains.{replies_of};
+ghost use Rattle.sup_crew.specs.Dispatchers.{IsSameQueue, HasDispatched};
 ghost use Rattle.sup_crew.specs.Births.{IsBornBy, AreBornBy};
 ghost use Rattle.sup_crew.specs.Drivers.{DriverModel, IsAtWork, IsSameDriver, Starts, GoesOn, IsCause, started_job, restarted_jobs};
 ghost use Rattle.sup_crew.specs.Tallies.{tally_of, with_start, with_exits, bit, with_exit};
 ghost use Rattle.sup_core.specs.Changes.{makes_child};
 
+use crate::crew::Crew;
+use crate::drain::{Drain, DrainFault, Drained, HELD};
+use crate::job::Job;
+use crate::queue::Dispatcher;
 use std::alloc::Global;
 use std::marker::Model;
 use std::sync::Wait;
 use sup_desk::{Done, Handle, Journal, Name, UpdateFault};
-use sup_drain::{Drain, DrainFault, Drained, HELD};
 use sup_inbox::Note;
 use sup_log::Ticket;
 use sup_types::{Reply, Starter, Text};
-use sup_work::{Crew, Dispatcher, Job};
 
 /// The driver of a run: it makes all updates.
 #[derive(Drop)]

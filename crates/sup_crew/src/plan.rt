@@ -1,10 +1,10 @@
 //! What a run is asked to do, and what it hands back.
 
+use crate::job::Job;
 use sup_desk::{Name, UpdateFault};
 use sup_inbox::Note;
 use sup_log::Ticket;
 use sup_types::Text;
-use sup_work::Job;
 
 /// What a crew is to do.
 #[derive(Drop)]

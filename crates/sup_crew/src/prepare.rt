@@ -4,13 +4,14 @@ ghost use Rattle.sup_crew.specs.Runs.{AreParts};
 ghost use Rattle.sup_inbox.specs.Ends.{AreFrom, AreNew};
 
 use crate::closing::Buffers;
+use crate::crew::{Crew, Signals};
 use crate::plan::Plan;
+use crate::queue::Jobs;
 use crate::run::Parts;
 use std::alloc::Global;
 use sup_desk::Name;
 use sup_inbox::{Inbox, Poster, Taker};
 use sup_types::OutOfMemory;
-use sup_work::{Crew, Jobs, Signals};
 
 /// What a run needs.
 #[derive(Drop)]

@@ -5,20 +5,24 @@ ghost use Rattle.sup_crew.specs.Reports.{IsRun, IsRunOfItsOwn};
 ghost use Rattle.sup_crew.specs.Runs.{IsRunOutcome, AreParts, AreParts-prop};
 
 use crate::closing::close;
+use crate::crew::Crew;
+use crate::drain::Drain;
 use crate::driver::{Driver, Tally};
+use crate::fault::CrewFault;
+use crate::job::Body;
 use crate::plan::{Plan, Report};
 use crate::prepare::{Prepared, prepare};
+use crate::queue::{Dispatcher, Endpoint};
+use crate::worker::{Finished, join_all, start};
 use core::mem::replace_with;
 use std::alloc::Global;
 use std::sync::Wait;
 use std::thread;
 use std::thread::{Scope, Threads};
 use sup_desk::{Caller, Desk, Handle, Journal, Name, UpdateFault};
-use sup_drain::Drain;
 use sup_inbox::{Poster, Taker};
 use sup_log::Ticket;
 use sup_types::Starter;
-use sup_work::{Body, Crew, CrewFault, Dispatcher, Endpoint, Finished, join_all, start};
 
 /// What a run is given beside its crew and its driver: an endpoint that knows all of the queue, the ends of the inbox, and room.
 #[derive(Drop)]

@@ -4,9 +4,9 @@ use Rattle.sup_types.specs.declared.history.Reply.{Reply}
 use Rattle.sup_types.specs.declared.history.Reply.TheVariants.{Restarted}
 use Rattle.sup_log.specs.Tokens.{Told}
 use Rattle.sup_inbox.specs.declared.note.Note.{Note}
-use Rattle.sup_work.specs.Births.{IsBorn}
-use Rattle.sup_work.specs.Jobs.{weigh}
-use Rattle.sup_work.specs.JobLaws.{weigh-append}
+use Rattle.sup_crew.specs.Births.{IsBorn}
+use Rattle.sup_crew.specs.Jobs.{weigh}
+use Rattle.sup_crew.specs.JobLaws.{weigh-append}
 use Rattle.sup_crew.specs.Births.{IsBornBy, AreBornBy}
 use Rattle.sup_crew.specs.Drivers.{restarted_job, restarted_jobs}
 use Rattle.sup_crew.proofs.driver.Driver.note_exits.Goals as goal

@@ -1,12 +1,12 @@
 use Rattle.std.proofs.Common.{◌≡◌, ℕ, ◌+◌, ◌≤◌}
 use Rattle.std.specs.Prelude.{vec_items}
 use Rattle.std.specs.Vec.Iter.{into_iter_items, into_iter_len}
-use Rattle.sup_work.specs.declared.job.Child.{Child}
+use Rattle.sup_crew.specs.declared.job.Child.{Child}
 use Rattle.sup_crew.specs.Births.{AreBornBy}
-use Rattle.sup_work.specs.Dispatchers.{IsSameQueue}
-use Rattle.sup_drain.specs.Drains.{replies_of}
+use Rattle.sup_crew.specs.Dispatchers.{IsSameQueue}
+use Rattle.sup_crew.specs.Drains.{replies_of}
 use Rattle.sup_crew.specs.Drivers.{restarted_jobs}
-use Rattle.sup_work.specs.Jobs.{weigh}
+use Rattle.sup_crew.specs.Jobs.{weigh}
 use Rattle.sup_crew.specs.Tallies.{with_exits}
 use Rattle.sup_crew.proofs.driver.Driver.note_exits.Given as goal
 

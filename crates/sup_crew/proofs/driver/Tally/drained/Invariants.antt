@@ -1,5 +1,5 @@
 use Rattle.std.proofs.Common.{◌≡◌, drop}
-use Rattle.sup_drain.specs.Drains.{replies_of}
+use Rattle.sup_crew.specs.Drains.{replies_of}
 use Rattle.sup_crew.specs.Tallies.{with_exits}
 use Rattle.sup_crew.proofs.driver.Tally.drained.Given as goal
 
