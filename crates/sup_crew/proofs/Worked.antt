@@ -1,6 +1,5 @@
 -- One job more of a worker.
 use Rattle.std.proofs.Common.{◌≡◌, ℕ, suc, ◌+◌, List, [], ◌∷◌, ◌++◌, length, Some, ap, ◌∙◌, subst, arith}
-use Rattle.sup_crew.specs.declared.worker.Exit.{Exit}
 use Rattle.sup_inbox.specs.declared.note.Note.{Note}
 use Rattle.sup_types.specs.declared.reason.Reason.{Reason}
 use Rattle.sup_types.specs.declared.text.Text.{Text}
@@ -25,7 +24,7 @@ account-posted taken taken' posted posted' child note t p same account h =
     omega (arith, a, b, c, d)
 
 -- the account, where it is handed back
-pub account-back : (taken taken' : List Child) (posted posted' : List Note) (child : Child) (back : Exit) → taken' ≡ taken ++ child ∷ [] → posted' ≡ posted → child ≡ record { number = back.number; arg = back.arg }
+pub account-back : (taken taken' : List Child) (posted posted' : List Note) (child : Child) (back : Note) → taken' ≡ taken ++ child ∷ [] → posted' ≡ posted → child ≡ ended_of back
     → ((h : Child → ℕ) → weigh h taken ≡ weigh h (ended posted)) → (h : Child → ℕ) → weigh h taken' ≡ weigh h (ended posted') + weigh h (untold (Some back))
 account-back taken taken' posted posted' child back t p same account h =
     let a = ap (weigh h) t ∙ weigh-append h taken (child ∷ []) in

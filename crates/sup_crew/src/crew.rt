@@ -24,60 +24,31 @@ pub struct Crew<N: Name> {
     pub moment: u64,
 }
 
-/// A signal that threads sleep for. They take note of what was given, look for what they need, and wait if it is not
-/// there: a signal that is given after the note ends the wait, so none is missed.
-#[derive(Drop)]
-pub struct Signal {
-    given: Condvar,
-}
-
-impl Signal {
-    fn new() -> Signal {
-        Signal {
-            given: Condvar::new(),
-        }
-    }
-
-    /// A note of what was given so far.
-    pub fn noted(&self) -> u64 {
-        self.given.notifications()
-    }
-
-    /// Wakes one thread that waits.
-    pub fn give(&self) {
-        self.given.notify_one();
-    }
-
-    /// Wakes all threads that wait.
-    pub fn give_to_all(&self) {
-        self.given.notify_all();
-    }
-
-    /// Sleeps until a signal is given after this note, or a tenth of a second has gone by: one turn of a plan.
-    pub fn wait<R: Wait>(&self, rt: &R, noted: u64) {
-        self.given.sleep(rt, noted, Duration::from_millis(100));
-    }
-}
-
-/// The signals of a run, and whether it is over.
+/// The signals of a run, and whether it is over. Whoever waits counts the notifications, looks for what they need, and sleeps
+/// if it is not there: a notification after the count ends the sleep, so none is missed.
 #[derive(Drop)]
 pub struct Signals {
     /// A job was queued, or the run is over.
-    pub queued: Signal,
+    pub queued: Condvar,
     /// An exit was posted.
-    pub posted: Signal,
+    pub posted: Condvar,
     /// The inbox was drained, or the run is over.
-    pub drained: Signal,
+    pub drained: Condvar,
     over: AtomicBool,
 }
 
+/// Sleeps until the signal is given after this count of notifications, or a tenth of a second has gone by: one turn of a plan.
+pub fn sleep<R: Wait>(rt: &R, signal: &Condvar, noted: u64) {
+    signal.sleep(rt, noted, Duration::from_millis(100));
+}
+
 impl Signals {
-    /// Those of a run that begins.
+    /// Returns those of a run that begins.
     pub fn new() -> Signals {
         Signals {
-            queued: Signal::new(),
-            posted: Signal::new(),
-            drained: Signal::new(),
+            queued: Condvar::new(),
+            posted: Condvar::new(),
+            drained: Condvar::new(),
             over: AtomicBool::new(false),
         }
     }
@@ -90,7 +61,7 @@ impl Signals {
     /// Says that the run is over, and wakes the workers.
     pub fn end(&self) {
         self.over.store(true, Ordering::SeqCst);
-        self.queued.give_to_all();
-        self.drained.give_to_all();
+        self.queued.notify_all();
+        self.drained.notify_all();
     }
 }

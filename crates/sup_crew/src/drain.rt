@@ -1,5 +1,6 @@
 //! The drain: it takes notes and enters them as exits, in order, and holds those that it could not enter.
 ghost use Rattle.std.specs.Prelude.{◌≡◌, List, ◌+◌, ◌<◌, ◌≤◌, ◌⊎◌, [], ◌∷◌, ◌++◌, take, IfOk, IfErr, MatchResult, length, vec_len, vec_capacity};
+ghost use Rattle.std.specs.VecDeque.{deque_len, deque_capacity};
 ghost use Rattle.arrayvec.specs.ArrayVec.{array_vec_len};
 ghost use mathlib.Core.List.{IsPrefix};
 ghost use Rattle.sup_crew.specs.Exits.{exits};
@@ -25,6 +26,15 @@ pub const HELD: usize = 64;
 pub struct Drain {
     taker: Taker,
     held: ArrayVec<Note, HELD>,
+    room: Option<Room>,
+}
+
+/// Room for the exits that a drain enters, and for its pairs. The first drain that finds a note makes it, and each later one
+/// uses it again.
+#[derive(Drop)]
+struct Room {
+    operations: VecDeque<Operation>,
+    pairs: Vec<(Note, Reply)>,
 }
 
 impl Model for Drain {
@@ -99,22 +109,36 @@ fn fill<R: Wait>(
     }
 }
 
-/// The exits that the first notes tell.
-#[tactic(auto, using(crate::proofs::DrainLemmas::exits_more))]
-fn first_exits(
-    alloc: Global,
-    held: &ArrayVec<Note, HELD>,
-    count: usize,
-) -> Result<VecDeque<Operation>, OutOfMemory>
-    requires { count ≤ array_vec_len held.now }
-    ensures { IfOk result (λ q. q.items ≡ exits (take count held.now.items)) }
+/// Empties the room of an earlier drain, or makes room for as many notes as a drain holds.
+fn make_room(alloc: Global, room: Option<Room>) -> Result<Room, OutOfMemory>
+    ensures empty { IfOk result (λ r. (r.operations.items ≡ []) × (deque_len r.operations ≡ 0) × (r.pairs.items ≡ [])) }
+    ensures room { IfOk result (λ r. (64 ≤ deque_capacity r.operations) × (64 ≤ vec_capacity r.pairs)) }
 {
-    let mut operations = VecDeque::with_capacity(alloc, count)?;
+    let mut room = match room {
+        Some(room) => room,
+        None => Room {
+            operations: VecDeque::new(alloc),
+            pairs: Vec::new(alloc),
+        },
+    };
+    room.operations.clear();
+    room.operations.reserve(HELD)?;
+    room.pairs.clear();
+    room.pairs.reserve(HELD)?;
+    Ok(room)
+}
+
+/// Lists the exits that the first notes tell.
+#[tactic(auto, using(crate::proofs::DrainLemmas::exits_more))]
+fn list_exits(held: &ArrayVec<Note, HELD>, count: usize, operations: &mut VecDeque<Operation>)
+    requires count { count ≤ array_vec_len held.now }
+    requires room { (operations.old.items ≡ []) × (deque_len operations.old ≡ 0) × (count ≤ deque_capacity operations.old) }
+    ensures { operations.new.items ≡ exits (take count held.now.items) }
+{
     for place in 0..count {
         let note = &held[place];
         operations.push_back_reserved(Operation::Exit(note.number, note.reason));
     }
-    Ok(operations)
 }
 
 /// The first notes with these replies, taken out of those that are held.
@@ -142,7 +166,7 @@ fn pair_up(
     pairs
 }
 
-/// Enters the first of the notes that are held, in order and in one step. Those that were entered are held no more.
+/// Enters these exits of the first notes that are held, in order and in one step. Those that were entered are held no more.
 fn enter_held<N: Name, S: Starter + Drop, P: Wait + Drop, J: Journal + Drop, R: Wait>(
     rt: &R,
     alloc: Global,
@@ -150,8 +174,12 @@ fn enter_held<N: Name, S: Starter + Drop, P: Wait + Drop, J: Journal + Drop, R: 
     moment: u64,
     held: &mut ArrayVec<Note, HELD>,
     count: usize,
+    operations: &mut VecDeque<Operation>,
+    pairs: Vec<(Note, Reply)>,
 ) -> Result<Drained, DrainFault>
-    requires { (1 ≤ count) × (count ≤ array_vec_len held.old) }
+    requires count { (1 ≤ count) × (count ≤ array_vec_len held.old) }
+    requires exits { operations.old.items ≡ exits (take count held.old.items) }
+    requires room { (pairs.items ≡ []) × (count ≤ vec_capacity pairs) }
     ensures ok { IfOk result (λ d. IsEntered S.may_answer N.template N.press handle.old handle.new moment d.pairs.items d.ticket) }
     ensures all { IfOk result (λ d. (notes_of d.pairs.items ++ held.new.items ≡ held.old.items) × (vec_len d.pairs ≡ count)) }
     ensures err { IfErr result (λ e. IsEntered S.may_answer N.template N.press handle.old handle.new moment e.done.pairs.items e.done.ticket) }
@@ -161,16 +189,7 @@ fn enter_held<N: Name, S: Starter + Drop, P: Wait + Drop, J: Journal + Drop, R: 
     ensures gone { IfErr result (λ e. e.fault ≡ UpdateFault.Gone → ⊥) }
     ensures full { IfErr result (λ e. e.fault ≡ UpdateFault.HistoryFull → length handle.new.front ≡ N.template.entries) }
 {
-    let (Ok(pairs), Ok(mut operations)) = (
-        Vec::with_capacity(alloc, count),
-        first_exits(alloc, held, count),
-    ) else {
-        return Err(DrainFault {
-            done: nothing(alloc),
-            fault: UpdateFault::OutOfMemory,
-        });
-    };
-    match handle.apply_all(rt, alloc, moment, &mut operations) {
+    match handle.apply_all(rt, alloc, moment, operations) {
         Ok(Dones { replies, ticket }) => Ok(Drained {
             pairs: pair_up(held, replies, pairs),
             ticket: Some(ticket),
@@ -209,12 +228,13 @@ impl Drain {
         Drain {
             taker,
             held: ArrayVec::new(),
+            room: None,
         }
     }
 
     /// Takes notes until `limit` are held or the inbox is empty, and enters the first `limit` of them as exits, in order
     /// and in one step. `limit` is 1 to 64. Notes that were not entered stay held and go first next time. With no note it
-    /// takes no lock and no memory. The room for what it answers is made before anything is entered.
+    /// takes no lock and no memory. The room for what it enters and answers is made before anything is entered, and kept.
     pub fn drain<N: Name, S: Starter + Drop, P: Wait + Drop, J: Journal + Drop, R: Wait>(
         &mut self,
         rt: &R,
@@ -246,8 +266,43 @@ impl Drain {
         if count == 0 {
             return Ok(nothing(alloc));
         }
-        let done = enter_held(rt, alloc, handle, moment, &mut self.held, count)?;
-        Ok(done)
+        let Ok(
+            Room {
+                mut operations,
+                pairs,
+            },
+        ) = make_room(alloc, self.room.take())
+        else {
+            return Err(DrainFault {
+                done: nothing(alloc),
+                fault: UpdateFault::OutOfMemory,
+            });
+        };
+        list_exits(&self.held, count, &mut operations);
+        let done = enter_held(
+            rt,
+            alloc,
+            handle,
+            moment,
+            &mut self.held,
+            count,
+            &mut operations,
+            pairs,
+        );
+        self.room = Some(Room {
+            operations,
+            pairs: Vec::new(alloc),
+        });
+        Ok(done?)
+    }
+
+    /// Takes the list of an earlier drain's pairs back, as room for those of the next.
+    pub fn reuse(&mut self, pairs: Vec<(Note, Reply)>)
+        ensures { self.new ≡ self.old }
+    {
+        if let Some(room) = &mut self.room {
+            room.pairs = pairs;
+        }
     }
 
     /// The taker, and the notes that are held. It takes no memory.
@@ -255,7 +310,11 @@ impl Drain {
         ensures taker { result.0 ≡ record { inbox = self.inbox; posters = self.posters; taken = self.entered ++ self.held } }
         ensures held { result.1.items ≡ self.held }
     {
-        let Drain { taker, held } = self;
+        let Drain {
+            taker,
+            held,
+            room: _,
+        } = self;
         (taker, held)
     }
 }

@@ -4,7 +4,6 @@ ghost use Rattle.sup_crew.specs.Faults.{crew_fault_number};
 ghost use Rattle.sup_crew.specs.declared.fault.CrewFault.TheVariants as crew;
 ghost use Rattle.sup_crew.specs.declared.fault.PoolFault.TheVariants as pool;
 
-use std::alloc::AllocError;
 use sup_desk::{DeskFault, HandleFault, UpdateFault};
 use sup_types::OutOfMemory;
 use thiserror::Error;
@@ -71,22 +70,6 @@ pub enum PoolFault {
     /// The run was stopped by an update that was refused: the history is full, say.
     #[error("{0}")]
     Stopped(UpdateFault),
-}
-
-impl From<OutOfMemory> for PoolFault {
-    ghost from_gives = { λ _ f. f ≡ pool.OutOfMemory };
-
-    fn from(_fault: OutOfMemory) -> PoolFault {
-        PoolFault::OutOfMemory
-    }
-}
-
-impl From<AllocError> for PoolFault {
-    ghost from_gives = { λ _ f. f ≡ pool.OutOfMemory };
-
-    fn from(_fault: AllocError) -> PoolFault {
-        PoolFault::OutOfMemory
-    }
 }
 
 impl From<CrewFault> for PoolFault {

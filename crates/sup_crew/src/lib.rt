@@ -26,21 +26,21 @@
 //! run, that a run ends, and that workers run at the same time is promised by no contract.
 #![tactic(auto)]
 
+mod asked;
 mod closing;
 mod crew;
 mod drain;
 mod driver;
 mod fault;
-mod gather;
 mod job;
 mod plan;
 mod pool;
-mod prepare;
 mod queue;
 mod run;
 mod turns;
 mod worker;
 
+pub use asked::Asked;
 pub use drain::{Drain, DrainFault, Drained, HELD};
 pub use fault::{CrewFault, PoolFault};
 pub use job::{Body, Job};

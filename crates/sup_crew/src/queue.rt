@@ -235,7 +235,7 @@ impl<N: Name> Dispatcher<N> {
         match self.endpoint.put(rt, &crew.jobs, job) {
             Ok(()) => {
                 self.queued += 1;
-                crew.signals.queued.give();
+                crew.signals.queued.notify_one();
             }
             Err(back) => self.kept.push_reserved(back),
         }

@@ -1,11 +1,10 @@
 //! Workers: what one does, and its thread.
 ghost use Rattle.std.specs.Prelude.{◌≡◌, [], ◌++◌, ◌∷◌, length, MatchResult, ℕ, ◌+◌, ◌<◌, ◌≤◌, IfOk, IfErr, IfNone, vec_len, vec_capacity, slice_index_or};
-ghost use Rattle.sup_crew.specs.Births.{IsBorn};
 ghost use Rattle.sup_crew.specs.Jobs.{permission};
-ghost use Rattle.sup_crew.specs.Work.{IsWorked, AreWorked};
+ghost use Rattle.sup_crew.specs.Work.{IsNext, IsWorked, AreWorked};
 ghost use Rattle.sup_inbox.specs.Ends.{AreFrom, AreNew};
 
-use crate::crew::Crew;
+use crate::crew::{Crew, sleep};
 use crate::fault::CrewFault;
 use crate::job::{Body, Job};
 use crate::queue::Endpoint;
@@ -13,19 +12,8 @@ use std::alloc::Global;
 use std::sync::Wait;
 use std::thread::{Promise, PromisedHandle, Scope, Threads};
 use sup_desk::{Asker, Desk, Journal, Name};
-use sup_inbox::{InboxFull, Poster};
-use sup_types::{Reason, Starter, Text};
-
-/// How a body ended.
-#[derive(Drop)]
-pub struct Exit {
-    /// The number of its child.
-    pub number: u64,
-    /// The argument of its child.
-    pub arg: Text,
-    /// Why it ended.
-    pub reason: Reason,
-}
+use sup_inbox::{Note, Poster};
+use sup_types::Starter;
 
 /// A worker's endpoint and poster, and what it could not post.
 #[derive(Drop)]
@@ -34,56 +22,37 @@ pub struct Finished<N: Name> {
     pub endpoint: Endpoint<N>,
     /// Its poster, which knows the notes that it posted.
     pub poster: Poster,
-    /// The exit that it could not post.
-    pub unposted: Option<Exit>,
+    /// The note that it could not post.
+    pub unposted: Option<Note>,
 }
 
-/// Posts an exit, and tries again where the inbox is full: at most `turns` times, each after a drain or a tenth of a second, and
-/// not once the run is over.
+/// Posts the poster's next note, and tries again if the inbox is full: at most `turns` times, each after a drain or a tenth of
+/// a second, and not once the run is over. A note that was not posted comes back.
 fn post_until<N: Name, R: Wait>(
     rt: &R,
     crew: &Crew<N>,
     poster: &mut Poster,
-    exit: Exit,
-) -> Result<(), Exit>
-    requires { poster.old.inbox ≡ crew.now.inbox.id }
+    note: Note,
+) -> Result<(), Note>
+    requires inbox { poster.old.inbox ≡ crew.now.inbox.id }
+    requires next { IsNext poster.old note }
     ensures same { (poster.new.inbox ≡ poster.old.inbox) × (poster.new.number ≡ poster.old.number) }
-    ensures posted { MatchResult result (λ _. poster.new.posted ≡ poster.old.posted ++ record { poster = poster.old.number; serial = length poster.old.posted; number = exit.number; arg = exit.arg; reason = exit.reason } ∷ []) (λ back. (back ≡ exit) × (poster.new.posted ≡ poster.old.posted)) }
+    ensures posted { MatchResult result (λ _. poster.new.posted ≡ poster.old.posted ++ note ∷ []) (λ back. (back ≡ note) × (poster.new.posted ≡ poster.old.posted)) }
 {
     let signals = &crew.signals;
-    let mut exit = exit;
     for _ in 0..crew.turns {
-        let noted = signals.drained.noted();
-        let Exit {
-            number,
-            arg,
-            reason,
-        } = exit;
-        match poster.post(rt, &crew.inbox, number, arg, reason) {
-            Ok(()) => {
-                signals.posted.give();
-                return Ok(());
-            }
-            Err(
-                InboxFull {
-                    number,
-                    arg,
-                    reason,
-                },
-            ) => {
-                exit = Exit {
-                    number,
-                    arg,
-                    reason,
-                }
-            }
+        let noted = signals.drained.notifications();
+        let reason = note.reason;
+        if let Ok(()) = poster.post(rt, &crew.inbox, note.number, note.arg, reason) {
+            signals.posted.notify_one();
+            return Ok(());
         }
         if signals.is_over() {
             break;
         }
-        signals.drained.wait(rt, noted);
+        sleep(rt, &signals.drained, noted);
     }
-    Err(exit)
+    Err(note)
 }
 
 /// Takes jobs, runs the body and posts how each ended, until the run is over or an exit can't be posted. The asker has
@@ -104,7 +73,7 @@ pub fn work<N: Name, B: Body, R: Wait>(
     let mut poster = poster;
     let mut asker = asker;
     for _ in rt.forever() {
-        let noted = crew.signals.queued.noted();
+        let noted = crew.signals.queued.notifications();
         let Some(job) = endpoint.take(rt, &crew.jobs) else {
             if crew.signals.is_over() {
                 return Finished {
@@ -113,11 +82,11 @@ pub fn work<N: Name, B: Body, R: Wait>(
                     unposted: None,
                 };
             }
-            crew.signals.queued.wait(rt, noted);
+            sleep(rt, &crew.signals.queued, noted);
             continue;
         };
-        let exit = run_job(body, job, &mut asker);
-        if let Err(back) = post_until(rt, crew, &mut poster, exit) {
+        let note = run_job(body, job, &mut asker, &poster);
+        if let Err(back) = post_until(rt, crew, &mut poster, note) {
             return Finished {
                 endpoint,
                 poster,
@@ -128,23 +97,20 @@ pub fn work<N: Name, B: Body, R: Wait>(
     unreachable!()
 }
 
-/// Learns the job's ticket: the asker has then seen that the child was made.
-fn see_birth<N: Name>(asker: &mut Asker<N>, job: &Job<N>)
-    ensures { IsBorn N.template asker.new.front job.now.number }
-{
-    let _ = asker.learn(&job.ticket);
-}
-
-/// Learns the job's ticket, and runs the body.
-fn run_job<N: Name, B: Body>(body: &B, job: Job<N>, asker: &mut Asker<N>) -> Exit
+/// Learns the job's ticket, and runs the body. Returns the note of its exit, which is the poster's next.
+fn run_job<N: Name, B: Body>(body: &B, job: Job<N>, asker: &mut Asker<N>, poster: &Poster) -> Note
     ensures child { (result.number ≡ job.number) × (result.arg ≡ job.arg) }
     ensures reason { B.may_end body.now job.number job.arg result.reason }
+    ensures next { IsNext poster.now result }
 {
     let number = job.number;
     let arg = job.arg;
-    see_birth(asker, &job);
+    // The asker has then seen that the child was made.
+    let _ = asker.learn(&job.ticket);
     let reason = body.run(job, asker);
-    Exit {
+    Note {
+        poster: poster.number(),
+        serial: poster.serial(),
         number,
         arg,
         reason,

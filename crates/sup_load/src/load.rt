@@ -383,7 +383,7 @@ fn join_readers<R: Threads>(
     let mut outcome = Ok(());
     for reader in readers {
         match reader.join(rt) {
-            Ok(reads) => answered = answered.saturating_add(reads.answered),
+            Ok(reads) => answered = answered.saturating_add(reads.answered.count()),
             Err(gone) => outcome = Err(gone),
         }
     }

@@ -10,7 +10,7 @@ invariant_of-self-in_err-done g c =
     let before = entered_of old.taker.taken old.held.items in
     let now = c.fill.ensures.held before c.self.invariant in
     let notes = notes_of c.in_err-done.field-0.0.done.pairs.items in
-    keeps c.fill.new.taker.taken (before ++ notes) c.enter_held.new.held.items (entered-more c.fill.new.taker.taken before c.fill.new.held.items notes c.enter_held.new.held.items now c.in_err-done.ensures.part)
+    keeps c.fill.new.taker.taken (before ++ notes) c.enter_held-done.new.held.items (entered-more c.fill.new.taker.taken before c.fill.new.held.items notes c.enter_held-done.new.held.items now c.in_err-done.ensures.part)
 
 pub returns-in_err-done-clause-part : goal.returns-in_err-done-clause-part
 returns-in_err-done-clause-part g c =
@@ -20,7 +20,7 @@ returns-in_err-done-clause-part g c =
     let notes = notes_of c.in_err-done.field-0.0.done.pairs.items in
     let p = err_from_is_err_and c.from_residual.result c.from_residual.ensures.1 in
     rw (p.1, p.2) (
-    entered-is c.fill.new.taker.taken (before ++ notes) c.enter_held.new.held.items (entered-more c.fill.new.taker.taken before c.fill.new.held.items notes c.enter_held.new.held.items now c.in_err-done.ensures.part)
+    entered-is c.fill.new.taker.taken (before ++ notes) c.enter_held-done.new.held.items (entered-more c.fill.new.taker.taken before c.fill.new.held.items notes c.enter_held-done.new.held.items now c.in_err-done.ensures.part)
     ∙ ap (λ d. d.entered ++ notes) c.self.view_is
     )
 
@@ -29,21 +29,21 @@ invariant_of-self-2 g c =
     let old = c.self.inside in
     let before = entered_of old.taker.taken old.held.items in
     let now = c.fill.ensures.held before c.self.invariant in
-    let notes = notes_of c.in_ok-done.done.pairs.items in
-    keeps c.fill.new.taker.taken (before ++ notes) c.enter_held.new.held.items (entered-more c.fill.new.taker.taken before c.fill.new.held.items notes c.enter_held.new.held.items now c.in_ok-done.ensures.all.0)
+    let notes = notes_of c.in_ok-done.field-0.pairs.items in
+    keeps c.fill.new.taker.taken (before ++ notes) c.enter_held-done.new.held.items (entered-more c.fill.new.taker.taken before c.fill.new.held.items notes c.enter_held-done.new.held.items now c.in_ok-done.ensures.all.0)
 
 pub returns-clause-entered : goal.returns-clause-entered
 returns-clause-entered g c =
     let old = c.self.inside in
     let before = entered_of old.taker.taken old.held.items in
     let now = c.fill.ensures.held before c.self.invariant in
-    let notes = notes_of c.in_ok-done.done.pairs.items in
-    entered-is c.fill.new.taker.taken (before ++ notes) c.enter_held.new.held.items (entered-more c.fill.new.taker.taken before c.fill.new.held.items notes c.enter_held.new.held.items now c.in_ok-done.ensures.all.0)
+    let notes = notes_of c.in_ok-done.field-0.pairs.items in
+    entered-is c.fill.new.taker.taken (before ++ notes) c.enter_held-done.new.held.items (entered-more c.fill.new.taker.taken before c.fill.new.held.items notes c.enter_held-done.new.held.items now c.in_ok-done.ensures.all.0)
     ∙ ap (λ d. d.entered ++ notes) c.self.view_is
 
 pub returns-clause-all : goal.returns-clause-all
 returns-clause-all g c =
-    let v = c.in_ok-done.done.pairs.ok.0 in
+    let v = c.in_ok-done.field-0.pairs.ok.0 in
     let count = c.min-count.ensures ∙ ap (λ n. min n c.args.limit) c.len.ensures.value in
-    subst (λ (n : ℕ). (n ≡ c.args.limit) ⊎ (c.enter_held.new.held.items ≡ [])) (sym v)
-    (all-or-none c.in_ok-done.done.pairs.items c.fill.new.held.items c.enter_held.new.held.items c.min-count.result c.args.limit count (sym v ∙ c.in_ok-done.ensures.all.1) c.in_ok-done.ensures.all.0)
+    subst (λ (n : ℕ). (n ≡ c.args.limit) ⊎ (c.enter_held-done.new.held.items ≡ [])) (sym v)
+    (all-or-none c.in_ok-done.field-0.pairs.items c.fill.new.held.items c.enter_held-done.new.held.items c.min-count.result c.args.limit count (sym v ∙ c.in_ok-done.ensures.all.1) c.in_ok-done.ensures.all.0)

@@ -2,7 +2,7 @@ use Rattle.std.proofs.Common.{[], ◌∷◌, length, length-append, ap, ◌∙�
 use Rattle.std.specs.Prelude.{vec_items}
 use Rattle.sup_crew.specs.Jobs.{weigh, child_of, children_of}
 use Rattle.sup_crew.specs.JobLaws.{weigh-append, weigh-job}
-use Rattle.sup_crew.proofs.gather.read_all.Goals as goal
+use Rattle.sup_crew.proofs.closing.read_all.Goals as goal
 
 pub loop-preserved : goal.loop-preserved
 loop-preserved g c =

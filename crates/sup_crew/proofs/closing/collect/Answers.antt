@@ -1,8 +1,8 @@
 use Rattle.std.proofs.Common.{◌∷◌, [], ◌++◌, append_assoc, append-nil, sym, ap, ◌∙◌, subst, arith}
 use Rattle.std.specs.Prelude.{vec_items}
 use Rattle.std.specs.Vec.Iter.{into_iter_items}
-use Rattle.sup_crew.specs.Joins.{AreEndpoints, posters_of, taken_of, unposted_of, unposted_note}
-use Rattle.sup_crew.proofs.gather.collect.Goals as goal
+use Rattle.sup_crew.specs.Joins.{AreEndpoints, posters_of, taken_of, unposted_of, note_in}
+use Rattle.sup_crew.proofs.closing.collect.Goals as goal
 
 pub loop-one-preserved : goal.loop-one-preserved
 loop-one-preserved g c =
@@ -26,7 +26,7 @@ loop-one-preserved g c =
       taken = ap (λ v. v.permission.taken ++ taken_of rest) outcome ∙ append_assoc old.taken one.endpoint.permission.taken (taken_of rest) ∙ ap (λ l. old.taken ++ taken_of l) (sym steps.0) ∙ i.taken;
       endpoints = endpoints.3;
       posters = ap (λ l. l ++ posters_of rest) pushed.items ∙ append_assoc (vec_items c.loop-one.posters) (one.poster ∷ []) (posters_of rest) ∙ ap (λ l. vec_items c.loop-one.posters ++ posters_of l) (sym steps.0) ∙ i.posters;
-      unposted = ap (λ l. l ++ unposted_of rest) kept.items ∙ append_assoc (vec_items c.loop-one.unposted) (unposted_note one.poster one.unposted) (unposted_of rest) ∙ ap (λ l. vec_items c.loop-one.unposted ++ unposted_of l) (sym steps.0) ∙ i.unposted;
+      unposted = ap (λ l. l ++ unposted_of rest) kept.items ∙ append_assoc (vec_items c.loop-one.unposted) (note_in one.unposted) (unposted_of rest) ∙ ap (λ l. vec_items c.loop-one.unposted ++ unposted_of l) (sym steps.0) ∙ i.unposted;
       room = (
         (let r = i.room.0 in let s = steps.1 in let l = pushed.len in let k = pushed.capacity in omega (arith, r, s, l, k)),
         (let r = i.room.1 in let s = steps.1 in let l = kept.room.1 in let k = kept.room.0 in omega (arith, r, s, l, k)),

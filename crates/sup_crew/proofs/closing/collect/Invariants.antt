@@ -3,7 +3,7 @@ use Rattle.std.specs.Prelude.{vec_items, vec_len}
 use Rattle.std.specs.Vec.{vec_capacity}
 use Rattle.std.specs.Vec.Iter.{into_iter_items, into_iter_len}
 use Rattle.sup_crew.specs.Joins.{AreEndpoints, posters_of, taken_of, unposted_of}
-use Rattle.sup_crew.proofs.gather.collect.Given as goal
+use Rattle.sup_crew.proofs.closing.collect.Given as goal
 
 abbrev pub invariant-loop-one : goal.invariant-loop-one
 invariant-loop-one g l = record {

@@ -3,7 +3,7 @@ use Rattle.std.specs.Prelude.{vec_items, vec_len}
 use Rattle.std.specs.Vec.{vec_capacity}
 use Rattle.sup_crew.specs.declared.job.Child.{Child}
 use Rattle.sup_crew.specs.Jobs.{weigh, children_of}
-use Rattle.sup_crew.proofs.gather.read_all.Given as goal
+use Rattle.sup_crew.proofs.closing.read_all.Given as goal
 
 abbrev pub invariant-loop : goal.invariant-loop
 invariant-loop g l = record {
