@@ -1,10 +1,8 @@
-use Rattle.std.proofs.Common.{◌≡◌, ℕ, ◌+◌, ◌<◌, [], ◌∷◌, ◌++◌, length, drop, refl, sym, ap, ◌∙◌, subst, arith}
+use Rattle.std.proofs.Common.{◌≡◌, ◌+◌, ◌<◌, ◌∷◌, length, drop, sym, ap, ◌∙◌, subst, arith}
 use Rattle.std.specs.Prelude.{vec_items}
 use Rattle.std.proofs.lemmas.List.{drop_more}
 use Rattle.sup_types.specs.declared.history.Reply.{Reply}
-use Rattle.sup_types.specs.declared.history.Reply.TheVariants.{Restarted}
 use Rattle.sup_log.specs.Tokens.{Told}
-use Rattle.sup_inbox.specs.declared.note.Note.{Note}
 use Rattle.sup_crew.specs.Births.{IsBorn, IsBornBy, AreBornBy}
 use Rattle.sup_crew.specs.Drains.{replies_of}
 use Rattle.sup_crew.specs.Jobs.{weigh}
