@@ -81,7 +81,7 @@ ended_are items = is_count_by (λ cs. weigh (λ _. 1) (children_ended items cs))
 
 -- no more children ended than were made
 pub few_ended : {N : Type 0} {G : Ghosts N} (may_end : ℕ → Text → Reason → Type 0) (template : Template) (press : Book) (moment : ℕ) (plan : List Text) (r : Report N G)
-    → IsRunOfItsOwn may_end template press moment plan r → r.exits ≤ r.made
+    → IsRunOfItsOwn may_end template press moment plan r → r.tally.exits ≤ r.tally.made
 few_ended may_end template press moment plan r run =
     let items = items_of_run template r in
     let calls = calls_of_run template run.before r in
@@ -93,7 +93,7 @@ few_ended may_end template press moment plan r run =
     omega (arith, all, a, b, made, ended)
 
 pub pooled : {N : Type 0} {G : Ghosts N} (may_end : ℕ → Text → Reason → Type 0) (template : Template) (press : Book) (moment : ℕ) (plan : List Text) (r : Report N G) (p : PoolReport)
-    → IsRunOfItsOwn may_end template press moment plan r → r.fault ≡ None → p.made ≡ p.exits + p.left → p.made ≡ r.made → p.exits ≡ r.exits → p.restarts ≡ r.restarts → p.given_up ≡ r.given_up → IsPooled may_end template plan p
+    → IsRunOfItsOwn may_end template press moment plan r → r.fault ≡ None → p.made ≡ p.exits + p.left → p.made ≡ r.tally.made → p.exits ≡ r.tally.exits → p.restarts ≡ r.tally.restarts → p.given_up ≡ r.tally.given_up → IsPooled may_end template plan p
 pooled may_end template press moment plan r p run sound whole a b c d =
     let own : calls_since template run.before r.ticket ≡ calls_of template (front_of r.ticket) run.before.number = own_calls template run.before r.ticket run.new in
     record {

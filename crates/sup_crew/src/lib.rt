@@ -42,6 +42,7 @@ mod worker;
 
 pub use asked::Asked;
 pub use drain::{Drain, DrainFault, Drained, HELD};
+pub use driver::Tally;
 pub use fault::{CrewFault, PoolFault};
 pub use job::{Body, Job};
 pub use plan::{Plan, Report};

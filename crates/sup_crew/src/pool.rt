@@ -180,15 +180,16 @@ fn run_named<N: Name + Send + Sync, R: Threads + Wait + Sync, T: Work + Sync>(
 
 /// The numbers of a report.
 fn numbers_of<N: Name>(report: &Report<N>) -> PoolReport
-    requires { report.now.exits ≤ report.now.made }
+    requires { report.now.tally.exits ≤ report.now.tally.made }
     ensures whole { result.made ≡ result.exits + result.left }
-    ensures told { (result.made ≡ report.now.made) × (result.exits ≡ report.now.exits) × (result.restarts ≡ report.now.restarts) × (result.given_up ≡ report.now.given_up) }
+    ensures told { (result.made ≡ report.now.tally.made) × (result.exits ≡ report.now.tally.exits) × (result.restarts ≡ report.now.tally.restarts) × (result.given_up ≡ report.now.tally.given_up) }
 {
+    let tally = report.tally;
     PoolReport {
-        made: report.made,
-        exits: report.exits,
-        left: report.made - report.exits,
-        restarts: report.restarts,
-        given_up: report.given_up,
+        made: tally.made,
+        exits: tally.exits,
+        left: tally.made - tally.exits,
+        restarts: tally.restarts,
+        given_up: tally.given_up,
     }
 }
