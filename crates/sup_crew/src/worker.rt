@@ -1,5 +1,6 @@
 //! Workers: what one does, and its thread.
 ghost use Rattle.std.specs.Prelude.{◌≡◌, [], ◌++◌, ◌∷◌, length, MatchResult, ℕ, ◌+◌, ◌<◌, ◌≤◌, IfOk, IfErr, IfNone, vec_len, vec_capacity, slice_index_or};
+ghost use Rattle.sup_crew.specs.Births.{IsBorn};
 ghost use Rattle.sup_crew.specs.Jobs.{permission};
 ghost use Rattle.sup_crew.specs.Work.{IsNext, IsWorked, AreWorked};
 ghost use Rattle.sup_inbox.specs.Ends.{AreFrom, AreNew};
@@ -97,6 +98,13 @@ pub fn work<N: Name, B: Body, R: Wait>(
     unreachable!()
 }
 
+/// Learns the job's ticket: the asker has then seen that the child was made.
+fn see_birth<N: Name>(asker: &mut Asker<N>, job: &Job<N>)
+    ensures { IsBorn N.template asker.new.front job.now.number }
+{
+    let _ = asker.learn(&job.ticket);
+}
+
 /// Learns the job's ticket, and runs the body. Returns the note of its exit, which is the poster's next.
 fn run_job<N: Name, B: Body>(body: &B, job: Job<N>, asker: &mut Asker<N>, poster: &Poster) -> Note
     ensures child { (result.number ≡ job.number) × (result.arg ≡ job.arg) }
@@ -105,8 +113,7 @@ fn run_job<N: Name, B: Body>(body: &B, job: Job<N>, asker: &mut Asker<N>, poster
 {
     let number = job.number;
     let arg = job.arg;
-    // The asker has then seen that the child was made.
-    let _ = asker.learn(&job.ticket);
+    see_birth(asker, &job);
     let reason = body.run(job, asker);
     Note {
         poster: poster.number(),
