@@ -186,7 +186,7 @@ impl From<HandleFault> for StopFault {
 }
 
 impl From<CrewFault> for StopFault {
-    ghost use Rattle.sup_work.specs.Faults.{crew_fault_number};
+    ghost use Rattle.sup_crew.specs.Faults.{crew_fault_number};
 
     ghost from_gives = { λ e f. stop_fault_number f ≡ crew_fault_number e };
 
