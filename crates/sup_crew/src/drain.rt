@@ -3,6 +3,7 @@ ghost use Rattle.std.specs.Prelude.{◌≡◌, List, ◌+◌, ◌<◌, ◌≤◌
 ghost use Rattle.std.specs.VecDeque.{deque_len, deque_capacity};
 ghost use Rattle.arrayvec.specs.ArrayVec.{array_vec_len};
 ghost use mathlib.Core.List.{IsPrefix};
+ghost use Rattle.sup_desk.specs.Faults.{update_fault_number};
 ghost use Rattle.sup_crew.specs.Exits.{exits};
 ghost use Rattle.sup_crew.specs.Drains.{DrainModel, entered_of, notes_of, replies_of, IsEntered};
 
@@ -63,6 +64,15 @@ pub struct DrainFault {
     pub done: Drained,
     /// Why the others were not. They are held, and go first next time.
     pub fault: UpdateFault,
+}
+
+impl DrainFault {
+    /// Returns the number of the fault that stopped it.
+    pub fn number(&self) -> u8
+        ensures { result ≡ update_fault_number self.now.fault }
+    {
+        self.fault.number()
+    }
 }
 
 /// How many notes were entered, and the fault. A ticket shows nothing of itself.

@@ -1,6 +1,6 @@
 //! Why a run could not begin, and why a pool is not run, or not to its end.
 ghost use Rattle.std.specs.Prelude.{◌≡◌};
-ghost use Rattle.sup_crew.specs.Faults.{crew_fault_number};
+ghost use Rattle.sup_crew.specs.Faults.{crew_fault_number, pool_fault_number};
 ghost use Rattle.sup_crew.specs.declared.fault.CrewFault.TheVariants as crew;
 ghost use Rattle.sup_crew.specs.declared.fault.PoolFault.TheVariants as pool;
 
@@ -23,7 +23,7 @@ pub enum CrewFault {
 }
 
 impl CrewFault {
-    /// The number of this fault.
+    /// Returns the number of this fault.
     pub fn number(&self) -> u8
         ensures { result ≡ crew_fault_number self.now }
     {
@@ -70,6 +70,19 @@ pub enum PoolFault {
     /// The run was stopped by an update that was refused: the history is full, say.
     #[error("{0}")]
     Stopped(UpdateFault),
+}
+
+impl PoolFault {
+    /// Returns the number of this fault: 1, 7 for what is out of range, or that of the update that was refused.
+    pub fn number(&self) -> u8
+        ensures { result ≡ pool_fault_number self.now }
+    {
+        match self {
+            PoolFault::OutOfMemory => 1,
+            PoolFault::BadWorkers | PoolFault::BadRestarts | PoolFault::BadArgument(_) => 7,
+            PoolFault::Stopped(fault) => fault.number(),
+        }
+    }
 }
 
 impl From<CrewFault> for PoolFault {
