@@ -44,9 +44,9 @@ impl LiveFault {
         ensures { result ≡ live_crew_fault_number self.now }
     {
         match self {
-            LiveFault::OutOfMemory | LiveFault::NoThread => 1,
-            LiveFault::NoHandle => 5,
-            LiveFault::NoPlace => 6,
+            Self::OutOfMemory | Self::NoThread => 1,
+            Self::NoHandle => 5,
+            Self::NoPlace => 6,
         }
     }
 }
