@@ -2,7 +2,7 @@
 #![tactic(auto)]
 
 use anyhow::Result;
-use sup_pool::{Pool, Work};
+use sup_crew::{Pool, Work};
 use sup_types::{Reason, Text};
 
 struct Upload;

@@ -10,12 +10,12 @@ use Rattle.sup_types.specs.declared.history.Reply.{Reply}
 use Rattle.sup_types.specs.declared.history.Reply.TheVariants.{Started, Restarted}
 use Rattle.sup_core.specs.Account.{Item, argument_of}
 use Rattle.sup_inbox.specs.declared.note.Note.{Note}
-use Rattle.sup_work.specs.declared.job.Child.{Child}
-use Rattle.sup_work.specs.Jobs.{weigh}
-use Rattle.sup_work.specs.Work.{ended, ended_of}
+use Rattle.sup_crew.specs.declared.job.Child.{Child}
+use Rattle.sup_crew.specs.Jobs.{weigh}
+use Rattle.sup_crew.specs.Work.{ended, ended_of}
 use Rattle.sup_crew.specs.Calls.{Call, child_made, children_made, exits_in, job_made, notes_after, jobs_made, IsDriven, AreDriven}
-use Rattle.sup_drain.specs.Exits.{exit_of, exits}
-use Rattle.sup_work.specs.JobLaws.{weigh-append}
+use Rattle.sup_crew.specs.Exits.{exit_of, exits}
+use Rattle.sup_crew.specs.JobLaws.{weigh-append}
 use Rattle.sup_crew.proofs.Right.{Names, IsRight, AreRightCalls}
 
 -- whether two texts are the same

@@ -17,8 +17,8 @@ use Rattle.sup_desk.specs.Batches.{IsApplied}
 use Rattle.sup_inbox.specs.declared.note.Note.{Note}
 use Rattle.sup_crew.specs.Births.{IsBornBy, AreBornBy}
 use Rattle.sup_crew.specs.Calls.{Call, calls_of, answered}
-use Rattle.sup_drain.specs.Exits.{exits}
-use Rattle.sup_drain.specs.Drains.{notes_of, replies_of, IsEntered}
+use Rattle.sup_crew.specs.Exits.{exits}
+use Rattle.sup_crew.specs.Drains.{notes_of, replies_of, IsEntered}
 use Rattle.sup_crew.proofs.Right.{IsRight, AreRightCalls, calls-right}
 use Rattle.sup_crew.proofs.Called.{updated-since, applied-since}
 

@@ -15,22 +15,22 @@ use Rattle.std.proofs.Math.Seq.{drop-append_seam}
 use Rattle.sup_desk.specs.Knowledge.{Knowledge, entries_of, IsUpdated}
 use Rattle.sup_desk.specs.Batches.{IsApplied}
 use Rattle.sup_inbox.specs.declared.note.Note.{Note}
-use Rattle.sup_work.specs.declared.job.Child.{Child}
-use Rattle.sup_work.specs.Jobs.{weigh}
+use Rattle.sup_crew.specs.declared.job.Child.{Child}
+use Rattle.sup_crew.specs.Jobs.{weigh}
 use Rattle.sup_crew.specs.Tallies.{tally_of, with_start, with_exits}
 use Rattle.sup_crew.proofs.Tallied.{tally-start, tally-exits}
 use Rattle.sup_crew.specs.Calls.{Call, calls_of, answered, exits_in, starts_in, start_of, job_made, notes_after, jobs_made, AreDriven}
-use Rattle.sup_drain.specs.Exits.{exit_of, exits}
+use Rattle.sup_crew.specs.Exits.{exit_of, exits}
 use Rattle.std.specs.Prelude.{IsSome, IfSome, IfNone, Result, Ok, Err, OnErr}
 use Rattle.std.specs.Option.{option_or}
-use Rattle.sup_drain.specs.Drains.{notes_of, replies_of, IsEntered}
-use Rattle.sup_work.specs.Dispatchers.{HasDispatched}
+use Rattle.sup_crew.specs.Drains.{notes_of, replies_of, IsEntered}
+use Rattle.sup_crew.specs.Dispatchers.{HasDispatched}
 use Rattle.sup_crew.specs.Drivers.{started_job, restarted_job, restarted_jobs, AreAt, HasCalled, HasAll, HasNotCalled, calls_since, Run, DriverModel, calls_of_driver, HasDriven, IsSameDriver, IsAtWork}
 use Rattle.std.specs.Global.{Global}
 use Rattle.atomic_table.specs.Seated.{TableId}
 use Rattle.crossbeam_queue.specs.SegTies.{SegId}
-use Rattle.sup_work.specs.JobLaws.{weigh-append}
-use Rattle.sup_drain.specs.ExitLaws.{exits-append}
+use Rattle.sup_crew.specs.JobLaws.{weigh-append}
+use Rattle.sup_crew.specs.ExitLaws.{exits-append}
 use Rattle.sup_crew.proofs.Called.{trans, calls-length, calls-stay, applied-since, applied-own, updated-since, updated-own, entered-at}
 
 driven-append : (cs ds : List Call) → AreDriven cs → AreDriven ds → AreDriven (cs ++ ds)

@@ -1,8 +1,15 @@
 pub mod Agree
 pub mod Born
 pub mod Called
+pub mod DrainLemmas
 pub mod Driven
+pub mod Handed
+pub mod Moves
+pub mod Pooling
 pub mod Reported
 pub mod Right
+pub mod Rows
+pub mod Stays
 pub mod Sums
 pub mod Tallied
+pub mod Worked

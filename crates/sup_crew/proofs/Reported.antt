@@ -10,15 +10,15 @@ use Rattle.sup_types.specs.declared.history.Reply.{Reply}
 use Rattle.sup_types.specs.declared.history.Reply.TheVariants.{Started, Restarted}
 use Rattle.sup_core.specs.Account.{Item, argument_of}
 use Rattle.sup_inbox.specs.declared.note.Note.{Note}
-use Rattle.sup_work.specs.declared.job.Child.{Child}
+use Rattle.sup_crew.specs.declared.job.Child.{Child}
 use Rattle.sup_crew.specs.Calls.{Call, child_made, children_made, exits_in, notes_after, jobs_made, AreDriven}
-use Rattle.sup_drain.specs.Exits.{exit_of, exits}
-use Rattle.sup_work.specs.Jobs.{weigh}
+use Rattle.sup_crew.specs.Exits.{exit_of, exits}
+use Rattle.sup_crew.specs.Jobs.{weigh}
 use Rattle.sup_crew.specs.Reports.{child_ended, children_ended, IsNamed, AreNamed, AreOwn}
-use Rattle.sup_work.specs.Work.{ended, AreEnds}
+use Rattle.sup_crew.specs.Work.{ended, AreEnds}
 use Rattle.sup_crew.proofs.Agree.{bad, bad-right, right-of, told-parts, agrees}
 use Rattle.sup_crew.proofs.Right.{AreRightCalls}
-use Rattle.sup_work.specs.JobLaws.{weigh-append}
+use Rattle.sup_crew.specs.JobLaws.{weigh-append}
 
 -- children of which none is bad have the arguments that the account gives them
 own-of : (items : List Item) (cs : List Child) → ((m : ℕ) → weigh (bad items m) cs ≡ 0) → AreOwn items cs

@@ -6,20 +6,19 @@ use mathlib.Core.Logic.{dite}
 use Rattle.std.specs.Global.{Global}
 use Rattle.atomic_table.specs.Seated.{TableId}
 use Rattle.crossbeam_queue.specs.SegTies.{SegId}
-use Rattle.sup_work.specs.declared.worker.Exit.{Exit}
 use Rattle.sup_inbox.specs.declared.note.Note.{Note}
 use Rattle.sup_types.specs.declared.reason.Reason.{Reason}
 use Rattle.sup_inbox.specs.Delivery.{from}
 use Rattle.sup_inbox.specs.Ends.{Posting, AreFrom, IsBy}
 use Rattle.sup_inbox.specs.NoteLaws.{from-own, from-other}
 use Rattle.sup_types.specs.declared.text.Text.{Text}
-use Rattle.sup_work.specs.declared.job.Child.{Child}
-use Rattle.sup_work.specs.declared.worker.Finished.{Finished}
-use Rattle.sup_work.specs.Jobs.{weigh}
-use Rattle.sup_work.specs.Work.{AreWorked, ended_of, ended, untold, AreEnds, IsEnd}
-use Rattle.sup_work.specs.Joins.{unposted_note, posters_of, taken_of, unposted_of, AreEndpoints}
-use Rattle.sup_work.specs.JobLaws.{weigh-append, weigh-one}
-use Rattle.sup_work.specs.WorkLaws.{ended-append}
+use Rattle.sup_crew.specs.declared.job.Child.{Child}
+use Rattle.sup_crew.specs.declared.worker.Finished.{Finished}
+use Rattle.sup_crew.specs.Jobs.{weigh}
+use Rattle.sup_crew.specs.Work.{AreWorked, ended_of, ended, untold, AreEnds, IsEnd}
+use Rattle.sup_crew.specs.Joins.{note_in, posters_of, taken_of, unposted_of, AreEndpoints}
+use Rattle.sup_crew.specs.JobLaws.{weigh-append, weigh-one}
+use Rattle.sup_crew.specs.WorkLaws.{ended-append}
 
 -- the weight of what notes tell
 abbrev told : (Child → ℕ) → List Note → ℕ
@@ -87,12 +86,12 @@ module _ {N : Type 0} where
       let rest = taken-told h m q i (suc first) rs all.1 in
       let a = weigh-append h r.endpoint.permission.taken (taken_of rs) in
       let b = all.0.account h in
-      let d = back-weigh h r.poster r.unposted (unposted_of rs) in
+      let d = back-weigh h r.unposted (unposted_of rs) in
       omega (arith, rest, a, b, d)
     where
-      back-weigh : (h : Child → ℕ) (p : Posting) (o : Option Exit) (bs : List Note) → weigh h (ended (unposted_note p o ++ bs)) ≡ weigh h (untold o) + weigh h (ended bs)
-      back-weigh h p None bs = omega arith
-      back-weigh h p (Some b) bs = omega arith
+      back-weigh : (h : Child → ℕ) (o : Option Note) (bs : List Note) → weigh h (ended (note_in o ++ bs)) ≡ weigh h (untold o) + weigh h (ended bs)
+      back-weigh h None bs = omega arith
+      back-weigh h (Some b) bs = omega arith
 
   pub endpoints : (m : ℕ → Text → Reason → Type 0) (q : SegId Global) (i : TableId) (first : ℕ) (rs : List (Finished N)) → AreWorked m q i first rs → AreEndpoints q rs
   endpoints m q i first [] all = tt
@@ -111,9 +110,9 @@ module _ {N : Type 0} where
   back_ends m q i first [] all = tt
   back_ends m q i first (r ∷ rs) all = add r.poster r.unposted all.0.unposted (back_ends m q i (suc first) rs all.1)
     where
-      add : (p : Posting) (o : Option Exit) → IsEnd m o → AreEnds m (unposted_of rs) → AreEnds m (unposted_note p o ++ unposted_of rs)
+      add : (p : Posting) (o : Option Note) → IsEnd m p o → AreEnds m (unposted_of rs) → AreEnds m (note_in o ++ unposted_of rs)
       add p None e rest = rest
-      add p (Some b) e rest = (e, rest)
+      add p (Some b) e rest = (e.0, rest)
 
   -- where each poster's notes give such reasons, all notes do
   ends-at : (m : ℕ → Text → Reason → Type 0) (q : SegId Global) (i : TableId) (first : ℕ) (rs : List (Finished N)) (notes : List Note) → AreWorked m q i first rs → All (λ (p : Posting). from notes p.number ≡ p.posted) (posters_of rs)

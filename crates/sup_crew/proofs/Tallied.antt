@@ -9,8 +9,8 @@ use Rattle.sup_inbox.specs.declared.note.Note.{Note}
 use Rattle.sup_core.specs.Changes.{makes_child}
 use Rattle.sup_crew.specs.declared.driver.Tally.{Tally}
 use Rattle.sup_crew.specs.Calls.{Call, answered}
-use Rattle.sup_drain.specs.Exits.{exits}
-use Rattle.sup_drain.specs.Drains.{notes_of, replies_of}
+use Rattle.sup_crew.specs.Exits.{exits}
+use Rattle.sup_crew.specs.Drains.{notes_of, replies_of}
 use Rattle.sup_crew.specs.Tallies.{is_start, is_exit, is_stray, is_down, is_restart, is_giving_up, bit, tally_of, with_start, with_exit, with_exits}
 
 count_push : (p : Call → Bool) (cs : List Call) (c : Call) → count_by p (cs ++ c ∷ []) ≡ count_by p cs + bit (p c)

@@ -9,8 +9,8 @@ use Rattle.sup_types.specs.declared.history.Reply.{Reply}
 use Rattle.sup_types.specs.declared.history.Reply.TheVariants.{Started, Restarted}
 use Rattle.sup_core.specs.Account.{Item, account, argument_of}
 use Rattle.sup_inbox.specs.declared.note.Note.{Note}
-use Rattle.sup_drain.specs.Exits.{exit_of}
-use Rattle.sup_work.specs.declared.job.Child.{Child}
+use Rattle.sup_crew.specs.Exits.{exit_of}
+use Rattle.sup_crew.specs.declared.job.Child.{Child}
 
 -- an operation, and the reply to it
 pub record Call : Type 0 where

@@ -11,19 +11,19 @@ use Rattle.sup_types.specs.declared.history.Reply.TheVariants.{Started, Restarte
 use Rattle.sup_log.specs.Tokens.{Told}
 use Rattle.sup_desk.specs.Knowledge.{Knowledge, entries_of}
 use Rattle.sup_inbox.specs.declared.note.Note.{Note}
-use Rattle.sup_work.specs.declared.job.Child.{Child}
-use Rattle.sup_work.specs.Jobs.{weigh}
+use Rattle.sup_crew.specs.declared.job.Child.{Child}
+use Rattle.sup_crew.specs.Jobs.{weigh}
 use Rattle.std.specs.Global.{Global}
 use Rattle.atomic_table.specs.Seated.{TableId}
 use Rattle.crossbeam_queue.specs.SegTies.{SegId}
-use Rattle.sup_work.specs.Dispatchers.{DispatcherModel, IsSameQueue}
-use Rattle.sup_drain.specs.Drains.{DrainModel}
+use Rattle.sup_crew.specs.Dispatchers.{DispatcherModel, IsSameQueue}
+use Rattle.sup_crew.specs.Drains.{DrainModel}
 use Rattle.sup_crew.specs.declared.driver.Tally.{Tally}
 use Rattle.sup_crew.specs.Tallies.{tally_of}
 use Rattle.sup_desk.specs.declared.faults.UpdateFault.{UpdateFault}
 use Rattle.sup_desk.specs.declared.faults.UpdateFault.TheVariants as update
 use Rattle.sup_crew.specs.Calls.{Call, calls_of, exits_in, starts_in, jobs_made, AreDriven}
-use Rattle.sup_drain.specs.Exits.{exits}
+use Rattle.sup_crew.specs.Exits.{exits}
 
 -- the history up to and with the last update
 abbrev pub front_of : Option Told → List Entry

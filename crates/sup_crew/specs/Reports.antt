@@ -8,16 +8,15 @@ use Rattle.sup_types.specs.declared.history.Operation.TheVariants.{Exit}
 use Rattle.sup_core.specs.Account.{Item, account, argument_of}
 use Rattle.sup_desk.specs.declared.name.Name.{Ghosts}
 use Rattle.sup_inbox.specs.declared.note.Note.{Note}
-use Rattle.sup_work.specs.declared.job.Child.{Child}
+use Rattle.sup_crew.specs.declared.job.Child.{Child}
 use Rattle.sup_crew.specs.declared.plan.Report.{Report}
-use Rattle.sup_crew.specs.declared.driver.Tally.{Tally}
 use Rattle.sup_crew.specs.Calls.{Call, children_made, starts_in, AreDriven}
-use Rattle.sup_work.specs.Jobs.{weigh, children_of}
+use Rattle.sup_crew.specs.Jobs.{weigh, children_of}
 use Rattle.sup_desk.specs.Knowledge.{Knowledge}
 use Rattle.sup_crew.specs.Drivers.{front_of, calls_since, HasCalled, HasAll, IsCause, Run, run_of}
 use Rattle.logbook.specs.Pages.{Book}
 use Rattle.sup_crew.specs.Tallies.{tally_of}
-use Rattle.sup_work.specs.Work.{ended, AreEnds}
+use Rattle.sup_crew.specs.Work.{ended, AreEnds}
 
 -- the children whose exits were entered, with the arguments that the account gives them
 abbrev pub child_ended : List Item → Operation → List Child
@@ -49,18 +48,6 @@ module _ {N : Type 0} {G : Ghosts N} where
   abbrev pub calls_of_run : Template → Knowledge → Report N G → List Call
   calls_of_run template before r = calls_since template before r.ticket
 
-  abbrev pub counts_of_run : Report N G → Tally
-  counts_of_run r =
-      record {
-        made = r.made;
-        exits = r.exits;
-        strays = r.strays;
-        downs = r.downs;
-        restarts = r.restarts;
-        given_up = r.given_up;
-        refused = r.refused;
-      }
-
   -- the notes whose exits were not entered
   abbrev pub notes_of_run : Report N G → List Note
   notes_of_run r = r.held.items ++ r.inbox.items ++ r.unposted.items
@@ -82,7 +69,7 @@ module _ {N : Type 0} {G : Ghosts N} where
         ≡ weigh h (children_ended (items_of_run run.template r) (calls_of_run run.template run.before r)) + weigh h (ended (notes_of_run r)) + weigh h (children_of r.left.items)
     pub own : AreOwn (items_of_run run.template r) (ended (notes_of_run r)) × AreOwn (items_of_run run.template r) (children_of r.left.items)
     pub ends : AreEnds may_end (notes_of_run r)
-    pub counts : counts_of_run r ≡ tally_of (calls_of_run run.template run.before r)
+    pub counts : r.tally ≡ tally_of (calls_of_run run.template run.before r)
 
   -- the same by a handle that made no call before the run and belongs to it
   pub record IsRunOfItsOwn (may_end : ℕ → Text → Reason → Type 0) (template : Template) (press : Book) (moment : ℕ) (plan : List Text) (r : Report N G) : Type 0 where

@@ -10,10 +10,10 @@ use Rattle.sup_types.specs.declared.reason.Reason.{Reason}
 use Rattle.sup_desk.specs.Knowledge.{Knowledge}
 use Rattle.sup_crew.specs.declared.run.RunOutcome.{RunOutcome}
 use Rattle.sup_crew.specs.declared.run.Parts.{Parts}
-use Rattle.sup_work.specs.Jobs.{permission}
+use Rattle.sup_crew.specs.Jobs.{permission}
 use Rattle.sup_crew.specs.Drivers.{DriverModel, HasDriven, IsCause, Run}
 use Rattle.sup_inbox.specs.Ends.{Posting, AreFrom, AreNew}
-use Rattle.sup_work.specs.Work.{AreWorked}
+use Rattle.sup_crew.specs.Work.{AreWorked}
 
 -- posters are numbered in at most one way
 AreFrom-prop : (inbox : TableId) (first : ℕ) (ps : List Posting) → IsProp (AreFrom inbox first ps)

@@ -1,18 +1,23 @@
 //! The end of a run: what its workers had is collected, and what was counted is told.
-ghost use Rattle.std.specs.Prelude.{◌≡◌, ◌<◌, ◌≤◌, [], drop, IfOk, vec_len, vec_capacity};
+ghost use Rattle.std.specs.Prelude.{◌≡◌, ◌+◌, ◌<◌, ◌≤◌, [], ◌++◌, drop, length, IfOk, vec_len, vec_capacity};
+ghost use Rattle.sup_crew.specs.Jobs.{weigh, children_of};
+ghost use Rattle.sup_crew.specs.Joins.{AreEndpoints, note_in, posters_of, taken_of, unposted_of};
 ghost use Rattle.sup_crew.specs.Reports.{IsRun};
 ghost use Rattle.sup_crew.specs.Runs.{IsRunOutcome};
 
+use crate::crew::Crew;
+use crate::drain::HELD;
+use crate::job::{Body, Job};
 use crate::plan::Report;
+use crate::queue::{Endpoint, Jobs};
 use crate::run::RunOutcome;
+use crate::worker::Finished;
 use arrayvec::ArrayVec;
 use std::alloc::Global;
 use std::sync::Wait;
 use sup_desk::Name;
-use sup_drain::HELD;
 use sup_inbox::{Note, Poster, settle};
 use sup_types::{OutOfMemory, Text};
-use sup_work::{Body, Crew, collect, read_all};
 
 /// Room for what the end of a run hands over, made before the run, so that its end takes no memory.
 #[derive(Drop)]
@@ -66,6 +71,68 @@ fn without_first(children: Vec<Text>, started: usize) -> Vec<Text>
     rest
 }
 
+/// Takes back what the workers had: their endpoints, their posters and the notes that they could not post.
+fn collect<N: Name>(
+    jobs: &Jobs<N>,
+    endpoint: Endpoint<N>,
+    finished: Vec<Finished<N>>,
+    posters: Vec<Poster>,
+    unposted: Vec<Note>,
+) -> (Endpoint<N>, Vec<Poster>, Vec<Note>)
+    requires endpoint { (endpoint.queue ≡ jobs.now) × (0 < endpoint.permission.parts) }
+    requires endpoints { AreEndpoints jobs.now finished.items }
+    requires empty { (posters.items ≡ []) × (unposted.items ≡ []) }
+    requires room { (vec_len finished ≤ vec_capacity posters) × (vec_len finished ≤ vec_capacity unposted) }
+    ensures endpoint { (result.0.queue ≡ jobs.now) × (result.0.permission.parts ≡ endpoint.permission.parts + vec_len finished) × (result.0.permission.put ≡ endpoint.permission.put) × (result.0.permission.taken ≡ endpoint.permission.taken ++ taken_of finished.items) }
+    ensures posters { result.1.items ≡ posters_of finished.items }
+    ensures unposted { result.2.items ≡ unposted_of finished.items }
+{
+    let mut endpoint = endpoint;
+    let mut posters = posters;
+    let mut unposted = unposted;
+    for one in finished {
+        endpoint.join(jobs, one.endpoint);
+        keep(&mut unposted, one.unposted);
+        posters.push_reserved(one.poster);
+    }
+    (endpoint, posters, unposted)
+}
+
+/// Keeps the note that could not be posted, if there is one.
+fn keep(unposted: &mut Vec<Note>, back: Option<Note>)
+    requires { vec_len unposted.old < vec_capacity unposted.old }
+    ensures items { unposted.new.items ≡ unposted.old.items ++ note_in back }
+    ensures room { (vec_capacity unposted.new ≡ vec_capacity unposted.old) × (vec_len unposted.new ≤ vec_len unposted.old + 1) }
+{
+    if let Some(note) = back {
+        // Names the reason: the borrow checker of this kit asks where its type is declared.
+        let reason = note.reason;
+        unposted.push_reserved(Note { reason, ..note });
+    }
+}
+
+/// Reads out the jobs that nobody took.
+fn read_all<N: Name, R: Wait>(
+    rt: &R,
+    jobs: &Jobs<N>,
+    endpoint: Endpoint<N>,
+    left: Vec<Job<N>>,
+) -> Vec<Job<N>>
+    requires endpoint { (endpoint.queue ≡ jobs.now) × (endpoint.permission.parts ≡ 1024) }
+    requires room { vec_len left + length endpoint.permission.put ≤ vec_capacity left }
+    ensures { (h : _) → weigh h endpoint.permission.put + weigh h (children_of left.items) ≡ weigh h endpoint.permission.taken + weigh h (children_of result.items) }
+{
+    let mut endpoint = endpoint;
+    let mut left = left;
+    for _ in rt.forever() {
+        match endpoint.read(rt, jobs) {
+            Some(job) => left.push_reserved(job),
+            None => return left,
+        }
+    }
+    unreachable!()
+}
+
 /// Settles the inbox, reads the queue of jobs out, and tells what the run did.
 pub fn close<N: Name, B: Body, R: Wait>(
     rt: &R,
@@ -81,38 +148,24 @@ pub fn close<N: Name, B: Body, R: Wait>(
     requires room { (workers ≤ vec_capacity buffers.posters) × (workers ≤ vec_capacity buffers.unposted) × (crew.inbox.capacity ≤ vec_capacity buffers.inbox) × (64 ≤ vec_capacity buffers.held) }
     ensures { (run : _) (after : _) → IsRunOutcome (B.may_end body.now) run crew.jobs crew.inbox.id workers crew.children.items after outcome → IsRun (B.may_end body.now) run crew.children.items after result }
 {
-    let Crew {
-        jobs,
-        inbox,
-        signals: _,
-        children,
-        turns: _,
-        moment: _,
-    } = crew;
     let (taker, held) = outcome.drain.end();
     let (endpoint, left) = outcome.jobs.end();
     let (endpoint, posters, unposted) = collect(
-        &jobs,
+        &crew.jobs,
         endpoint,
         outcome.finished,
         buffers.posters,
         buffers.unposted,
     );
-    let Ok(settled) = settle(rt, posters, taker, inbox, buffers.inbox) else {
+    let Ok(settled) = settle(rt, posters, taker, crew.inbox, buffers.inbox) else {
         unreachable!()
     };
-    let left = read_all(rt, &jobs, endpoint, left);
+    let left = read_all(rt, &crew.jobs, endpoint, left);
     Report {
         driver: outcome.driver,
         ticket: outcome.ticket,
-        made: outcome.tally.made,
-        exits: outcome.tally.exits,
-        strays: outcome.tally.strays,
-        downs: outcome.tally.downs,
-        restarts: outcome.tally.restarts,
-        given_up: outcome.tally.given_up,
-        refused: outcome.tally.refused,
-        unstarted: without_first(children, outcome.started),
+        tally: outcome.tally,
+        unstarted: without_first(crew.children, outcome.started),
         held: list_held(held, buffers.held),
         inbox: settled.left,
         unposted,

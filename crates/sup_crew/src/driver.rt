@@ -1,22 +1,23 @@
 //! The driver of a run: what it entered, and the jobs that it queued or kept.
 ghost use Rattle.std.specs.Prelude.{◌≡◌, List, ◌+◌, ◌<◌, ◌≤◌, [], ◌∷◌, ◌++◌, length, take, IfOk, IfErr, OnErr, IfNone, IsSome, IfSome, MatchOption, None, Some, vec_len};
 ghost use Rattle.std.specs.Option.{option_or};
-ghost use Rattle.sup_drain.specs.Drains.{replies_of};
-ghost use Rattle.sup_work.specs.Dispatchers.{IsSameQueue, HasDispatched};
+ghost use Rattle.sup_crew.specs.Drains.{replies_of};
+ghost use Rattle.sup_crew.specs.Dispatchers.{IsSameQueue, HasDispatched};
 ghost use Rattle.sup_crew.specs.Births.{IsBornBy, AreBornBy};
 ghost use Rattle.sup_crew.specs.Drivers.{DriverModel, IsAtWork, IsSameDriver, Starts, GoesOn, IsCause, started_job, restarted_jobs};
 ghost use Rattle.sup_crew.specs.Tallies.{tally_of, with_start, with_exits, bit, with_exit};
 ghost use Rattle.sup_core.specs.Changes.{makes_child};
 
+use crate::crew::{Crew, sleep};
+use crate::drain::{Drain, DrainFault, Drained, HELD};
+use crate::job::Job;
+use crate::queue::Dispatcher;
 use std::alloc::Global;
 use std::marker::Model;
 use std::sync::Wait;
 use sup_desk::{Done, Handle, Journal, Name, UpdateFault};
-use sup_drain::{Drain, DrainFault, Drained, HELD};
-use sup_inbox::Note;
 use sup_log::Ticket;
 use sup_types::{Reply, Starter, Text};
-use sup_work::{Crew, Dispatcher, Job};
 
 /// The driver of a run: it makes all updates.
 #[derive(Drop)]
@@ -134,7 +135,7 @@ impl<'d, N: Name, S: Starter + Drop, P: Wait + Drop, J: Journal + Drop> Driver<'
             if taken >= self.jobs.queued() || idle >= turns {
                 return None;
             }
-            let noted = signals.posted.noted();
+            let noted = signals.posted.notifications();
             let (count, fault) = self.drain_once(rt, alloc, crew);
             if fault.is_some() {
                 return fault;
@@ -142,12 +143,12 @@ impl<'d, N: Name, S: Starter + Drop, P: Wait + Drop, J: Journal + Drop> Driver<'
             if count > 0 {
                 idle = 0;
                 taken = taken.saturating_add(count);
-                signals.drained.give_to_all();
+                signals.drained.notify_all();
                 continue;
             }
             idle += 1;
             if idle < turns {
-                signals.posted.wait(rt, noted);
+                sleep(rt, &signals.posted, noted);
             }
         }
         unreachable!()
@@ -186,17 +187,20 @@ impl<'d, N: Name, S: Starter + Drop, P: Wait + Drop, J: Journal + Drop> Driver<'
     {
         let Drained { pairs, ticket } = done;
         let count = pairs.len();
-        self.tally = self.tally.drained(rt, &pairs);
         let Some(ticket) = ticket else {
             return count;
         };
-        for (note, reply) in pairs {
-            if let Reply::Restarted(_, number) = reply {
-                self.jobs
-                    .dispatch(rt, crew, Job::new(number, note.arg, ticket.copied()));
-            }
+        for at in 0..count {
+            let (note, reply) = &pairs[at];
+            self.tally = self.tally.exited(rt, reply);
+            let Reply::Restarted(_, number) = reply else {
+                continue;
+            };
+            self.jobs
+                .dispatch(rt, crew, Job::new(*number, note.arg, ticket.copied()));
         }
         self.ticket = Some(ticket);
+        self.drain.reuse(pairs);
         count
     }
 }
@@ -282,16 +286,5 @@ impl Tally {
             given_up: more(rt, self.given_up, matches!(reply, Reply::GaveUp)),
             refused: self.refused,
         }
-    }
-
-    /// Exits more, with these replies.
-    pub fn drained<R: Wait>(self, rt: &R, pairs: &[(Note, Reply)]) -> Tally
-        ensures { result ≡ with_exits self (replies_of pairs.now) }
-    {
-        let mut tally = self;
-        for pair in pairs {
-            tally = tally.exited(rt, &pair.1);
-        }
-        tally
     }
 }

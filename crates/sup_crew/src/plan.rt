@@ -1,10 +1,11 @@
 //! What a run is asked to do, and what it hands back.
 
+use crate::driver::Tally;
+use crate::job::Job;
 use sup_desk::{Name, UpdateFault};
 use sup_inbox::Note;
 use sup_log::Ticket;
 use sup_types::Text;
-use sup_work::Job;
 
 /// What a crew is to do.
 #[derive(Drop)]
@@ -29,20 +30,8 @@ pub struct Report<N: Name> {
     pub driver: u64,
     /// The ticket of its last update.
     pub ticket: Option<Ticket>,
-    /// How many children its updates made.
-    pub made: u64,
-    /// How many exits it entered.
-    pub exits: u64,
-    /// How many exits were answered Stray.
-    pub strays: u64,
-    /// How many exits were answered Down.
-    pub downs: u64,
-    /// How many exits were answered Restarted.
-    pub restarts: u64,
-    /// How many exits were answered GaveUp.
-    pub given_up: u64,
-    /// How many starts made no child.
-    pub refused: u64,
+    /// How many updates of each kind it made.
+    pub tally: Tally,
     /// The arguments that were not started.
     pub unstarted: Vec<Text>,
     /// The notes that were taken and not entered.

@@ -1,24 +1,27 @@
-//! Runs: the workers in their threads, and the driver.
-ghost use Rattle.std.specs.Prelude.{◌≡◌, ◌<◌, ◌≤◌, ◌^◌, IfOk, IfErr, OnErr, vec_len, MatchResult};
+//! Runs: what they need, the workers in their threads, and the driver.
+ghost use Rattle.std.specs.Prelude.{◌≡◌, ◌<◌, ◌≤◌, ◌^◌, [], IfOk, IfErr, OnErr, vec_len, vec_capacity, MatchResult};
 ghost use Rattle.sup_crew.specs.Drivers.{run_of, HasNotCalled};
 ghost use Rattle.sup_crew.specs.Reports.{IsRun, IsRunOfItsOwn};
 ghost use Rattle.sup_crew.specs.Runs.{IsRunOutcome, AreParts, AreParts-prop};
 
-use crate::closing::close;
+use crate::closing::{Buffers, close};
+use crate::crew::{Crew, Signals};
+use crate::drain::Drain;
 use crate::driver::{Driver, Tally};
+use crate::fault::CrewFault;
+use crate::job::Body;
 use crate::plan::{Plan, Report};
-use crate::prepare::{Prepared, prepare};
+use crate::queue::{Dispatcher, Endpoint, Jobs};
+use crate::worker::{Finished, join_all, start};
 use core::mem::replace_with;
 use std::alloc::Global;
 use std::sync::Wait;
 use std::thread;
 use std::thread::{Scope, Threads};
 use sup_desk::{Caller, Desk, Handle, Journal, Name, UpdateFault};
-use sup_drain::Drain;
-use sup_inbox::{Poster, Taker};
+use sup_inbox::{Inbox, Poster, Taker};
 use sup_log::Ticket;
-use sup_types::Starter;
-use sup_work::{Body, Crew, CrewFault, Dispatcher, Endpoint, Finished, join_all, start};
+use sup_types::{OutOfMemory, Starter};
 
 /// What a run is given beside its crew and its driver: an endpoint that knows all of the queue, the ends of the inbox, and room.
 #[derive(Drop)]
@@ -31,6 +34,14 @@ pub struct Parts<N: Name> {
     pub taker: Taker,
     /// Room for what the workers hand back.
     pub finished: Vec<Finished<N>>,
+}
+
+/// What a run needs. It is made before the first update: a run that has no memory for it has entered nothing.
+#[derive(Drop)]
+struct Prepared<N: Name> {
+    crew: Crew<N>,
+    parts: Parts<N>,
+    buffers: Buffers,
 }
 
 /// A run that is to begin: what its threads share, and its parts, which are of its queue and its inbox.
@@ -64,6 +75,43 @@ pub struct RunOutcome<N: Name> {
     pub finished: Vec<Finished<N>>,
 }
 
+/// Makes what a run of this plan needs.
+fn prepare<N: Name>(alloc: Global, plan: Plan) -> Result<Prepared<N>, OutOfMemory>
+    requires { (plan.workers < 1024) × (1 ≤ plan.inbox) }
+    ensures crew { IfOk result (λ p. (p.crew.children.items ≡ plan.children.items) × (p.crew.moment ≡ plan.moment) × (p.crew.inbox.capacity ≡ plan.inbox)) }
+    ensures parts { IfOk result (λ p. AreParts p.crew.jobs p.crew.inbox.id p.parts) }
+    ensures workers { IfOk result (λ p. vec_len p.parts.posters ≡ plan.workers) }
+    ensures empty { IfOk result (λ p. (p.buffers.posters.items ≡ []) × (p.buffers.unposted.items ≡ []) × (p.buffers.inbox.items ≡ []) × (p.buffers.held.items ≡ [])) }
+    ensures room { IfOk result (λ p. (plan.workers ≤ vec_capacity p.buffers.posters) × (plan.workers ≤ vec_capacity p.buffers.unposted) × (plan.inbox ≤ vec_capacity p.buffers.inbox) × (64 ≤ vec_capacity p.buffers.held)) }
+{
+    let (inbox, root) = Inbox::new(alloc, plan.inbox)?;
+    let Ok((posters, taker)) = root.split(alloc, &inbox, plan.workers) else {
+        return Err(OutOfMemory);
+    };
+    let buffers = Buffers::new(alloc, plan.workers, plan.inbox)?;
+    let finished = Vec::with_capacity(alloc, plan.workers)?;
+    let (jobs, endpoint) = Jobs::new(alloc)?;
+    let crew = Crew {
+        jobs,
+        inbox,
+        signals: Signals::new(),
+        children: plan.children,
+        turns: plan.turns,
+        moment: plan.moment,
+    };
+    let parts = Parts {
+        endpoint,
+        posters,
+        taker,
+        finished,
+    };
+    Ok(Prepared {
+        crew,
+        parts,
+        buffers,
+    })
+}
+
 /// What the driver does inside the scope of the threads.
 fn drive<'s, 'd: 's, E, N, S, P, J, B, R>(
     scope: &Scope<'s, E>,
@@ -85,12 +133,7 @@ where
     ensures place { IfErr result.1 (λ e. e ≡ CrewFault.NoHandle → ⊥) }
 {
     let Beginning { crew, parts } = run;
-    let Parts {
-        endpoint,
-        posters,
-        taker,
-        finished,
-    } = parts;
+    let (endpoint, posters) = (parts.endpoint, parts.posters);
     let (endpoint, workers) = match start(scope, rt, alloc, crew, body, desk, endpoint, posters) {
         Ok(started) => started,
         Err(fault) => return (caller, Err(fault)),
@@ -98,12 +141,12 @@ where
     let mut driver = Driver::new(
         desk.bind(caller),
         Dispatcher::new(alloc, endpoint),
-        Drain::new(taker),
+        Drain::new(parts.taker),
     );
     let (started, fault) = driver.start_all(rt, crew);
     let fault = driver.drain_all(rt, alloc, crew, crew.turns, fault);
     crew.signals.end();
-    let finished = join_all(rt, crew, body, workers, finished);
+    let finished = join_all(rt, crew, body, workers, parts.finished);
     let fault = driver.drain_all(rt, alloc, crew, 1, fault);
     let Driver {
         handle,

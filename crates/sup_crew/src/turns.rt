@@ -2,6 +2,7 @@
 ghost use Rattle.std.specs.Prelude.{◌≡◌, length, IfOk};
 ghost use mathlib.Core.List.{IsPrefix};
 
+use crate::asked::Asked;
 use sup_desk::{HandleOf, Name};
 use sup_log::Gone;
 
@@ -9,21 +10,20 @@ use sup_log::Gone;
 #[derive(Clone, Copy, Debug, PartialEq, Eq)]
 pub struct Reads {
     /// How many questions were answered.
-    pub answered: u64,
+    pub answered: Asked,
     /// The length of the handle's front after the last.
     pub last: u64,
 }
 
-/// Asks so many times how many children there are. It takes no lock and no memory.
+/// Asks that many times how many children there are. It takes no lock and no memory.
 pub fn read_turns<N: Name, D>(handle: &mut HandleOf<'_, N, D>, turns: u64) -> Result<Reads, Gone>
     ensures reads { IfOk result (λ reads. (reads.answered ≡ turns) × (reads.last ≡ length handle.new.front)) }
     ensures front { IsPrefix handle.old.front handle.new.front }
     ensures calls { (handle.new.calls ≡ handle.old.calls) × (handle.new.number ≡ handle.old.number) }
 {
-    let mut answered = 0;
-    for turn in 0..turns {
-        handle.count_children()?;
-        answered = turn + 1;
+    let mut answered = Asked::nothing();
+    for _ in 0..turns {
+        answered.ask(handle)?;
     }
     Ok(Reads {
         answered,

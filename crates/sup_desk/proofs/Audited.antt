@@ -1,5 +1,5 @@
 -- Handles that have seen a whole history, one after another.
-use Rattle.std.proofs.Common.{◌≡◌, ◌≢◌, ℕ, ◌==◌, ◌+◌, ◌<◌, List, [], ◌∷◌, ◌++◌, length, length-append, get_or, set, refl, sym, ◌∙◌, subst, arith, length-set, Bool, true, false, get_or-set_same, get_or-set_other}
+use Rattle.std.proofs.Common.{◌≡◌, ◌≢◌, ℕ, ◌==◌, ◌+◌, ◌<◌, List, [], ◌∷◌, ◌++◌, length, length-append, get_or, set, refl, sym, ◌∙◌, ap, subst, arith, length-set, Bool, true, false, get_or-set_same, get_or-set_other}
 use Rattle.std.proofs.lemmas.List.{get_or_default, get_or_append_left}
 use Rattle.std.proofs.Math.Seq.{get_or-append_seam}
 use Rattle.std.specs.Result.{OnOk, is_err}
@@ -8,8 +8,9 @@ use Rattle.std.specs.declared.result.Result.TheVariants.{Ok, Err}
 use Rattle.std.proofs.lemmas.Bool.Decides.{nat_tests}
 use Rattle.sup_types.specs.declared.history.Entry.{Entry}
 use base.Growing.{prefix_refl, prefix_trans}
-use Rattle.sup_desk.specs.Knowledge.{Knowledge}
-use Rattle.sup_desk.specs.Audits.{IsGrown, AreGrown, HasSeenAll, HaveSeenAll}
+use Rattle.sup_desk.specs.Knowledge.{Knowledge, entries_of}
+use Rattle.sup_desk.specs.Results.{HasSeenMore}
+use Rattle.sup_desk.specs.Audits.{AreNumbered, IsGrown, AreGrown, HasSeenAll, HaveSeenAll}
 
 grown_trans : (x y z : Knowledge) → IsGrown x y → IsGrown y z → IsGrown x z
 grown_trans x y z p q = record { editions = prefix_trans x.editions y.editions z.editions p.editions q.editions; front = prefix_trans x.front y.front z.front p.front q.front; calls = q.calls ∙ p.calls; number = q.number ∙ p.number }
@@ -51,11 +52,6 @@ seen_set front now i is seen within mine = λ k d below. at k d below (k == i) r
         let low : k < i = omega (arith, differ) in
         subst (λ (h : Knowledge). HasSeenAll front h) (sym (get_or-set_other now i k is d differ)) (seen k d low)
 
--- what an answer promises, where it is no error
-pub ok_by : {T E P : Type 0} (r : Result T E) → is_err r ≡ false → OnOk r P → P
-ok_by (Ok x) is p = p
-ok_by (Err e) is p = absurd (cc is)
-
 -- what holds of each handle by its place holds after one more, if it holds of that one
 pub each_more : (P : ℕ → Knowledge → Type 0) (handles : List Knowledge) (one : Knowledge) → ((k : ℕ) (d : Knowledge) → k < length handles → P k (get_or handles k d))
     → P (length handles) one → (k : ℕ) (d : Knowledge) → k < length (handles ++ one ∷ []) → P k (get_or (handles ++ one ∷ []) k d)
@@ -69,3 +65,30 @@ each_more P handles one each its k d within = at (k == length handles) refl
         let differ : k ≢ length handles = λ same. grind (arith, nat_tests) in
         let before : k < length handles = omega (arith, within, length-append handles (one ∷ []), differ) in
         subst (P k) (sym (get_or_append_left handles (one ∷ []) d k before)) (each k d before)
+
+-- the handles have their numbers still, once one of them has changed and kept its own
+pub numbered_set : (now : List Knowledge) (i : ℕ) (was is : Knowledge) → AreNumbered now → i < length now → is.number ≡ i + 1 → AreNumbered (set now i is)
+numbered_set now i was is numbered within its = λ k d below. at k d below (k == i) refl
+  where
+    at : (k : ℕ) (d : Knowledge) → k < length (set now i is) → (b : Bool) → (k == i) ≡ b → (get_or (set now i is) k d).number ≡ k + 1
+    at k d below true test =
+        let same : k ≡ i = grind (arith, nat_tests) in
+        let new : get_or (set now i is) k d ≡ is = (λ j. get_or (set now i is) (same j) d) ∙ get_or-set_same now i is d within in
+        ap (λ (h : Knowledge). h.number) new ∙ its ∙ ap (λ (n : ℕ). n + 1) (sym same)
+    at k d below false test =
+        let differ : k ≢ i = λ same. grind (arith, nat_tests) in
+        ap (λ (h : Knowledge). h.number) (get_or-set_other now i k is d differ) ∙ numbered k d (omega (arith, length-set now i is, below))
+
+-- and once they have seen more
+pub numbered_grown : (old now : List Knowledge) → AreNumbered old → AreGrown old now → AreNumbered now
+numbered_grown old now numbered grown = λ k d below.
+    let within : k < length old = omega (arith, grown.len, below) in
+    (grown.each k d within).number ∙ numbered k d within
+
+-- a handle that was given a ticket has seen more
+pub told_grown : (old now : Knowledge) → HasSeenMore old now → (now.calls ≡ old.calls) × (now.number ≡ old.number) → IsGrown old now
+told_grown old now more same = record { editions = more.editions; front = more.front; calls = same.0; number = same.1 }
+
+-- and just this history
+pub told_all : (history : List Entry) (now : Knowledge) → now.front ≡ history → entries_of now.front now.number ≡ now.calls → HasSeenAll history now
+told_all history now is own = record { front = is; calls = ap (λ (l : List Entry). entries_of l now.number) (sym is) ∙ own }

@@ -1,14 +1,11 @@
 -- The counts of the handles' entries.
-use Rattle.std.proofs.Common.{◌≡◌, ◌≢◌, ℕ, zero, suc, Bool, true, false, cond, ◌==◌, ◌+◌, ◌<◌, List, [], ◌∷◌, ◌++◌, length, get_or, set, refl, ap, sym, ◌∙◌, subst, arith, length-append, append-nil, get_or-set_same, get_or-set_other}
-use Rattle.std.proofs.Math.ListN.{get_or-append}
-use Rattle.std.proofs.Math.Seq.{get_or-append_seam}
+use Rattle.std.proofs.Common.{◌≡◌, ℕ, zero, suc, Bool, true, false, cond, ◌==◌, ◌<◌, List, [], ◌∷◌, length, get_or, refl, ap, sym, ◌∙◌, arith}
 use Rattle.std.proofs.lemmas.Bool.Decides.{nat_tests}
-use Rattle.std.proofs.lemmas.List.Elements.{All-append}
 use Rattle.std.specs.List.{All}
 use Rattle.sup_types.specs.declared.history.Entry.{Entry}
 use Rattle.sup_desk.specs.Knowledge.{entries_of}
-use Rattle.sup_desk.specs.Books.{IsMade, IsCounted}
-use Rattle.sup_desk.specs.EntryLaws.{entries-append, entries_le}
+use Rattle.sup_desk.specs.Books.{IsMade}
+use Rattle.sup_desk.specs.EntryLaws.{entries_le}
 
 -- the entries are of handles that were made
 abbrev pub AreMade : ℕ → List Entry → Type 0
@@ -38,23 +35,6 @@ entries-none made (x ∷ xs) number all past =
     let mine = first_made made x xs all in
     let differ : ¬ (x.handle ≡ number) = λ same. omega (arith, mine.1) in
     skipped (x.handle == number) x (entries_of xs number) (apart x.handle number differ) (entries-none made xs number (rest_made made x xs all) past)
-
--- one handle more
-pub counted_more : (made : ℕ) (counts : List ℕ) (history : List Entry) → length counts ≡ made → IsCounted made counts history
-    → IsCounted (made + 1) (counts ++ 0 ∷ []) history
-counted_more made counts history len counted = (
-  λ k within. at k within (k == made) refl,
-  λ k d within. let mine = counted.1 k d within in (mine.0, omega (arith, mine.1)),
-)
-  where
-    at : (k : ℕ) → k < made + 1 → (b : Bool) → (k == made) ≡ b → get_or (counts ++ 0 ∷ []) k 0 ≡ length (entries_of history (k + 1))
-    at k within true is =
-        let here : k ≡ length counts = grind (arith, nat_tests, len) in
-        ap (λ (i : ℕ). get_or (counts ++ 0 ∷ []) i 0) here ∙ get_or-append_seam counts 0 [] 0
-        ∙ sym (ap length (entries-none made history (k + 1) counted.1 (omega (arith, here, len))))
-    at k within false is =
-        let low : k < made = grind (arith, nat_tests) in
-        get_or-append counts (0 ∷ []) 0 k (omega (arith, len)) ∙ counted.0 k low
 
 -- entries that are all of one handle: each of them is, and no other handle has any
 rest_own : (x : Entry) (xs : List Entry) (number : ℕ) (b : Bool) → b ≡ true → cond b (x ∷ entries_of xs number) (entries_of xs number) ≡ x ∷ xs → entries_of xs number ≡ xs
@@ -86,34 +66,3 @@ others_none number other [] own differ = refl
 others_none number other (x ∷ xs) own differ =
     skipped (x.handle == other) x (entries_of xs other) (apart x.handle other (λ same. differ (sym same ∙ own 0 x (omega arith))))
     (others_none number other xs (λ k d within. own (suc k) d (omega (arith, within))) differ)
-
--- more entries, all of one handle
-pub counted_all : (made : ℕ) (counts : List ℕ) (history entries : List Entry) (number place : ℕ) → length counts ≡ made → IsCounted made counts history
-    → IsMade made number → number ≡ place + 1 → entries_of entries number ≡ entries
-    → IsCounted made (set counts place (get_or counts place 0 + length entries)) (history ++ entries)
-counted_all made counts history entries number place len counted mine here own = (
-  λ k within. at k within (k == place) refl,
-  All-append (λ (x : Entry). IsMade made x.handle) history entries counted.1
-      (λ k d within. subst (IsMade made) (sym (own_all number entries own k d within)) mine),
-)
-  where
-    at : (k : ℕ) → k < made → (b : Bool) → (k == place) ≡ b → get_or (set counts place (get_or counts place 0 + length entries)) k 0 ≡ length (entries_of (history ++ entries) (k + 1))
-    at k within true is =
-        let same : k ≡ place = grind (arith, nat_tests) in
-        let is_number : number ≡ k + 1 = omega (arith, same, here) in
-        let low : place < length counts = omega (arith, len) in
-        let count = counted.0 k within in
-        ap (λ (i : ℕ). get_or (set counts place (get_or counts place 0 + length entries)) i 0) same
-        ∙ get_or-set_same counts place (get_or counts place 0 + length entries) 0 low
-        ∙ ap (λ (i : ℕ). get_or counts i 0 + length entries) (sym same)
-        ∙ ap (λ (n : ℕ). n + length entries) count
-        ∙ ap (λ (l : List Entry). length (entries_of history (k + 1)) + length l) (sym (ap (entries_of entries) (sym is_number) ∙ own))
-        ∙ sym (ap length (entries-append (k + 1) history entries) ∙ length-append (entries_of history (k + 1)) (entries_of entries (k + 1)))
-    at k within false is =
-        let differ : k ≢ place = λ same. grind (arith, nat_tests) in
-        let other : ¬ (k + 1 ≡ number) = λ same. differ (omega (arith, same, here)) in
-        get_or-set_other counts place k (get_or counts place 0 + length entries) 0 differ
-        ∙ counted.0 k within
-        ∙ sym (ap length (entries-append (k + 1) history entries
-        ∙ ap (λ l. entries_of history (k + 1) ++ l) (others_none number (k + 1) entries (own_all number entries own) other)
-        ∙ append-nil (entries_of history (k + 1))))

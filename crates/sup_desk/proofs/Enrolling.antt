@@ -11,7 +11,7 @@ use Rattle.sup_desk.specs.Books.{IsMade}
 use Rattle.sup_desk.specs.Knowledge.{entries_of}
 use Rattle.sup_desk.specs.EntryLaws.{entries-append}
 use Rattle.sup_desk.proofs.Counted.{others_none, own_all}
-use Rattle.sup_desk.specs.Rolls.{keeper_view, nobody, opened, newcomer, joined, kept, handed, Fits, Enrols, Compared, Entered, Recalled}
+use Rattle.sup_desk.specs.Rolls.{keeper_view, nobody, opened, newcomer, joined, kept, handed, Fits, Enrols, Compared, Entered}
 
 abbrev Table : Type 0
 Table = State (Unit {0}) Known
@@ -205,35 +205,6 @@ enters slots id entries v knows claims own s h homes at small =
       refl,
     )
 
-abbrev more_known : List Entry → Known → Known
-more_known entries v = record { keeps = v.keeps; history = v.history ++ entries; made = v.made; claims = v.claims; number = v.number; calls = v.calls }
-
-pub recalls : (slots id : ℕ) (entries : List Entry) (v : Known) → v.keeps ≡ true → v.claims ≡ false → v.made ≡ 0
-    → Allows holds slots id (v, []) 0 (λ n. n) (Recalled entries (step slots 0 0 0 none) (v, []))
-recalls slots id entries v knows claims none_made s h homes at small =
-    let place = h.0 in let places = h.1 in let all = h.2 in let many = h.3 in
-    let mine = (h.4 id v at).0 knows in
-    let no_handle : many ≡ 0 = sym mine.2 ∙ none_made in
-    let w = more_known entries v in (
-      w,
-      keeps,
-      tt,
-      (
-        place,
-        places,
-        all ++ entries,
-        many,
-        fits_set place places (all ++ entries) many s.views id w
-            (λ j u apart e.
-            let f = h.4 j u e in (
-              (λ k. absurd (apart ((f.0 k).0 ∙ sym mine.0))),
-              (λ c. let g = f.1 c in absurd (omega (arith, g.1.0, g.1.1, no_handle))),
-            ))
-            ((λ _. (mine.0, ap (λ l. l ++ entries) mine.1, mine.2)), (λ c. absurd (off (sym claims ∙ c)))),
-      ),
-      refl,
-    )
-
 -- ---- the same of a seat whose view is known
 
 pub opens_as : (id : ℕ) (v : Known) (history : List Entry) (made : ℕ) → v ≡ keeper_view history made → Splits holds id v (opened v) (newcomer v)
@@ -251,8 +222,3 @@ pub enters_as : (slots id : ℕ) (entries : List Entry) (me : Me (Unit {0}) Know
     → Allows holds slots id me 0 (λ n. n) (Entered entries (step slots 0 0 0 none) me)
 enters_as slots id entries (v, held) knows claims own nothing =
     subst (λ l. Allows holds slots id (v, l) 0 (λ n. n) (Entered entries (step slots 0 0 0 none) (v, l))) (sym nothing) (enters slots id entries v knows claims own)
-
-pub recalls_as : (slots id : ℕ) (entries : List Entry) (me : Me (Unit {0}) Known) → me.0.keeps ≡ true → me.0.claims ≡ false → me.0.made ≡ 0 → me.1 ≡ []
-    → Allows holds slots id me 0 (λ n. n) (Recalled entries (step slots 0 0 0 none) me)
-recalls_as slots id entries (v, held) knows claims none_made nothing =
-    subst (λ l. Allows holds slots id (v, l) 0 (λ n. n) (Recalled entries (step slots 0 0 0 none) (v, l))) (sym nothing) (recalls slots id entries v knows claims none_made)

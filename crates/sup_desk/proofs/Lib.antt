@@ -4,3 +4,4 @@ pub mod Counted
 pub mod Enrolling
 pub mod Audited
 pub mod Results
+pub mod Queued

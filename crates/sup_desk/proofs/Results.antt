@@ -1,5 +1,5 @@
 -- What an update of a handle that has met the history says of the handle that asked for it.
-use Rattle.std.proofs.Common.{◌≡◌, ℕ, ◌<◌, List, [], ◌∷◌, ◌++◌, length, refl, ap, ap₂, sym, ◌∙◌, subst, arith, length-append, append-nil}
+use Rattle.std.proofs.Common.{◌≡◌, ℕ, ◌<◌, List, [], ◌∷◌, ◌++◌, length, refl, ap, ap₂, sym, ◌∙◌, subst, arith, length-append, append-nil, ◌⊎◌, inl, inr}
 use Rattle.std.specs.Result.{IfOk, IfErr, OnErr, MatchResult}
 use Rattle.std.specs.declared.result.Result.{Result}
 use Rattle.std.specs.declared.result.Result.TheVariants.{Ok, Err}
@@ -17,9 +17,10 @@ use base.Growing.{prefix_trans}
 use Rattle.sup_desk.specs.declared.laws.Done.{Done}
 use Rattle.sup_desk.specs.declared.faults.UpdateFault.{UpdateFault}
 use Rattle.sup_desk.specs.declared.faults.UpdateFault.TheVariants.{HistoryFull, OutOfMemory, Gone}
-use Rattle.sup_desk.specs.Books.{Kept, grown_by}
+use Rattle.sup_desk.specs.declared.journal.JournalFault.{JournalFault}
+use Rattle.sup_desk.specs.Books.{Kept, Written, IsLeft, grown_by}
 use Rattle.sup_desk.specs.Knowledge.{Knowledge, entries_of, with_entries, IsEntryOf, IsMet, IsUpdated}
-use Rattle.sup_desk.specs.Batches.{AreEntered, IsApplied}
+use Rattle.sup_desk.specs.Batches.{AreEntered, IsApplied, IsOneEntered}
 use Rattle.sup_desk.specs.EntryLaws.{entries-append, entries-own}
 use Rattle.sup_desk.specs.Results.{HasSeenMore, IsUpdateResult}
 
@@ -31,6 +32,48 @@ pub record HasMet (book : Kept) (before met : Knowledge) : Type 0 where
   pub own : entries_of met.front met.number ≡ met.calls
   pub seen : HasSeenMore before met
   pub calls : (met.calls ≡ before.calls) × (met.number ≡ before.number)
+
+-- the book of a transaction
+abbrev pub book_of : Written → Kept
+book_of t = record { editions = t.editions; history = t.published; made = t.made; handles = t.handles; fault = t.fault }
+
+-- the handle, once it has seen all of the book
+abbrev pub seen_all : Kept → Knowledge → Knowledge
+seen_all book handle = record { number = handle.number; editions = book.editions; front = book.history; calls = handle.calls }
+
+pub has_met : (book : Kept) (before : Knowledge) → book.history ≡ history_of book.editions → entries_of book.history before.number ≡ before.calls
+    → IsPrefix before.front book.history → IsPrefix before.editions book.editions → HasMet book before (seen_all book before)
+has_met book before whole own front editions = record {
+  front = refl;
+  editions_are = refl;
+  whole = whole;
+  own = own;
+  seen = record { editions = editions; front = front };
+  calls = (refl, refl);
+}
+
+-- what a refused update leaves has the same history
+left_same : (may_fail : JournalFault → Type 0) (book left : Kept) (fault : UpdateFault) → IsLeft may_fail book fault left
+    → (left.history ≡ book.history) × (left.editions ≡ book.editions)
+left_same may_fail book left fault (inl same) = (ap (λ (k : Kept). k.history) same.0, ap (λ (k : Kept). k.editions) same.0)
+left_same may_fail book left fault (inr broken) = (ap (λ (k : Kept). k.history) broken.2, ap (λ (k : Kept). k.editions) broken.2)
+
+-- what the caller of an update had seen begins what there is then
+pub one_covered : (may : Text → ℕ → Answer → Type 0) (may_fail : JournalFault → Type 0) (template : Template) (book left : Kept) (before after : Knowledge) (operation : Operation)
+    (moment : ℕ) (result : Result Reply UpdateFault) → IfOk result (λ reply. IsOneEntered may template book before operation moment reply left after)
+    → OnErr result (after ≡ before) → IfErr result (λ e. IsLeft may_fail book e left) → IsPrefix before.front book.history → IsPrefix before.editions book.editions
+    → IsPrefix after.front left.history × IsPrefix after.editions left.editions
+one_covered may may_fail template book left before after operation moment (Ok reply) (entry, _, _, is, after_is) kept stays front editions = (
+  subst (λ (x : Kept × Knowledge). IsPrefix x.1.front x.0.history) (λ i. (sym is i, sym after_is i))
+      (prefix_trans before.front book.history (book.history ++ entry ∷ []) front (entry ∷ [], refl)),
+  subst (λ (x : Kept × Knowledge). IsPrefix x.1.editions x.0.editions) (λ i. (sym is i, sym after_is i))
+      (prefix_trans before.editions book.editions (book.editions ++ in_one_step (entry ∷ [])) editions (in_one_step (entry ∷ []), refl)),
+)
+one_covered may may_fail template book left before after operation moment (Err e) entered kept stays front editions =
+    let same = left_same may_fail book left e stays in (
+      subst (λ (x : List Entry × Knowledge). IsPrefix x.1.front x.0) (λ i. (sym same.0 i, sym kept i)) front,
+      subst (λ (x : List Publication × Knowledge). IsPrefix x.1.editions x.0) (λ i. (sym same.1 i, sym kept i)) editions,
+    )
 
 module _ (may : Text → ℕ → Answer → Type 0) (template : Template) (press : Book) (book : Kept) (before met after : Knowledge) (moment : ℕ) (has : HasMet book before met) where
   pub is_met : IsMet before book.editions book.history

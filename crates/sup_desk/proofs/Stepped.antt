@@ -1,11 +1,8 @@
 -- A press that has stepped all that is pending.
-use Rattle.std.proofs.Common.{◌≡◌, List, [], ◌∷◌, ◌++◌, length, take, Some, slice_get, refl, ap, sym, ◌∙◌, arith, append-nil}
+use Rattle.std.proofs.Common.{◌≡◌, List, [], ◌∷◌, ◌++◌, ◌+◌, length, take, Some, slice_get, refl, ap, sym, ◌∙◌, arith, append-nil}
 use Rattle.std.proofs.lemmas.List.{take_all, take_at}
 use Rattle.sup_types.specs.declared.history.Entry.{Entry}
 use Rattle.sup_log.specs.Tokens.{Record, so_far}
-
-pub all_stepped : (r : Record) → r.stepped ≡ length r.pending → so_far r ≡ r.published ++ r.pending
-all_stepped r is = ap (λ l. r.published ++ l) (take_all r.stepped r.pending (omega (arith, is)))
 
 -- with one entry more, which is not stepped
 abbrev pub with : Record → Entry → Record
@@ -21,5 +18,6 @@ at_end (x ∷ xs) entry = at_end xs entry
 pub the_last : (r : Record) (entry : Entry) → r.stepped ≡ length r.pending → slice_get (r.pending ++ entry ∷ []) r.stepped ≡ Some entry
 the_last r entry is = ap (slice_get (r.pending ++ entry ∷ [])) is ∙ at_end r.pending entry
 
-pub none_stepped : (r : Record) → r.pending ≡ [] → so_far r ≡ r.published
-none_stepped r none = ap (λ l. r.published ++ take r.stepped l) none ∙ ap (λ l. r.published ++ l) (take_all r.stepped [] (omega arith)) ∙ append-nil r.published
+-- one more is stepped
+abbrev pub stepped : Record → Record
+stepped r = record { press = r.press; template = r.template; editions = r.editions; published = r.published; pending = r.pending; stepped = r.stepped + 1; is_out = r.is_out }

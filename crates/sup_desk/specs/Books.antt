@@ -1,15 +1,13 @@
 -- What stands under the lock, and when it is consistent.
-use Rattle.std.specs.Prelude.{◌≡◌, ℕ, ◌+◌, Bool, List, [], ◌++◌, length, slice_index, ◌<◌, ◌≤◌, ◌⊎◌, Option, Some, None, ⊤}
-use Rattle.std.specs.List.{All}
+use Rattle.std.specs.Prelude.{◌≡◌, ℕ, ◌+◌, List, [], ◌∷◌, ◌++◌, ◌≤◌, ◌⊎◌, Option, Some, None, ⊤}
 use Rattle.logbook.specs.Pages.{Book}
 use Rattle.atomic_table.specs.Seated.{TableId}
 use Rattle.sup_types.specs.declared.template.Template.{Template}
 use Rattle.sup_types.specs.declared.history.Entry.{Entry}
-use Rattle.sup_log.specs.Tokens.{Publication, in_one_step}
+use Rattle.sup_log.specs.Tokens.{Publication, Record, in_one_step}
 use Rattle.sup_desk.specs.declared.journal.JournalFault.{JournalFault}
 use Rattle.sup_desk.specs.declared.faults.UpdateFault.{UpdateFault}
 use Rattle.sup_desk.specs.declared.faults.UpdateFault.TheVariants.{Gone, Journal}
-use Rattle.sup_desk.specs.Knowledge.{entries_of}
 
 -- the name of no press
 abbrev pub no_press : Book
@@ -35,7 +33,7 @@ pub record Kept : Type 0 where
   pub handles : ℕ
   pub fault : Option JournalFault
 
--- the same with entries that are not yet published, and whether the copy that steps them is taken out of lenses' reach
+-- the same with entries that are not yet published
 pub record Written : Type 0 where
   pub editions : List Publication
   pub published : List Entry
@@ -43,7 +41,6 @@ pub record Written : Type 0 where
   pub made : ℕ
   pub handles : ℕ
   pub fault : Option JournalFault
-  pub is_out : Bool
 
 -- the book, after these entries in one publication
 abbrev pub grown_by : Kept → List Entry → Kept
@@ -73,13 +70,11 @@ IsClean (Some fault) pending = ⊤
 abbrev pub IsMade : ℕ → ℕ → Type 0
 IsMade made number = (1 ≤ number) × (number ≤ made)
 
--- the count of each handle is the number of its entries, and each entry is of a handle that was made
-abbrev pub IsCounted : ℕ → List ℕ → List Entry → Type 0
-IsCounted made counts history =
-    ((k : ℕ) → k < made → slice_index counts k ≡ length (entries_of history (k + 1)))
-    × All (λ entry. IsMade made entry.handle) history
-
 -- what is written, with these entries too
 abbrev pub with_pending : Written → List Entry → Written
-with_pending leaf entries =
-    record { editions = leaf.editions; published = leaf.published; pending = leaf.pending ++ entries; made = leaf.made; handles = leaf.handles; fault = leaf.fault; is_out = leaf.is_out }
+with_pending before entries =
+    record { editions = before.editions; published = before.published; pending = before.pending ++ entries; made = before.made; handles = before.handles; fault = before.fault }
+
+-- a press with one entry more, which it has stepped
+abbrev pub stepped_with : Record → Entry → Record
+stepped_with r entry = record { press = r.press; template = r.template; editions = r.editions; published = r.published; pending = r.pending ++ entry ∷ []; stepped = r.stepped + 1; is_out = r.is_out }

@@ -4,7 +4,6 @@ pub mod Rolls
 pub mod Journals
 pub mod Faults
 pub mod Asking
-pub mod Tallies
 pub mod Batches
 pub mod Audits
 pub mod Recoveries

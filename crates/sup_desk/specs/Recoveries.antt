@@ -8,7 +8,7 @@ use Rattle.sup_desk.specs.declared.recovery.RecoverFault.TheVariants as recover
 use Rattle.sup_desk.specs.Books.{IsMade}
 
 -- what was entered of a history of before, how many handles it has, and how many there may be
-pub record Drafted : Type 0 where
+pub record Recalled : Type 0 where
   pub history : List Entry
   pub made : ℕ
   pub handles : ℕ

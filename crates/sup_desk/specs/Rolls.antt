@@ -81,9 +81,3 @@ abbrev pub Entered : List Entry → Step (Unit {0}) → Me (Unit {0}) Known → 
 Entered entries step before found after =
     let v : Known = before.0 in
     (after ≡ (record { keeps = v.keeps; history = v.history ++ entries; made = v.made; claims = v.claims; number = v.number; calls = v.calls ++ entries }, before.1))
-
--- these entries are added to all that was entered
-abbrev pub Recalled : List Entry → Step (Unit {0}) → Me (Unit {0}) Known → ℕ → Me (Unit {0}) Known → Type 0
-Recalled entries step before found after =
-    let v : Known = before.0 in
-    (after ≡ (record { keeps = v.keeps; history = v.history ++ entries; made = v.made; claims = v.claims; number = v.number; calls = v.calls }, before.1))

@@ -6,7 +6,7 @@ ghost use Rattle.sup_core.specs.Queries.{which, count, child};
 ghost use Rattle.sup_log.specs.Tokens.{sight, history_of};
 ghost use Rattle.sup_desk.specs.Asking.{IsAnswered};
 
-use crate::answers::{child_seen, counts_seen, inspect_by, rows_seen, tally_seen};
+use crate::answers::{child_seen, counts_seen, inspected, rows_seen};
 use crate::faults::QueryFault;
 use crate::name::Name;
 use std::marker::{Model, PhantomData};
@@ -68,8 +68,7 @@ impl<N: Name> Asker<N> {
         ensures editions { IsPrefix self.old.editions self.new.editions }
         ensures answer { IfOk result (λ answer. answer ≡ count N.template self.new.front) }
     {
-        let kind = self.lens.template().kind;
-        Ok(counts_seen(kind, self.lens.look(|view| tally_seen(view))?))
+        self.lens.look(|view| counts_seen(view))
     }
 
     /// The listed child with this number at such a front.
@@ -102,7 +101,7 @@ impl<N: Name> Asker<N> {
         ensures answer { let view = sight (record { press = N.press; template = N.template; editions = self.new.editions; front = self.new.front })
             in IfOk result (λ seen. IsAnswered F.FnOnce f view view.standing.down seen) }
     {
-        inspect_by(&mut self.lens, f)
+        self.lens.look(|view| inspected(view, f))
     }
 
     /// From now on its front begins with the ticket's, which is of the same desk. It enters nothing and always succeeds.

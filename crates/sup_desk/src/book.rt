@@ -1,20 +1,19 @@
 //! The book: what stands under the lock.
-ghost use Rattle.std.specs.Prelude.{◌≡◌};
+ghost use Rattle.std.specs.Prelude.{◌≡◌, [], None};
 ghost use Rattle.sup_desk.specs.Books.{IsClean};
 ghost use Rattle.sup_desk.specs.Journals.{HasJust};
 
-use crate::journal::Journal;
-use crate::leaf::{Closed, Leaf};
+use crate::journal::{Journal, NoJournal};
 use crate::name::Name;
+use crate::transaction::{Closed, Transaction};
 use std::marker::Model;
 use std::sync::Wait;
 
-/// What stands under the lock: the press with nothing pending, the journal, which has recorded just what was published, and how
-/// many entries each handle has made. It is so whenever the lock is free, as long as the journal does not break off. What was
-/// pending then is never published.
+/// What is under the lock: a transaction with nothing pending, whose journal has recorded just what is published, as long as the journal
+/// does not break off. What was pending then is never published.
 #[derive(Drop)]
 pub struct Book<N: Name, R: Wait + Drop, J: Journal + Drop> {
-    pub(crate) leaf: Leaf<N, R, J>,
+    pub(crate) transaction: Transaction<N, R, J>,
 }
 
 impl<N: Name, R: Wait + Drop, J: Journal + Drop> Model for Book<N, R, J> {
@@ -22,26 +21,32 @@ impl<N: Name, R: Wait + Drop, J: Journal + Drop> Model for Book<N, R, J> {
 
     ghost Value = { Kept };
 
-    ghost view = { λ b. record { editions = b.leaf.editions; history = b.leaf.published; made = b.leaf.made; handles = b.leaf.handles; fault = b.leaf.fault } };
+    ghost view = { λ b. record { editions = b.transaction.editions; history = b.transaction.published; made = b.transaction.made; handles = b.transaction.handles; fault = b.transaction.fault } };
 
-    ghost invariant = { λ b. IsClean b.leaf.fault b.leaf.pending };
+    ghost invariant = { λ b. IsClean b.transaction.fault b.transaction.pending };
+}
+
+impl<N: Name, R: Wait + Drop> Book<N, R, NoJournal> {
+    /// Returns the same with this journal, which has recorded all of the history.
+    pub(crate) fn with_journal<J: Journal + Drop>(self, journal: J) -> Book<N, R, J>
+        requires going { self.fault ≡ None }
+        requires journal { J.has journal N.template self.history [] }
+        ensures { result ≡ self }
+    {
+        let Book { transaction } = self;
+        Book {
+            transaction: transaction.with_journal(journal),
+        }
+    }
 }
 
 impl<N: Name, R: Wait + Drop, J: Journal + Drop> Book<N, R, J> {
-    /// A book of this leaf, on which nothing is pending.
-    pub(crate) fn of(leaf: Leaf<N, R, J>) -> Book<N, R, J>
-        requires { IsClean leaf.fault leaf.pending }
-        ensures { result ≡ record { editions = leaf.editions; history = leaf.published; made = leaf.made; handles = leaf.handles; fault = leaf.fault } }
-    {
-        Book { leaf }
-    }
-
-    /// Ends the book: what is left of it.
+    /// Ends the book, and returns what is left of it.
     pub(crate) fn close(self) -> Closed<J>
         ensures ticket { result.ticket ≡ record { press = N.press; editions = self.editions; front = self.history } }
         ensures journal { HasJust (J.has result.journal N.template) (J.is_torn result.journal N.template) J.may_fail result.fault self.history }
     {
-        let Book { leaf } = self;
-        leaf.close()
+        let Book { transaction } = self;
+        transaction.close()
     }
 }

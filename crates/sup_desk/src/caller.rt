@@ -1,5 +1,5 @@
 //! Callers: what a handle carries apart from its desk.
-ghost use Rattle.std.specs.Prelude.{◌≡◌};
+ghost use Rattle.std.specs.Prelude.{◌≡◌, length};
 
 use crate::asker::Asker;
 use crate::name::Name;
@@ -26,7 +26,7 @@ impl<N: Name> Model for Caller<N> {
 }
 
 impl<N: Name> Caller<N> {
-    /// The caller with this claim, which has seen what the asker has.
+    /// Returns the caller with this claim, which has seen what the asker has.
     pub(crate) fn begin(claim: Claim, asker: Asker<N>) -> Caller<N>
         requires { claim.roll ≡ N.roll }
         ensures { result ≡ record { number = claim.number; editions = asker.editions; front = asker.front; calls = claim.calls } }
@@ -34,10 +34,17 @@ impl<N: Name> Caller<N> {
         Caller { claim, asker }
     }
 
-    /// Its number: 1, 2, 3, .. in the order of making. No other caller of its desk has it.
+    /// Returns its number: 1, 2, 3, .. in the order of making. No other caller of its desk has it.
     pub fn number(&self) -> u64
         ensures { result ≡ self.now.number }
     {
         self.claim.number()
+    }
+
+    /// Returns how many calls it has made.
+    pub(crate) fn calls(&self) -> u64
+        ensures { result ≡ length self.now.calls }
+    {
+        self.claim.count()
     }
 }

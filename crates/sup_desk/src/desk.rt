@@ -14,10 +14,10 @@ use crate::ground::Ground;
 use crate::handle::HandleOf;
 use crate::journal::{Journal, NoJournal};
 use crate::laws::{add_asker, add_handle, audit};
-use crate::leaf::Closed;
 use crate::name::Name;
-use crate::recovery::{RecoverFault, recover_leaf};
-use std::sync::{Mutex, MutexGuard, Wait};
+use crate::recovery::{RecoverFault, Recovery};
+use crate::transaction::Closed;
+use std::sync::{Mutex, Wait};
 use sup_log::{NoPlace, Ticket};
 use sup_types::{Entry, Starter};
 
@@ -55,7 +55,7 @@ impl<N: Name, S: Starter + Drop, R: Wait + Drop, J: Journal + Drop> Desk<N, S, R
         requires journal { J.has journal N.template [] [] }
     {
         Desk {
-            book: Mutex::new(Book::of(ground.leaf().with_journal(journal))),
+            book: Mutex::new(ground.book(journal)),
             starter,
         }
     }
@@ -79,19 +79,11 @@ impl<N: Name, S: Starter + Drop, R: Wait + Drop, J: Journal + Drop> Desk<N, S, R
             × All (λ entry. IsMade (length r.callers.items) entry.handle) entries.now) }
         ensures err { IfErr result (λ f. IsCauseOf f N.template ground.handles entries.now) }
     {
-        let (leaf, callers) = recover_leaf(ground, entries)?;
-        let ticket = leaf.tell();
-        // (each entry is of one of these)
-        let _ = leaf.made();
-        let desk = Desk {
-            book: Mutex::new(Book::of(leaf.with_journal(journal))),
-            starter,
-        };
-        Ok(Recovered {
-            desk,
-            ticket,
-            callers,
-        })
+        let mut recovery = Recovery::begin(ground)?;
+        for entry in entries {
+            recovery.enter(*entry)?;
+        }
+        Ok(recovery.finish(starter, journal))
     }
 
     /// Ends the desk: a ticket for all of its history, and the journal. The journal has recorded just this history, unless it
@@ -107,16 +99,6 @@ impl<N: Name, S: Starter + Drop, R: Wait + Drop, J: Journal + Drop> Desk<N, S, R
         book.into_inner().close()
     }
 
-    /// The book, once nobody else has it.
-    // (Tried first, since what waits saves registers, and is followed by a look at the flag of those that stopped.)
-    #[inline(always)]
-    pub(crate) fn locked<W: Wait>(&self, rt: &W) -> MutexGuard<'_, Book<N, R, J>> {
-        match self.book.try_lock() {
-            Some(book) => book,
-            None => self.book.lock(rt),
-        }
-    }
-
     /// Returns a handle that has seen all of the history and made no call. It waits for the lock, and for no query. After a refusal nothing
     /// has changed. NoHandle once as many handles were made as the ground allows; NoPlace only if handles and askers have all of its places.
     /// One that is dropped gives its place back.
@@ -130,7 +112,7 @@ impl<N: Name, S: Starter + Drop, R: Wait + Drop, J: Journal + Drop> Desk<N, S, R
     pub fn bind(&self, caller: Caller<N>) -> HandleOf<'_, N, Desk<N, S, R, J>>
         ensures { result ≡ caller }
     {
-        HandleOf::of(caller, self)
+        HandleOf { caller, desk: self }
     }
 
     /// Returns an asker, which is no handle: it asks, and no audit counts it. It takes one of the places that handles take, too, and

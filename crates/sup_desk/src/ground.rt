@@ -1,30 +1,30 @@
 //! Grounds: the parts of a book that has no name yet.
-ghost use Rattle.std.specs.Prelude.{◌≡◌, ◌≤◌, ◌↔◌, [], IfOk, None};
+ghost use Rattle.std.specs.Prelude.{◌≡◌, ◌≤◌, ◌↔◌, [], IfOk, None, vec_len, vec_capacity};
 
-use crate::draft::Draft;
+use crate::book::Book;
+use crate::caller::Caller;
 use crate::faults::DeskFault;
-use crate::journal::NoJournal;
-use crate::leaf::Leaf;
+use crate::journal::Journal;
 use crate::name::Name;
 use crate::roll::Roll;
-use std::alloc::Global;
+use crate::transaction::Transaction;
+use std::alloc::{AllocError, Global};
 use std::marker::Model;
 use std::sync::Wait;
 use sup_log::Press;
 use sup_types::Template;
 
-/// The parts of a book that has no name yet: its press, its roll, and room for the counts of the handles of a history of
-/// before.
+/// The parts of a book that has no name yet: its press, its roll, and how many handles it may have.
 #[derive(Drop)]
 pub struct Ground<R: Wait + Drop> {
     press: Press<R>,
     roll: Roll,
-    counts: Vec<u64>,
     handles: u64,
+    alloc: Global,
 }
 
 impl<R: Wait + Drop> Model for Ground<R> {
-    ghost use Rattle.std.specs.Prelude.{◌≡◌, ◌≤◌, [], vec_len, vec_capacity};
+    ghost use Rattle.std.specs.Prelude.{◌≡◌, ◌≤◌, []};
     ghost use Rattle.sup_desk.specs.Books.{Plot};
 
     ghost Value = { Plot };
@@ -32,7 +32,7 @@ impl<R: Wait + Drop> Model for Ground<R> {
     ghost view = { λ g. record { press = g.press.press; template = g.press.template; roll = g.roll.id; handles = g.handles } };
 
     ghost invariant = { λ g. (g.press.pending ≡ []) × (g.press.published ≡ []) × (g.press.editions ≡ [])
-        × (g.press.stepped ≡ 0) × (g.roll.history ≡ []) × (g.roll.made ≡ 0) × (vec_len g.counts ≡ 0) × (g.handles ≤ vec_capacity g.counts) × (g.handles ≤ 1024) };
+        × (g.press.stepped ≡ 0) × (g.roll.history ≡ []) × (g.roll.made ≡ 0) × (g.handles ≤ 1024) };
 }
 
 impl<R: Wait + Drop> Ground<R> {
@@ -52,9 +52,6 @@ impl<R: Wait + Drop> Ground<R> {
         if handles == 0 || handles > 1024 {
             return Err(DeskFault::BadTemplate);
         }
-        let Ok(counts) = Vec::with_capacity(alloc, handles as usize) else {
-            return Err(DeskFault::OutOfMemory);
-        };
         let Ok(roll) = Roll::new(alloc) else {
             return Err(DeskFault::OutOfMemory);
         };
@@ -62,39 +59,34 @@ impl<R: Wait + Drop> Ground<R> {
             Ok(press) => Ok(Ground {
                 press,
                 roll,
-                counts,
                 handles,
+                alloc,
             }),
             Err(_) => Err(DeskFault::OutOfMemory),
         }
     }
 
-    /// The leaf of this ground, which N names: nothing is written, and no handle was made.
-    pub(crate) fn leaf<N: Name>(self) -> Leaf<N, R, NoJournal>
-        requires { (self.press ≡ N.press) × (self.template ≡ N.template) × (self.roll ≡ N.roll) }
-        ensures { result ≡ record { editions = []; published = []; pending = []; made = 0; handles = self.handles; fault = None; is_out = result.is_out } }
+    /// Returns an empty list with room for the callers of all handles that there may be.
+    pub(crate) fn room<N: Name>(&self) -> Result<Vec<Caller<N>>, AllocError>
+        ensures { IfOk result (λ c. (c.items ≡ []) × (vec_len c ≡ 0) × (self.now.handles ≤ vec_capacity c)) }
     {
-        let Ground {
-            press,
-            roll,
-            handles,
-            counts: _,
-        } = self;
-        Leaf::begin(press, NoJournal, roll, 0, handles)
+        Vec::with_capacity(self.alloc, self.handles as usize)
     }
 
-    /// The draft of this ground, which N names, and its roll: nothing is entered.
-    pub(crate) fn draft<N: Name>(self) -> (Draft<N, R>, Roll)
-        requires { (self.press ≡ N.press) × (self.template ≡ N.template) × (self.roll ≡ N.roll) }
-        ensures draft { result.0 ≡ record { history = []; made = 0; handles = self.handles } }
-        ensures roll { result.1 ≡ record { id = N.roll; history = []; made = 0 } }
+    /// Returns the book of this ground, which N names: nothing is written, and no handle was made.
+    pub(crate) fn book<N: Name, J: Journal + Drop>(self, journal: J) -> Book<N, R, J>
+        requires name { (self.press ≡ N.press) × (self.template ≡ N.template) × (self.roll ≡ N.roll) }
+        requires journal { J.has journal N.template [] [] }
+        ensures { result ≡ record { editions = []; history = []; made = 0; handles = self.handles; fault = None } }
     {
         let Ground {
             press,
             roll,
-            counts,
             handles,
+            alloc: _,
         } = self;
-        (Draft::begin(press, counts, handles), roll)
+        Book {
+            transaction: Transaction::begin(press, journal, roll, handles),
+        }
     }
 }

@@ -1,27 +1,22 @@
 //! Handles: the callers of a desk.
-ghost use Rattle.std.specs.Prelude.{◌≡◌, ◌<◌, ◌≤◌, ◌⊎◌, ◌++◌, [], length, take, drop, IfOk, IsOk, OnOk, OnErr, IfErr, IfSome, IfNone, IsTrue, ◌↔◌, Some, None, true};
+ghost use Rattle.std.specs.Prelude.{◌≡◌, ◌<◌, ◌≤◌, ◌⊎◌, [], length, take, drop, IfOk, IsOk, OnOk, IfErr, IfSome, IfNone, IsTrue, ◌↔◌, Some, None, true};
 ghost use mathlib.Core.List.{IsPrefix};
 ghost use Rattle.sup_core.specs.State.{MatchSeen};
 ghost use Rattle.sup_core.specs.Queries.{which, count, child};
-ghost use Rattle.sup_log.specs.Tokens.{sight, history_of, in_one_step};
+ghost use Rattle.sup_log.specs.Tokens.{sight, history_of};
 ghost use Rattle.sup_desk.specs.Asking.{IsAnswered};
-ghost use Rattle.sup_desk.specs.Knowledge.{entries_of, with_entries};
+ghost use Rattle.sup_desk.specs.Knowledge.{entries_of};
 ghost use Rattle.sup_desk.specs.Batches.{IsApplied};
 ghost use Rattle.sup_desk.specs.declared.journal.JournalFault.{JournalFault};
-ghost use Rattle.sup_desk.specs.Books.{IsMade};
-ghost use Rattle.sup_desk.specs.Results.{HasSeenMore, IsUpdateResult};
-ghost use Rattle.sup_desk.specs.Audits.{AreNumbered, IsGrown, HasSeenAll};
+ghost use Rattle.sup_desk.specs.Results.{IsUpdateResult};
+ghost use Rattle.sup_desk.specs.Audits.{AreNumbered};
 
-use crate::asker::Asker;
-use crate::book::Book;
 use crate::caller::Caller;
 use crate::desk::Desk;
 use crate::faults::{QueryFault, UpdateFault};
-use crate::journal::{Journal, JournalFault, NoJournal};
+use crate::journal::{Journal, NoJournal};
 use crate::laws::{Done, Rest, enter, enter_all, give_ticket};
-use crate::leaf::Leaf;
 use crate::name::Name;
-use crate::roll::Claim;
 use std::alloc::{Allocator, Global};
 use std::collections::VecDeque;
 use std::marker::Model;
@@ -50,8 +45,7 @@ pub struct Part<A: Allocator = Global> {
 /// thread. Its queries are its asker's: they take no lock, and each is proved to return.
 #[derive(Drop)]
 pub struct HandleOf<'d, N: Name, D> {
-    pub(crate) claim: Claim,
-    pub(crate) asker: Asker<N>,
+    pub(crate) caller: Caller<N>,
     pub(crate) desk: &'d D,
 }
 
@@ -59,14 +53,11 @@ pub struct HandleOf<'d, N: Name, D> {
 pub type Handle<'d, N, S, R, J = NoJournal> = HandleOf<'d, N, Desk<N, S, R, J>>;
 
 impl<'d, N: Name, D> Model for HandleOf<'d, N, D> {
-    ghost use Rattle.std.specs.Prelude.{◌≡◌};
     ghost use Rattle.sup_desk.specs.Knowledge.{Knowledge};
 
     ghost Value = { Knowledge };
 
-    ghost view = { λ h. record { number = h.claim.number; editions = h.asker.editions; front = h.asker.front; calls = h.claim.calls } };
-
-    ghost invariant = { λ h. h.claim.roll ≡ N.roll };
+    ghost view = { λ h. h.caller };
 }
 
 /// Updates. Each waits for the lock, learns all that is published, and is entered in the history at once: its reply is
@@ -146,7 +137,7 @@ impl<'d, N: Name, S: Starter + Drop, R: Wait + Drop, J: Journal + Drop> HandleOf
     {
         let desk = self.desk;
         enter(
-            &mut *desk.locked(rt),
+            &mut *desk.book.lock(rt),
             &desk.starter,
             self,
             moment,
@@ -191,7 +182,7 @@ impl<'d, N: Name, S: Starter + Drop, R: Wait + Drop, J: Journal + Drop> HandleOf
         };
         let desk = self.desk;
         let entered = enter_all(
-            &mut *desk.locked(rt),
+            &mut *desk.book.lock(rt),
             &desk.starter,
             self,
             moment,
@@ -208,15 +199,8 @@ impl<'d, N: Name, S: Starter + Drop, R: Wait + Drop, J: Journal + Drop> HandleOf
             fault,
         })
     }
-}
 
-/// Tickets.
-impl<'d, N: Name, S: Starter + Drop, R: Wait + Drop, J: Journal + Drop> HandleOf<
-    'd,
-    N,
-    Desk<N, S, R, J>,
-> {
-    /// A ticket for all of the history, which the handle has then seen. Its calls are all that stand there under its
+    /// Gives a ticket for all of the history, which the handle has then seen. Its calls are all that stand there under its
     /// number. It waits for the lock.
     pub fn ticket<W: Wait>(&mut self, rt: &W) -> Ticket
         ensures ticket { result ≡ record { press = N.press; editions = self.new.editions; front = self.new.front } }
@@ -226,16 +210,7 @@ impl<'d, N: Name, S: Starter + Drop, R: Wait + Drop, J: Journal + Drop> HandleOf
         ensures calls { (self.new.calls ≡ self.old.calls) × (self.new.number ≡ self.old.number) }
     {
         let desk = self.desk;
-        give_ticket(&mut *desk.book.lock(rt), self)
-    }
-
-    /// Lets the handle see all of the history of this book.
-    pub(crate) fn see_all(&mut self, book: &mut Book<N, R, J>)
-        ensures seen { HasSeenAll book.old.history self.new }
-        ensures grown { IsGrown self.old self.new }
-        ensures same { book.new ≡ book.old }
-    {
-        give_ticket(book, self);
+        give_ticket(&mut *desk.book.lock(rt), &mut self.caller)
     }
 }
 
@@ -245,77 +220,15 @@ impl<'d, N: Name, D> HandleOf<'d, N, D> {
     pub fn number(&self) -> u64
         ensures { result ≡ self.now.number }
     {
-        self.claim.number()
+        self.caller.number()
     }
 
     /// The handle without its desk, and the desk.
     pub fn unbind(self) -> (Caller<N>, &'d D)
         ensures { result.0 ≡ self.entry }
     {
-        let HandleOf { claim, asker, desk } = self;
-        (Caller { claim, asker }, desk)
-    }
-
-    /// The handle of this desk that the caller was.
-    pub(crate) fn of(caller: Caller<N>, desk: &'d D) -> HandleOf<'d, N, D>
-        ensures { result ≡ caller }
-    {
-        let Caller { claim, asker } = caller;
-        HandleOf { claim, asker, desk }
-    }
-
-    /// How many calls it has made.
-    pub(crate) fn calls(&self) -> u64
-        ensures { result ≡ length self.now.calls }
-    {
-        self.claim.count()
-    }
-
-    /// Lets the handle see all that is published. Its calls are all of it that stands under its number. A ticket for it.
-    pub(crate) fn meet<R: Wait + Drop, J: Journal + Drop>(
-        &mut self,
-        leaf: &mut Leaf<N, R, J>,
-    ) -> Ticket
-        ensures front { self.new.front ≡ leaf.old.published }
-        ensures editions { self.new.editions ≡ leaf.old.editions }
-        ensures own { entries_of leaf.old.published self.new.number ≡ self.new.calls }
-        ensures made { IsMade leaf.old.made self.new.number }
-        ensures whole { leaf.old.published ≡ history_of leaf.old.editions }
-        ensures within { length leaf.old.published ≤ N.template.entries }
-        ensures ticket { result ≡ record { press = N.press; editions = leaf.old.editions; front = leaf.old.published } }
-        ensures seen { HasSeenMore self.old self.new }
-        ensures calls { (self.new.calls ≡ self.old.calls) × (self.new.number ≡ self.old.number) }
-        ensures same { leaf.new ≡ leaf.old }
-    {
-        let told = leaf.tell();
-        let _ = self.asker.learn(&told);
-        leaf.covers(self.asker.told());
-        leaf.meet(&mut self.claim);
-        told
-    }
-
-    /// Has what is pending, all of which is its own, recorded and published.
-    #[inline(always)]
-    pub(crate) fn commit<R: Wait + Drop, J: Journal + Drop>(
-        &mut self,
-        leaf: &mut Leaf<N, R, J>,
-    ) -> Result<(), JournalFault>
-        requires ready { leaf.old.is_out ≡ true }
-        requires going { leaf.old.fault ≡ None }
-        requires front { (self.old.front ≡ leaf.old.published) × (self.old.editions ≡ leaf.old.editions) }
-        requires own { entries_of leaf.old.published self.old.number ≡ self.old.calls }
-        requires made { IsMade leaf.old.made self.old.number }
-        requires mine { entries_of leaf.old.pending self.old.number ≡ leaf.old.pending }
-        ensures leaf { OnOk result (leaf.new ≡ record leaf.old { editions = leaf.old.editions ++ in_one_step leaf.old.pending; published = leaf.old.published ++ leaf.old.pending; pending = []; is_out = leaf.new.is_out }) }
-        ensures within { OnOk result (length leaf.new.published ≤ N.template.entries) }
-        ensures handle { OnOk result (self.new ≡ with_entries self.old leaf.old.editions leaf.old.published leaf.old.pending) }
-        ensures err { IfErr result (λ f. (leaf.new ≡ record leaf.old { fault = Some f }) × J.may_fail f) }
-        ensures kept { OnErr result (self.new ≡ self.old) }
-    {
-        leaf.commit(&mut self.claim)?;
-        let ticket = leaf.tell();
-        let _ = self.asker.learn(&ticket);
-        Ok(())
+        let HandleOf { caller, desk } = self;
+        (caller, desk)
     }
 
     /// Whether these are handle 1, handle 2, .., in the order of making, as an audit asks for them.
@@ -336,42 +249,40 @@ impl<'d, N: Name, D> HandleOf<'d, N, D> {
         ensures front { result ≡ length self.now.front }
         ensures whole { self.now.front ≡ history_of self.now.editions }
     {
-        self.asker.front()
+        self.caller.asker.front()
     }
 
-    /// How many children there are at one front, which begins with all that the handle had seen, learnt or done.
+    /// Asks as [`Asker::count_children`] does, at one front that begins with all that the handle had seen, learnt or done.
     pub fn count_children(&mut self) -> Result<Seen<Counts>, Gone>
         ensures front { IsPrefix self.old.front self.new.front }
         ensures editions { IsPrefix self.old.editions self.new.editions }
         ensures calls { (self.new.calls ≡ self.old.calls) × (self.new.number ≡ self.old.number) }
         ensures answer { IfOk result (λ answer. answer ≡ count N.template self.new.front) }
     {
-        self.asker.count_children()
+        self.caller.asker.count_children()
     }
 
-    /// The listed child with this number at such a front.
+    /// Asks as [`Asker::child`] does, at such a front.
     pub fn child(&mut self, number: u64) -> Result<Seen<Option<Row>>, Gone>
         ensures front { IsPrefix self.old.front self.new.front }
         ensures editions { IsPrefix self.old.editions self.new.editions }
         ensures calls { (self.new.calls ≡ self.old.calls) × (self.new.number ≡ self.old.number) }
         ensures answer { IfOk result (λ answer. answer ≡ child N.template self.new.front number) }
     {
-        self.asker.child(number)
+        self.caller.asker.child(number)
     }
 
-    /// The listed children at such a front, by ascending numbers.
+    /// Asks as [`Asker::which_children`] does, at such a front.
     pub fn which_children(&mut self) -> Result<Seen<Vec<Row>>, QueryFault>
         ensures front { IsPrefix self.old.front self.new.front }
         ensures editions { IsPrefix self.old.editions self.new.editions }
         ensures calls { (self.new.calls ≡ self.old.calls) × (self.new.number ≡ self.old.number) }
         ensures answer { IfOk result (λ seen. MatchSeen seen (λ rows. which N.template self.new.front ≡ Seen.Up rows.items) (which N.template self.new.front ≡ Seen.Down)) }
     {
-        self.asker.which_children()
+        self.caller.asker.which_children()
     }
 
-    /// Calls `f` once on a view at such a front, and not at all if the supervisor is down. `f` must make no update, no handle and no
-    /// asker: these wait for the lock, and whoever has it may wait for this look. `f` should be short: an update that waits for
-    /// this look yields and does not sleep, so it keeps its core busy.
+    /// Looks as [`Asker::inspect`] does, at such a front. `f` must make no update, no handle and no asker, and should be short.
     pub fn inspect<T, F: FnOnce(&View) -> T>(&mut self, f: F) -> Result<Seen<T>, Gone>
         requires { F.IsAlwaysCallable f }
         ensures front { IsPrefix self.old.front self.new.front }
@@ -380,10 +291,10 @@ impl<'d, N: Name, D> HandleOf<'d, N, D> {
         ensures answer { let view = sight (record { press = N.press; template = N.template; editions = self.new.editions; front = self.new.front })
             in IfOk result (λ seen. IsAnswered F.FnOnce f view view.standing.down seen) }
     {
-        self.asker.inspect(f)
+        self.caller.asker.inspect(f)
     }
 
-    /// From now on its front begins with the ticket's, which is of the same desk. It enters nothing and always succeeds.
+    /// Learns as [`Asker::learn`] does.
     pub fn learn(&mut self, ticket: &Ticket) -> Result<(), Gone>
         requires { ticket.now.press ≡ N.press }
         ensures answered { IsOk result }
@@ -392,7 +303,7 @@ impl<'d, N: Name, D> HandleOf<'d, N, D> {
         ensures calls { (self.new.calls ≡ self.old.calls) × (self.new.number ≡ self.old.number) }
         ensures learnt { IsPrefix ticket.now.front self.new.front × IsPrefix ticket.now.editions self.new.editions }
     {
-        self.asker.learn(ticket)
+        self.caller.asker.learn(ticket)
     }
 
     /// A termination names a process and no identifier.

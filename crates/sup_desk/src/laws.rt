@@ -1,15 +1,15 @@
 //! What a call does with the book that is lent to it: the answers and the refusals of the calls of the same kind, and
 //! what the book is afterwards.
-ghost use Rattle.std.specs.Prelude.{◌≡◌, ◌+◌, ◌++◌, ◌∷◌, [], length, take, drop, vec_len, vec_capacity, All, List, ◌<◌, ◌≤◌, ◌↔◌, ◌⊎◌, IfOk, OnOk, OnErr, IfErr, MatchResult, MatchOption, OnSome, IfSome, IfNone, Some, None, true, false};
+ghost use Rattle.std.specs.Prelude.{◌≡◌, ◌+◌, ◌++◌, ◌∷◌, [], length, take, drop, vec_len, vec_capacity, All, List, ◌<◌, ◌≤◌, ◌↔◌, ◌⊎◌, IfOk, OnOk, OnErr, IfErr, MatchResult, IfSome, IfNone, Some};
 ghost use mathlib.Core.List.{IsPrefix};
 ghost use Rattle.sup_log.specs.Tokens.{history_of};
-ghost use Rattle.sup_core.specs.Account.{reply_after};
-ghost use Rattle.sup_desk.specs.Knowledge.{entries_of, IsEntryOf, with_entries};
+ghost use Rattle.sup_types.specs.declared.history.Entry.{Entry};
+ghost use Rattle.sup_desk.specs.Knowledge.{entries_of, IsEntryOf};
 ghost use Rattle.sup_desk.specs.Results.{HasSeenMore, IsUpdateResult};
 ghost use Rattle.sup_desk.specs.declared.journal.JournalFault.{JournalFault};
-ghost use Rattle.sup_desk.specs.Books.{IsMade, IsLeft, IsOfStep, grown_by, broken_by, with_pending};
+ghost use Rattle.sup_desk.specs.Books.{IsMade, IsLeft, IsOfStep, grown_by, broken_by};
 ghost use Rattle.sup_desk.specs.Audits.{AreNumbered, AreGrown, HaveSeenAll};
-ghost use Rattle.sup_desk.specs.Batches.{AreEntered, AreWritten, IsApplied};
+ghost use Rattle.sup_desk.specs.Batches.{AreEntered, AreWritten, IsApplied, IsOneEntered, IsQueueEntered};
 ghost use Rattle.std.specs.VecDeque.{deque_len};
 
 use crate::asker::Asker;
@@ -18,15 +18,14 @@ use crate::caller::Caller;
 use crate::desk::Desk;
 use crate::faults::{HandleFault, TicketFault, UpdateFault};
 use crate::handle::HandleOf;
-use crate::journal::{Journal, JournalFault};
-use crate::leaf::Leaf;
+use crate::journal::Journal;
 use crate::name::Name;
-use crate::roll::Claim;
+use crate::transaction::Transaction;
 use std::alloc::Allocator;
 use std::collections::VecDeque;
 use std::sync::Wait;
 use sup_log::{NoPlace, Ticket};
-use sup_types::{Answer, Entry, Operation, Reply, Starter};
+use sup_types::{Operation, Reply, Starter};
 
 /// An update that was entered: its reply, and a ticket for the history up to and with it.
 #[derive(Drop)]
@@ -36,9 +35,9 @@ pub struct Done {
 }
 
 /// Gives the handle a ticket for all of the history, in which its calls are all that stand under its number.
-pub fn give_ticket<N: Name, D, R: Wait + Drop, J: Journal + Drop>(
+pub fn give_ticket<N: Name, R: Wait + Drop, J: Journal + Drop>(
     book: &mut Book<N, R, J>,
-    handle: &mut HandleOf<'_, N, D>,
+    handle: &mut Caller<N>,
 ) -> Ticket
     ensures ticket { result ≡ record { press = N.press; editions = handle.new.editions; front = handle.new.front } }
     ensures front { (handle.new.front ≡ book.old.history) × (handle.new.editions ≡ book.old.editions) }
@@ -50,88 +49,40 @@ pub fn give_ticket<N: Name, D, R: Wait + Drop, J: Journal + Drop>(
     ensures calls { (handle.new.calls ≡ handle.old.calls) × (handle.new.number ≡ handle.old.number) }
     ensures same { book.new ≡ book.old }
 {
-    handle.meet(&mut book.leaf)
+    book.transaction.meet(handle);
+    book.transaction.show(handle)
 }
 
-/// Writes one entry on the leaf: that of the handle with this number, which has made so many before.
-// (Inlined: a reply that it returned would be written in pieces and then read as one, for which the processor waits.)
-#[inline(always)]
-fn write<N: Name, S: Starter, R: Wait + Drop, J: Journal + Drop>(
-    leaf: &mut Leaf<N, R, J>,
+/// Enters an update of a caller whose calls are all that stand under its number. What the caller has seen stays as it was.
+fn enter_one<N: Name, S: Starter, R: Wait + Drop, J: Journal + Drop>(
+    book: &mut Book<N, R, J>,
     starter: &S,
-    number: u64,
-    serial: u64,
+    caller: &mut Caller<N>,
     moment: u64,
     operation: &Operation,
 ) -> Result<Reply, UpdateFault>
-    requires ready { leaf.old.is_out ≡ true }
-    requires going { leaf.old.fault ≡ None }
-    ensures written { IfOk result (λ reply. (entry : Entry) × IsEntryOf S.may_answer N.template (leaf.old.published ++ leaf.old.pending) number serial operation.now moment entry
-        × (reply ≡ reply_after N.template (leaf.old.published ++ leaf.old.pending) entry) × (leaf.new ≡ with_pending leaf.old (entry ∷ []))) }
-    ensures kept { OnErr result (leaf.new ≡ leaf.old) }
-    ensures full { IfErr result (λ e. e ≡ UpdateFault.HistoryFull → length (leaf.old.published ++ leaf.old.pending) ≡ N.template.entries) }
-    ensures room { MatchResult result (λ _. length (leaf.old.published ++ leaf.old.pending) < N.template.entries) (λ e. e ≡ UpdateFault.OutOfMemory → length (leaf.old.published ++ leaf.old.pending) < N.template.entries) }
-    ensures faults { IfErr result (λ e. IsOfStep e) }
-{
-    let Some(asked) = leaf.asks(operation, moment) else {
-        return Err(UpdateFault::HistoryFull);
-    };
-    let answer = match &asked.arg {
-        Some(arg) => starter.start(arg, moment),
-        None => Answer::Ignore,
-    };
-    let entry = Entry {
-        handle: number,
-        serial,
-        moment,
-        operation: *operation,
-        answer,
-    };
-    match leaf.append(entry, &asked) {
-        Ok(reply) => Ok(reply),
-        Err(_) => Err(UpdateFault::OutOfMemory),
-    }
-}
-
-/// Enters an update of a handle that has seen all of the history.
-fn enter_one<N: Name, D, S: Starter, R: Wait + Drop, J: Journal + Drop>(
-    book: &mut Book<N, R, J>,
-    starter: &S,
-    handle: &mut HandleOf<'_, N, D>,
-    moment: u64,
-    operation: &Operation,
-) -> Result<Done, UpdateFault>
-    requires front { handle.old.front ≡ book.old.history }
-    requires editions { handle.old.editions ≡ book.old.editions }
-    requires whole { entries_of book.old.history handle.old.number ≡ handle.old.calls }
-    requires made { IsMade book.old.made handle.old.number }
-    requires going { book.old.fault ≡ None }
-    ensures entered { IfOk result (λ done. (entry : Entry) × IsEntryOf S.may_answer N.template book.old.history handle.old.number (length handle.old.calls) operation.now moment entry
-        × (done.reply ≡ reply_after N.template book.old.history entry) × (book.new ≡ grown_by book.old (entry ∷ []))
-        × (handle.new ≡ with_entries handle.old book.old.editions book.old.history (entry ∷ []))) }
-    ensures told { IfOk result (λ done. done.ticket ≡ record { press = N.press; editions = handle.new.editions; front = handle.new.front }) }
-    ensures kept { OnErr result (handle.new ≡ handle.old) }
+    requires met { entries_of book.old.history caller.old.number ≡ caller.old.calls }
+    requires made { IsMade book.old.made caller.old.number }
+    ensures entered { IfOk result (λ reply. IsOneEntered S.may_answer N.template book.old caller.old operation.now moment reply book.new caller.new) }
+    ensures kept { OnErr result (caller.new ≡ caller.old) }
     ensures left { IfErr result (λ e. IsLeft J.may_fail book.old e book.new) }
     ensures full { IfErr result (λ e. e ≡ UpdateFault.HistoryFull → length book.old.history ≡ N.template.entries) }
     ensures room { MatchResult result (λ _. length book.old.history < N.template.entries) (λ e. e ≡ UpdateFault.OutOfMemory → length book.old.history < N.template.entries) }
     ensures gone { IfErr result (λ e. e ≡ UpdateFault.Gone → ⊥) }
+    ensures broken { IfSome book.old.fault (λ f. result ≡ Err (UpdateFault.Journal f)) }
 {
-    book.leaf.ready();
-    let reply = write(
-        &mut book.leaf,
+    if let Some(broken) = book.transaction.fault() {
+        return Err(UpdateFault::Journal(broken));
+    }
+    let reply = book.transaction.write(
         starter,
-        handle.number(),
-        handle.calls(),
+        caller.number(),
+        caller.calls(),
         moment,
         operation,
     )?;
-    match handle.commit(&mut book.leaf) {
-        // (The ticket is told here, and not handed on by `commit`: what was just written in two pieces is waited for where it is
-        // read as one.)
-        Ok(()) => Ok(Done {
-            reply,
-            ticket: book.leaf.tell(),
-        }),
+    match book.transaction.commit(caller) {
+        Ok(()) => Ok(reply),
         Err(fault) => Err(UpdateFault::Journal(fault)),
     }
 }
@@ -156,38 +107,40 @@ pub fn enter<N: Name, D, S: Starter, R: Wait + Drop, J: Journal + Drop>(
     ensures broken { IfSome book.old.fault (λ f. result ≡ Err (UpdateFault.Journal f)) }
     ensures learnt { IsPrefix book.old.history handle.new.front }
 {
-    give_ticket(book, handle);
-    if let Some(broken) = book.leaf.fault() {
-        return Err(UpdateFault::Journal(broken));
-    }
-    enter_one(book, starter, handle, moment, operation)
+    book.transaction.meet(&mut handle.caller);
+    let entered = enter_one(book, starter, &mut handle.caller, moment, operation);
+    let ticket = book.transaction.show(&mut handle.caller);
+    Ok(Done {
+        reply: entered?,
+        ticket,
+    })
 }
 
 /// Writes the operations of the queue one after another, up to the first fault.
 fn write_all<N: Name, S: Starter, R: Wait + Drop, J: Journal + Drop, A: Allocator>(
-    leaf: &mut Leaf<N, R, J>,
+    transaction: &mut Transaction<N, R, J>,
     starter: &S,
-    claim: &Claim,
+    caller: &Caller<N>,
     moment: u64,
     operations: &VecDeque<Operation>,
     replies: &mut Vec<Reply, A>,
 ) -> Option<UpdateFault>
-    requires ready { leaf.old.is_out ≡ true }
-    requires going { leaf.old.fault ≡ None }
-    requires clean { leaf.old.pending ≡ [] }
-    requires met { entries_of leaf.old.published claim.now.number ≡ claim.now.calls }
+    requires going { transaction.old.fault ≡ None }
+    requires clean { transaction.old.pending ≡ [] }
+    requires met { entries_of transaction.old.published caller.now.number ≡ caller.now.calls }
+    requires within { length transaction.old.published ≤ N.template.entries }
     requires none { vec_len replies.old ≡ 0 }
     requires room { deque_len operations.now ≤ vec_capacity replies.old }
-    ensures written { AreWritten S.may_answer N.template leaf.old claim.now.number moment (take (length replies.new.items) operations.now.items) replies.new.items leaf.new }
+    ensures written { AreWritten S.may_answer N.template transaction.old caller.now.number moment (take (length replies.new.items) operations.now.items) replies.new.items transaction.new }
     ensures within { length replies.new.items ≤ length operations.now.items }
     ensures all { IfNone result (length replies.new.items ≡ length operations.now.items) }
-    ensures full { IfSome result (λ e. e ≡ UpdateFault.HistoryFull → length (leaf.new.published ++ leaf.new.pending) ≡ N.template.entries) }
-    ensures room { IfSome result (λ e. e ≡ UpdateFault.OutOfMemory → length (leaf.new.published ++ leaf.new.pending) < N.template.entries) }
+    ensures full { IfSome result (λ e. e ≡ UpdateFault.HistoryFull → length (transaction.new.published ++ transaction.new.pending) ≡ N.template.entries) }
+    ensures room { IfSome result (λ e. e ≡ UpdateFault.OutOfMemory → length (transaction.new.published ++ transaction.new.pending) < N.template.entries) }
     ensures faults { IfSome result (λ e. IsOfStep e) }
 {
     'queue: while let Some(operation) = operations.get(replies.len()) {
-        let serial = leaf.serial(claim);
-        match write(leaf, starter, claim.number(), serial, moment, operation) {
+        let serial = caller.calls() + replies.len() as u64;
+        match transaction.write(starter, caller.number(), serial, moment, operation) {
             Ok(reply) => replies.push_reserved(reply),
             Err(fault) => return Some(fault),
         }
@@ -195,7 +148,7 @@ fn write_all<N: Name, S: Starter, R: Wait + Drop, J: Journal + Drop, A: Allocato
     None
 }
 
-/// Takes the first operations out of the queue, as many as `count`.
+/// Takes the first `count` operations out of the queue.
 fn drop_first(operations: &mut VecDeque<Operation>, count: usize)
     requires { count ≤ length operations.old.items }
     ensures { operations.new.items ≡ drop count operations.old.items }
@@ -205,57 +158,54 @@ fn drop_first(operations: &mut VecDeque<Operation>, count: usize)
     }
 }
 
-/// Enters the operations of a queue for a handle that has seen all of the history, with the fault that ended it. Each that is
-/// entered leaves the queue. Where the journal breaks off, none is entered.
-fn enter_met<N: Name, D, S: Starter, R: Wait + Drop, J: Journal + Drop, A: Allocator>(
+/// Enters the operations of a queue for a caller whose calls are all that stand under its number, and returns the fault that ended it.
+/// Each that is entered leaves the queue. If the journal breaks off, none is entered. What the caller has seen stays as it was.
+fn enter_queue<N: Name, S: Starter, R: Wait + Drop, J: Journal + Drop, A: Allocator>(
     book: &mut Book<N, R, J>,
     starter: &S,
-    handle: &mut HandleOf<'_, N, D>,
+    caller: &mut Caller<N>,
     moment: u64,
     operations: &mut VecDeque<Operation>,
     replies: &mut Vec<Reply, A>,
-) -> Result<(Ticket, Option<UpdateFault>), JournalFault>
+) -> Option<UpdateFault>
     requires none { vec_len replies.old ≡ 0 }
     requires room { deque_len operations.old ≤ vec_capacity replies.old }
-    requires front { handle.old.front ≡ book.old.history }
-    requires editions { handle.old.editions ≡ book.old.editions }
-    requires whole { entries_of book.old.history handle.old.number ≡ handle.old.calls }
-    requires made { IsMade book.old.made handle.old.number }
-    requires going { book.old.fault ≡ None }
-    ensures entered { OnOk result ((entries : List Entry) × AreEntered S.may_answer N.template handle.old.number moment book.old.history (length handle.old.calls) (take (length replies.new.items) operations.old.items) entries replies.new.items
-        × (book.new ≡ grown_by book.old entries) × (handle.new ≡ with_entries handle.old book.old.editions book.old.history entries)) }
-    ensures told { IfOk result (λ p. p.0 ≡ record { press = N.press; editions = handle.new.editions; front = handle.new.front }) }
+    requires met { entries_of book.old.history caller.old.number ≡ caller.old.calls }
+    requires made { IsMade book.old.made caller.old.number }
+    requires within { length book.old.history ≤ N.template.entries }
+    ensures entered { IsQueueEntered S.may_answer J.may_fail N.template book.old caller.old (take (length replies.new.items) operations.old.items) moment replies.new.items book.new caller.new }
     ensures rest { operations.new.items ≡ drop (length replies.new.items) operations.old.items }
-    ensures all { IfOk result (λ p. IfNone p.1 (operations.new.items ≡ [])) }
-    ensures full { IfOk result (λ p. IfSome p.1 (λ e. e ≡ UpdateFault.HistoryFull → length handle.new.front ≡ N.template.entries)) }
-    ensures room { IfOk result (λ p. IfSome p.1 (λ e. e ≡ UpdateFault.OutOfMemory → length handle.new.front < N.template.entries)) }
-    ensures within { OnOk result (length handle.new.front ≤ N.template.entries) }
-    ensures faults { IfOk result (λ p. IfSome p.1 (λ e. IsOfStep e)) }
+    ensures all { IfNone result (operations.new.items ≡ []) }
+    ensures left { replies.new.items ≡ [] → IfSome result (λ e. IsLeft J.may_fail book.old e book.new) }
 
-    // What is left where the journal breaks off.
-    ensures broken { IfErr result (λ f. (book.new ≡ broken_by book.old f) × J.may_fail f) }
-    ensures kept { OnErr result ((handle.new ≡ handle.old) × (replies.new.items ≡ [])) }
+    // When a fault comes.
+    ensures gone { IfSome result (λ e. e ≡ UpdateFault.Gone → ⊥) }
+    ensures full { IfSome result (λ e. e ≡ UpdateFault.HistoryFull → length book.new.history ≡ N.template.entries) }
+    ensures room { IfSome result (λ e. e ≡ UpdateFault.OutOfMemory → length book.new.history < N.template.entries) }
+    ensures within { length book.new.history ≤ N.template.entries }
+    ensures journal { IfSome result (λ e. (f : JournalFault) → e ≡ UpdateFault.Journal f → (replies.new.items ≡ []) × (book.new.fault ≡ Some f) × J.may_fail f) }
+    ensures broken { IfSome book.old.fault (λ f. result ≡ Some (UpdateFault.Journal f)) }
 {
-    book.leaf.ready();
+    if let Some(broken) = book.transaction.fault() {
+        return Some(UpdateFault::Journal(broken));
+    }
     let fault = write_all(
-        &mut book.leaf,
+        &mut book.transaction,
         starter,
-        &handle.claim,
+        caller,
         moment,
         operations,
         replies,
     );
-    let committed = handle.commit(&mut book.leaf);
-    match committed {
-        Ok(()) => {
-            drop_first(operations, replies.len());
-            Ok((book.leaf.tell(), fault))
-        }
-        Err(broken) => {
-            replies.clear();
-            Err(broken)
-        }
+    if replies.is_empty() {
+        return fault;
     }
+    if let Err(broken) = book.transaction.commit(caller) {
+        replies.clear();
+        return Some(UpdateFault::Journal(broken));
+    }
+    drop_first(operations, replies.len());
+    fault
 }
 
 /// Why operations were left in a queue, and a ticket for those that were entered, if there are any.
@@ -263,17 +213,6 @@ fn enter_met<N: Name, D, S: Starter, R: Wait + Drop, J: Journal + Drop, A: Alloc
 pub struct Rest {
     pub ticket: Option<Ticket>,
     pub fault: UpdateFault,
-}
-
-/// What is told where the journal broke off: none was entered.
-fn broken_off(fault: JournalFault) -> Rest
-    ensures ticket { result.ticket ≡ None }
-    ensures fault { result.fault ≡ UpdateFault.Journal fault }
-{
-    Rest {
-        ticket: None,
-        fault: UpdateFault::Journal(fault),
-    }
 }
 
 /// Enters the operations of a queue as updates of the handle, each of which then leaves it, up to the first fault, and
@@ -308,18 +247,16 @@ pub fn enter_all<N: Name, D, S: Starter, R: Wait + Drop, J: Journal + Drop, A: A
     ensures journal { IfErr result (λ r. (f : JournalFault) → r.fault ≡ UpdateFault.Journal f → (replies.new.items ≡ []) × (book.new.fault ≡ Some f) × J.may_fail f) }
     ensures broken { IfSome book.old.fault (λ f. IfErr result (λ r. r.fault ≡ UpdateFault.Journal f) × IfOk result (λ _. ⊥)) }
 {
-    let told = give_ticket(book, handle);
-    if let Some(fault) = book.leaf.fault() {
-        return Err(broken_off(fault));
-    }
-    if operations.is_empty() {
-        // (Nothing is entered, so there is no lens to wait for.)
-        return Ok(told);
-    }
-    let (ticket, fault) = match enter_met(book, starter, handle, moment, operations, replies) {
-        Ok(entered) => entered,
-        Err(fault) => return Err(broken_off(fault)),
-    };
+    book.transaction.meet(&mut handle.caller);
+    let fault = enter_queue(
+        book,
+        starter,
+        &mut handle.caller,
+        moment,
+        operations,
+        replies,
+    );
+    let ticket = book.transaction.show(&mut handle.caller);
     let Some(fault) = fault else {
         return Ok(ticket);
     };
@@ -343,14 +280,9 @@ pub fn add_handle<N: Name, R: Wait + Drop, J: Journal + Drop>(
     ensures added { OnOk result (book.new ≡ record book.old { made = book.old.made + 1 }) }
     ensures err { OnErr result (book.new ≡ book.old) }
     ensures none { (result ≡ Err HandleFault.NoHandle) ↔ (book.old.made ≡ book.old.handles) }
+    ensures room { OnOk result (book.old.made < book.old.handles) }
 {
-    if book.leaf.has_all() {
-        return Err(HandleFault::NoHandle);
-    }
-    match book.leaf.add() {
-        Ok((lens, claim)) => Ok(Caller::begin(claim, Asker::begin(lens))),
-        Err(_) => Err(HandleFault::NoPlace),
-    }
+    book.transaction.add()
 }
 
 /// Makes an asker. It has seen all of the history, and the book is as it was.
@@ -360,7 +292,7 @@ pub fn add_asker<N: Name, R: Wait + Drop, J: Journal + Drop>(
     ensures ok { IfOk result (λ a. a ≡ record { editions = book.old.editions; front = book.old.history }) }
     ensures same { book.new ≡ book.old }
 {
-    Ok(Asker::begin(book.leaf.lens()?))
+    Ok(Asker::begin(book.transaction.lens()?))
 }
 
 /// Lets the handles see all of the history, and shows that it is their calls and nothing else: they are as many as were
@@ -378,11 +310,11 @@ pub fn audit<N: Name, S: Starter + Drop, R: Wait + Drop, J: Journal + Drop>(
     ensures split { (result ≡ Err TicketFault.Split) ↔ ¬ (length handles.new ≡ book.old.made) }
     ensures gone { IfErr result (λ e. e ≡ TicketFault.Gone → ⊥) }
 {
-    if handles.len() as u64 != book.leaf.made() {
+    if handles.len() as u64 != book.transaction.made() {
         return Err(TicketFault::Split);
     }
     for handle in handles.iter_mut() {
-        handle.see_all(book);
+        give_ticket(book, &mut handle.caller);
     }
-    Ok(book.leaf.tell())
+    Ok(book.transaction.tell())
 }

@@ -15,7 +15,7 @@
 //!
 //! A desk may have a [`Journal`], which records each update before anyone sees it: [`Desk::with_journal`]. Whenever the lock is
 //! free, the journal has recorded just what is published. Once it breaks off, updates are refused, and queries go on.
-//! [`Desk::recover`] goes on from what a journal has recorded.
+//! [`Desk::recover`] goes on from what a journal has recorded, and a [`Recovery`] does so entry by entry.
 //!
 //! A value behind a lock is known by its type alone. So the desk and its handles carry a type parameter `N: Name`, whose
 //! members are the press and the template. [`on_desk`] makes a desk, picks its name and runs a [`Program`] on it, so that
@@ -45,17 +45,16 @@ mod asker;
 mod book;
 mod caller;
 mod desk;
-mod draft;
 mod faults;
 mod ground;
 mod handle;
 mod journal;
 pub mod laws;
-mod leaf;
 mod name;
 mod program;
 mod recovery;
 mod roll;
+mod transaction;
 
 pub use asker::Asker;
 pub use book::Book;
@@ -66,7 +65,7 @@ pub use ground::Ground;
 pub use handle::{Dones, Handle, HandleOf, Part};
 pub use journal::{Journal, JournalFault, NoJournal};
 pub use laws::{Done, Rest};
-pub use leaf::Closed;
 pub use name::Name;
 pub use program::{JournaledProgram, Program, on_desk, on_journaled_desk};
-pub use recovery::RecoverFault;
+pub use recovery::{RecoverFault, Recovery};
+pub use transaction::Closed;

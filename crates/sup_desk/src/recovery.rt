@@ -1,18 +1,22 @@
-//! Recovery: a desk goes on from a history of before.
-ghost use Rattle.std.specs.Prelude.{◌≡◌, [], length, IfOk, IfErr, None};
-ghost use Rattle.sup_desk.specs.Audits.{AreNumbered, HaveSeenAll};
+//! Recovery: a desk continues a history that was recorded before.
+ghost use Rattle.std.specs.Prelude.{◌≡◌, ◌+◌, ◌≤◌, ◌++◌, ◌∷◌, ◌<◌, [], length, All, IfOk, OnOk, OnErr, IfErr, None};
+ghost use Rattle.sup_types.specs.declared.history.Entry.{Entry};
+ghost use Rattle.sup_desk.specs.Audits.{AreNumbered, AreGrown, HaveSeenAll};
+ghost use Rattle.sup_desk.specs.Books.{IsMade, grown_by};
 ghost use Rattle.sup_desk.specs.Faults.{recover_fault_number, desk_fault_number};
-ghost use Rattle.sup_desk.specs.Recoveries.{IsCauseOf};
+ghost use Rattle.sup_desk.specs.Recoveries.{StopsAt};
 
+use crate::book::Book;
 use crate::caller::Caller;
-use crate::draft::Draft;
-use crate::faults::DeskFault;
+use crate::desk::{Desk, Recovered};
+use crate::faults::{DeskFault, HandleFault};
 use crate::ground::Ground;
-use crate::journal::NoJournal;
-use crate::leaf::Leaf;
+use crate::journal::{Journal, NoJournal};
+use crate::laws::{add_handle, give_ticket};
 use crate::name::Name;
-use std::sync::Wait;
-use sup_types::Entry;
+use std::marker::Model;
+use std::sync::{Mutex, Wait};
+use sup_types::{Entry, Starter};
 use thiserror::Error;
 
 /// Why a desk was not recovered.
@@ -57,35 +61,145 @@ impl From<DeskFault> for RecoverFault {
     }
 }
 
-/// Enters the entries of before, in order, one after another.
-pub fn enter_again<N: Name, R: Wait + Drop>(
-    draft: Draft<N, R>,
-    entries: &[Entry],
-) -> Result<Draft<N, R>, RecoverFault>
-    requires { draft.history ≡ [] }
-    ensures ok { IfOk result (λ d. d.history ≡ entries.now) }
-    ensures err { IfErr result (λ f. IsCauseOf f N.template draft.handles entries.now) }
-{
-    let mut draft = draft;
-    for entry in entries {
-        draft.enter(*entry)?;
-    }
-    Ok(draft)
+/// A history of before that is entered again, entry by entry, as updates were: by the callers that its handles were. Beside the ground it
+/// takes memory for the callers, and none that grows with the history.
+#[derive(Drop)]
+pub struct Recovery<N: Name, R: Wait + Drop> {
+    book: Book<N, R, NoJournal>,
+    callers: Vec<Caller<N>>,
 }
 
-/// The leaf of a ground, which N names, on which a history of before is published, and the callers that have made it.
-pub fn recover_leaf<N: Name, R: Wait + Drop>(
-    ground: Ground<R>,
-    entries: &[Entry],
-) -> Result<(Leaf<N, R, NoJournal>, Vec<Caller<N>>), RecoverFault>
-    requires { (ground.press ≡ N.press) × (ground.template ≡ N.template) × (ground.roll ≡ N.roll) }
-    ensures leaf { IfOk result (λ p. (p.0.fault ≡ None) × (p.0.pending ≡ []) × (p.0.published ≡ entries.now) × (p.0.made ≡ length p.1.items)) }
-    ensures callers { IfOk result (λ p. AreNumbered p.1.items × HaveSeenAll entries.now p.1.items (length p.1.items)) }
-    ensures err { IfErr result (λ f. IsCauseOf f N.template ground.handles entries.now) }
+impl<N: Name, R: Wait + Drop> Model for Recovery<N, R> {
+    ghost use Rattle.std.specs.Prelude.{◌≡◌, ◌≤◌, vec_len, vec_capacity, None};
+    ghost use Rattle.sup_desk.specs.Audits.{AreNumbered};
+    ghost use Rattle.sup_desk.specs.Recoveries.{Recalled};
+
+    ghost Value = { Recalled };
+
+    ghost view = { λ r. record { history = r.book.history; made = vec_len r.callers; handles = r.book.handles } };
+
+    ghost invariant = { λ r. (r.book.fault ≡ None) × (r.book.made ≡ vec_len r.callers) × (r.book.handles ≤ vec_capacity r.callers) × AreNumbered r.callers.items };
+}
+
+/// Enters an entry of before for the caller that has made it.
+fn enter_again<N: Name, R: Wait + Drop>(
+    book: &mut Book<N, R, NoJournal>,
+    caller: &mut Caller<N>,
+    entry: Entry,
+) -> Result<(), RecoverFault>
+    requires going { book.old.fault ≡ None }
+    requires mine { entry.handle ≡ caller.old.number }
+    ensures ok { OnOk result (book.new ≡ grown_by book.old (entry ∷ [])) }
+    ensures err { OnErr result (book.new ≡ book.old) }
+    ensures number { caller.new.number ≡ caller.old.number }
+    ensures full { IfErr result (λ f. f ≡ RecoverFault.HistoryFull → length book.old.history ≡ N.template.entries) }
+    ensures faults { IfErr result (λ f. (f ≡ RecoverFault.NoHandle → ⊥) × (f ≡ RecoverFault.BadTemplate → ⊥)) }
 {
-    let (draft, roll) = ground.draft();
-    match enter_again(draft, entries)?.enrol(roll, entries) {
-        Ok(recovered) => Ok(recovered),
-        Err(_) => Err(RecoverFault::OutOfMemory),
+    book.transaction.meet(caller);
+    book.transaction.write_again(entry)?;
+    match book.transaction.commit(caller) {
+        Ok(()) => Ok(()),
+        Err(_) => unreachable!(),
+    }
+}
+
+/// Lets the callers see all of the history.
+fn see_all_of<N: Name, R: Wait + Drop>(book: &mut Book<N, R, NoJournal>, callers: &mut [Caller<N>])
+    ensures seen { HaveSeenAll book.old.history callers.new (length callers.new) }
+    ensures grown { AreGrown callers.old callers.new }
+    ensures same { book.new ≡ book.old }
+{
+    for caller in callers.iter_mut() {
+        give_ticket(book, caller);
+    }
+}
+
+impl<N: Name, R: Wait + Drop> Recovery<N, R> {
+    /// Begins a recovery on this ground, which N names. Nothing is entered.
+    pub fn begin(ground: Ground<R>) -> Result<Recovery<N, R>, RecoverFault>
+        requires { (ground.press ≡ N.press) × (ground.template ≡ N.template) × (ground.roll ≡ N.roll) }
+        ensures ok { IfOk result (λ r. r ≡ record { history = []; made = 0; handles = ground.handles }) }
+        ensures err { IfErr result (λ f. f ≡ RecoverFault.OutOfMemory) }
+    {
+        let Ok(callers) = ground.room() else {
+            return Err(RecoverFault::OutOfMemory);
+        };
+        Ok(Recovery {
+            book: ground.book(NoJournal),
+            callers,
+        })
+    }
+
+    /// Makes one handle more.
+    fn open(&mut self) -> Result<(), HandleFault>
+        ensures ok { OnOk result (self.new ≡ record self.old { made = self.old.made + 1 }) }
+        ensures err { OnErr result (self.new ≡ self.old) }
+        ensures none { IfErr result (λ f. f ≡ HandleFault.NoHandle → self.old.made ≡ self.old.handles) }
+    {
+        let caller = add_handle(&mut self.book)?;
+        self.callers.push_reserved(caller);
+        Ok(())
+    }
+
+    /// Makes handles up to this number, in order.
+    fn open_to(&mut self, number: u64) -> Result<(), HandleFault>
+        ensures ok { OnOk result (number ≤ self.new.made) }
+        ensures same { self.new ≡ record self.old { made = self.new.made } }
+        ensures none { IfErr result (λ f. f ≡ HandleFault.NoHandle → self.old.handles < number) }
+    {
+        'opening: while (self.callers.len() as u64) < number {
+            self.open()?;
+        }
+        Ok(())
+    }
+
+    /// Enters an entry of before, behind those that were entered. A handle is made where its number is first seen, and those of the lower
+    /// numbers before it.
+    ///
+    /// It is refused with NoHandle if no handle of the ground can have its number, with HistoryFull if there are as many entries as the
+    /// template allows, and with OutOfMemory if memory runs out. Then the history is as it was.
+    pub fn enter(&mut self, entry: Entry) -> Result<(), RecoverFault>
+        ensures ok { OnOk result (self.new.history ≡ self.old.history ++ entry ∷ []) }
+        ensures kept { OnErr result (self.new.history ≡ self.old.history) }
+        ensures handles { self.new.handles ≡ self.old.handles }
+        ensures err { IfErr result (λ f. StopsAt f N.template self.old.handles self.old.history entry) }
+    {
+        if entry.handle == 0 {
+            return Err(RecoverFault::NoHandle);
+        }
+        match self.open_to(entry.handle) {
+            Ok(()) => {}
+            Err(HandleFault::NoHandle) => return Err(RecoverFault::NoHandle),
+            Err(HandleFault::NoPlace) => return Err(RecoverFault::OutOfMemory),
+        }
+        let place = (entry.handle - 1) as usize;
+        enter_again(&mut self.book, &mut self.callers[place], entry)
+    }
+
+    /// Ends the recovery with a desk that continues the history, which this journal has recorded. The ticket is for this history.
+    pub fn finish<S: Starter + Drop, J: Journal + Drop>(
+        self,
+        starter: S,
+        journal: J,
+    ) -> Recovered<N, S, R, J>
+        requires { J.has journal N.template self.history [] }
+        ensures ticket { (result.ticket.press ≡ N.press) × (result.ticket.front ≡ self.history) }
+        ensures callers { AreNumbered result.callers.items × HaveSeenAll self.history result.callers.items (length result.callers.items)
+            × All (λ entry. IsMade (length result.callers.items) entry.handle) self.history }
+    {
+        let Recovery {
+            mut book,
+            mut callers,
+        } = self;
+        see_all_of(&mut book, callers.as_mut_slice());
+        let ticket = book.transaction.tell();
+        Recovered {
+            desk: Desk {
+                book: Mutex::new(book.with_journal(journal)),
+                starter,
+            },
+            ticket,
+            callers,
+        }
     }
 }

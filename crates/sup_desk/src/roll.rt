@@ -120,17 +120,6 @@ impl<E: Added> Play<(), Known> for Enters<E> {
     ghost then = { Entered E.entries };
 }
 
-/// The keeper recalls these entries, of before the first handle.
-struct Recalls<E> {
-    entries: PhantomData<E>,
-}
-
-impl<E: Added> Play<(), Known> for Recalls<E> {
-    ghost use Rattle.sup_desk.specs.Rolls.{Recalled};
-
-    ghost then = { Recalled E.entries };
-}
-
 type Place = Seat<(), Known>;
 
 /// What lies under the lock: all that was entered, and how many handles were made.
@@ -196,19 +185,19 @@ impl Roll {
         Ok(Roll { table, keeper })
     }
 
-    /// Makes one handle more: its claim, to the next number, with the calls that stand under it already, which are so many.
-    pub fn open(&mut self, number: u64, count: u64) -> Claim
+    /// Makes one handle more: its claim, to the next number, under which nothing was entered.
+    pub fn open(&mut self, number: u64) -> Claim
         requires number { number ≡ self.old.made + 1 }
-        requires count { count ≡ length (entries_of self.old.history number) }
+        requires none { entries_of self.old.history number ≡ [] }
         ensures made { self.new ≡ record self.old { made = self.old.made + 1 } }
-        ensures claim { result ≡ record { roll = self.old.id; number = number; calls = entries_of self.old.history number } }
+        ensures claim { result ≡ record { roll = self.old.id; number = number; calls = [] } }
     {
         let Roll { table, keeper } = self;
         let seat = table.shared.split_seat::<Opens>(keeper);
         Claim {
             seat,
             number,
-            count,
+            count: 0,
         }
     }
 
@@ -253,22 +242,5 @@ impl Roll {
         table.shared.load::<Enters<E>>(keeper, 0);
         claim.seat = table.shared.split_seat::<Hands>(keeper);
         claim.count += entries.len() as u64;
-    }
-
-    /// Adds these entries before the first handle is made.
-    pub fn recall(&mut self, entries: &[Entry])
-        requires { self.old.made ≡ 0 }
-        ensures { self.new ≡ record self.old { history = self.old.history ++ entries.now } }
-    {
-        self.recall_by::<Brand>(entries)
-    }
-
-    fn recall_by<E: Added>(&mut self, entries: &[Entry])
-        requires entries { entries.now ≡ E.entries }
-        requires made { self.old.made ≡ 0 }
-        ensures { self.new ≡ record self.old { history = self.old.history ++ E.entries } }
-    {
-        let Roll { table, keeper } = self;
-        table.shared.load::<Recalls<E>>(keeper, 0);
     }
 }

@@ -13,14 +13,14 @@ use Rattle.sup_desk.specs.Knowledge.{Knowledge}
 use Rattle.sup_desk.specs.Batches.{AreEntered}
 use Rattle.sup_desk.specs.BatchLaws.{next_of}
 use Rattle.sup_inbox.specs.declared.note.Note.{Note}
-use Rattle.sup_drain.specs.Exits.{exit_of, exits}
-use Rattle.sup_drain.specs.Drains.{notes_of, replies_of, IsEntered}
+use Rattle.sup_crew.specs.Exits.{exit_of, exits}
+use Rattle.sup_crew.specs.Drains.{notes_of, replies_of, IsEntered}
 use Rattle.std.specs.Prelude.{Result, Ok, Err, IfOk, IfErr, MatchResult}
 use Rattle.sup_desk.specs.declared.faults.UpdateFault.{UpdateFault}
 use Rattle.sup_desk.specs.declared.laws.Done.{Done}
 use Rattle.sup_desk.specs.Results.{IsUpdateResult}
-use Rattle.sup_drain.specs.declared.drain.Drained.{Drained}
-use Rattle.sup_drain.specs.declared.drain.DrainFault.{DrainFault}
+use Rattle.sup_crew.specs.declared.drain.Drained.{Drained}
+use Rattle.sup_crew.specs.declared.drain.DrainFault.{DrainFault}
 use mathlib.Core.List.{IsPrefix}
 use Rattle.sup_ledger.specs.declared.child.Child.{Child}
 use Rattle.sup_yard.specs.Starts.{HasReplies}

@@ -4,7 +4,7 @@ use Rattle.sup_types.specs.declared.reason.Reason.{Reason}
 use Rattle.sup_types.specs.declared.history.Operation.{Operation}
 use Rattle.sup_types.specs.declared.history.Operation.TheVariants.{Start, Terminate, Exit}
 use Rattle.sup_types.specs.declared.history.Entry.{Entry}
-use Rattle.sup_drain.specs.Exits.{exit_of}
+use Rattle.sup_crew.specs.Exits.{exit_of}
 use Rattle.sup_yard.specs.Endings.{is_ending}
 
 -- the exits among the entries

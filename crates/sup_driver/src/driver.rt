@@ -1,6 +1,6 @@
 //! The driver: it enters exits, begins the children that were restarted, and tries failed restarts again.
 ghost use Rattle.std.specs.Prelude.{◌≡◌, ◌+◌, ◌<◌, ◌≤◌, [], true, IfSome, vec_len, vec_capacity, length};
-ghost use Rattle.sup_drain.specs.Exits.{exits as exits_told};
+ghost use Rattle.sup_crew.specs.Exits.{exits as exits_told};
 ghost use Rattle.sup_yard.specs.Starts.{HasReplies};
 ghost use Rattle.sup_driver.specs.Leads.{exits_among, are_driven};
 ghost use Rattle.sup_driver.specs.Restarts.{number_restarted, numbers_of};
@@ -11,8 +11,8 @@ use std::alloc::{AllocError, Global};
 use std::marker::PhantomData;
 use std::sync::Wait;
 use std::time::{Clock, Duration};
+use sup_crew::{Drain, DrainFault, HELD};
 use sup_desk::{Caller, Handle, Journal, Name, NoJournal, UpdateFault};
-use sup_drain::{Drain, DrainFault, HELD};
 use sup_inbox::{Note, Taker};
 use sup_ledger::Witness;
 use sup_types::{Reply, Starter, Text};

@@ -1,15 +1,15 @@
 //! A driver's side of the account: its handle, and the drain of the inbox.
 ghost use Rattle.std.specs.Prelude.{◌≡◌, ◌+◌, ◌≤◌, [], ◌++◌, true, length, MatchResult, vec_len};
 ghost use mathlib.Core.List.{IsPrefix};
-ghost use Rattle.sup_drain.specs.Exits.{exits};
+ghost use Rattle.sup_crew.specs.Exits.{exits};
 ghost use Rattle.sup_yard.specs.Starts.{HasReplies};
 ghost use Rattle.sup_driver.specs.Leads.{exits_among, are_driven};
 ghost use Rattle.sup_driver.specs.Restarts.{restarted_as, number_restarted, restarted_among, numbers_of};
 
 use std::marker::PhantomData;
 use std::sync::Wait;
+use sup_crew::{Drain, DrainFault, Drained};
 use sup_desk::{Caller, Handle, Journal, Name, UpdateFault};
-use sup_drain::{Drain, DrainFault, Drained};
 use sup_inbox::{Note, Taker};
 use sup_ledger::{Child, Witness};
 use sup_types::{Reply, Starter, Text};

@@ -9,7 +9,7 @@ use Rattle.sup_inbox.specs.declared.note.Note.{Note}
 use Rattle.sup_inbox.specs.Delivery.{from}
 use Rattle.sup_inbox.specs.Ends.{Posting, IsBy}
 use Rattle.sup_inbox.specs.NoteLaws.{from-own, from-other}
-use Rattle.sup_drain.specs.Exits.{exits}
+use Rattle.sup_crew.specs.Exits.{exits}
 use Rattle.sup_ledger.specs.declared.child.Child.{Child}
 use Rattle.sup_ledger.specs.Holdings.{weigh, numbers_from, AreAmong, AreAllNumbers}
 use Rattle.sup_ledger.specs.WeighLaws.{weigh-append}

@@ -6,7 +6,7 @@ use Rattle.sup_types.specs.declared.reason.Reason.{Reason}
 use Rattle.sup_types.specs.declared.history.Operation.{Operation}
 use Rattle.sup_inbox.specs.declared.note.Note.{Note}
 use Rattle.sup_inbox.specs.Ends.{Posting, IsPosted}
-use Rattle.sup_drain.specs.Exits.{exits}
+use Rattle.sup_crew.specs.Exits.{exits}
 use Rattle.sup_yard.specs.Endings.{is_ending, AreEndings, HavePostedEndings}
 use Rattle.sup_driver.specs.Leads.{AreExitsEnding}
 

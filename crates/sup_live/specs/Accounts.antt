@@ -3,7 +3,7 @@ use Rattle.std.specs.Prelude.{◌≡◌, ℕ, ◌+◌, List, ◌++◌, length}
 use Rattle.sup_types.specs.declared.template.Template.{Template}
 use Rattle.sup_desk.specs.Knowledge.{Knowledge}
 use Rattle.sup_inbox.specs.declared.note.Note.{Note}
-use Rattle.sup_drain.specs.Exits.{exits}
+use Rattle.sup_crew.specs.Exits.{exits}
 use Rattle.sup_ledger.specs.declared.child.Child.{Child}
 use Rattle.sup_ledger.specs.Holdings.{weigh, AreAmong}
 use Rattle.sup_yard.specs.Outboxes.{children_noted}

@@ -5,7 +5,7 @@ use Rattle.sup_types.specs.declared.template.Template.{Template}
 use Rattle.sup_desk.specs.Knowledge.{Knowledge}
 use Rattle.sup_inbox.specs.declared.note.Note.{Note}
 use Rattle.sup_inbox.specs.declared.inbox.InboxFull.{InboxFull}
-use Rattle.sup_drain.specs.Exits.{exits}
+use Rattle.sup_crew.specs.Exits.{exits}
 use Rattle.sup_ledger.specs.declared.child.Child.{Child}
 use Rattle.sup_ledger.specs.WeighLaws.{weigh-one}
 use Rattle.sup_yard.specs.Outboxes.{children_in, children_of, children_noted}

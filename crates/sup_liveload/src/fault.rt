@@ -39,9 +39,7 @@ impl LiveLoadFault {
     {
         match self {
             LiveLoadFault::OutOfMemory | LiveLoadFault::NoThread => 1,
-            LiveLoadFault::Crew(LiveFault::OutOfMemory | LiveFault::NoThread) => 1,
-            LiveLoadFault::Crew(LiveFault::NoHandle) => 5,
-            LiveLoadFault::Crew(LiveFault::NoPlace) => 6,
+            LiveLoadFault::Crew(fault) => fault.number(),
             LiveLoadFault::Update(fault) => fault.number(),
             LiveLoadFault::Gone => 4,
             LiveLoadFault::Handle(fault) => fault.number(),

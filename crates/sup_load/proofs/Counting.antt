@@ -10,7 +10,7 @@ use Rattle.sup_crew.specs.declared.plan.Report.{Report}
 use Rattle.sup_crew.specs.declared.driver.Tally.{Tally}
 use Rattle.sup_crew.specs.Calls.{calls_of}
 use Rattle.sup_crew.specs.Drivers.{front_of, calls_since}
-use Rattle.sup_crew.specs.Reports.{counts_of_run, calls_of_run}
+use Rattle.sup_crew.specs.Reports.{calls_of_run}
 use Rattle.sup_crew.specs.Tallies.{tally_of}
 use Rattle.sup_load.specs.declared.fault.StopFault.{StopFault}
 use Rattle.sup_load.specs.declared.load.Measured.{Measured}
@@ -22,9 +22,9 @@ own_calls : (template : Template) (before : Knowledge) (ticket : Option Told) �
 own_calls template before None none = refl
 own_calls template before (Some told) none = ap (λ (l : List Entry). drop (length l) (calls_of template told.front before.number)) none
 
-pub counted : {N : Type 0} {G : Ghosts N} (template : Template) (before : Knowledge) (r : Report N G) (s : Sums) → before.calls ≡ [] → counts_of_run r ≡ tally_of (calls_of_run template before r)
-    → s.made ≡ r.made → s.exits ≡ r.exits → s.strays ≡ r.strays → s.restarts ≡ r.restarts → s.given_up ≡ r.given_up → AreCounts template s
-counted template before r s none all a b c d e = let counts : counts_of_run r ≡ tally_of (calls_of template (front_of r.ticket) before.number) = all ∙ ap tally_of (own_calls template before r.ticket none) in record {
+pub counted : {N : Type 0} {G : Ghosts N} (template : Template) (before : Knowledge) (r : Report N G) (s : Sums) → before.calls ≡ [] → r.tally ≡ tally_of (calls_of_run template before r)
+    → s.made ≡ r.tally.made → s.exits ≡ r.tally.exits → s.strays ≡ r.tally.strays → s.restarts ≡ r.tally.restarts → s.given_up ≡ r.tally.given_up → AreCounts template s
+counted template before r s none all a b c d e = let counts : r.tally ≡ tally_of (calls_of template (front_of r.ticket) before.number) = all ∙ ap tally_of (own_calls template before r.ticket none) in record {
   history = front_of r.ticket;
   driver = before.number;
   made = a ∙ ap (λ (t : Tally). t.made) counts;

@@ -6,32 +6,40 @@ ghost use Rattle.sup_load.specs.declared.fault.LoadFault.TheVariants.{Stopped};
 ghost use Rattle.sup_load.specs.declared.fault.StopFault.TheVariants as stop;
 
 use std::alloc::AllocError;
-use std::fmt;
 use sup_crew::CrewFault;
 use sup_desk::{DeskFault, HandleFault, UpdateFault};
 use sup_journal::BeginFault;
 use sup_live::LiveFault;
 use sup_liveload::LiveLoadFault;
 use sup_types::BadTemplate;
+use thiserror::Error;
 
 /// What stopped a load before there was a report, or the run of which it reports.
-#[derive(Clone, Copy, Debug, PartialEq, Eq)]
+#[derive(Clone, Copy, Debug, PartialEq, Eq, Error)]
 pub enum StopFault {
     /// A growth was refused, or the start of a thread.
+    #[error("out of memory")]
     OutOfMemory,
     /// The history has as many entries as the template allows.
+    #[error("the history is full")]
     HistoryFull,
     /// A reader could not learn or enter.
+    #[error("a reader could not learn or enter")]
     Gone,
     /// All handles of the desk were made.
+    #[error("all handles of the desk were made")]
     NoHandle,
     /// All places for lenses are taken.
+    #[error("no place for a lens is left")]
     NoPlace,
     /// A number is out of the range of the template or the desk.
+    #[error("a number is out of the range of the template or the desk")]
     BadTemplate,
     /// The journal broke off.
+    #[error("the journal broke off")]
     Journal,
     /// The journal's file was there already, or could not be made.
+    #[error("the journal's file was there already, or could not be made")]
     NoJournal,
 }
 
@@ -94,11 +102,13 @@ impl StopFault {
 }
 
 /// Why a load or a help text is not written whole.
-#[derive(Clone, Copy, Debug, PartialEq, Eq)]
+#[derive(Clone, Copy, Debug, PartialEq, Eq, Error)]
 pub enum LoadFault {
     /// It was stopped.
+    #[error("fault {}", .0.number())]
     Stopped(StopFault),
     /// The writer answered an error, or took nothing of bytes that were not empty.
+    #[error("fault 11")]
     WriteFault,
 }
 
@@ -113,12 +123,6 @@ impl LoadFault {
             LoadFault::Stopped(fault) => fault.number(),
             LoadFault::WriteFault => 11,
         }
-    }
-}
-
-impl fmt::Display for LoadFault {
-    fn fmt<W: fmt::Write>(&self, f: &mut fmt::Formatter<W>) -> fmt::Result {
-        write!(f, "fault {}", self.number())
     }
 }
 
@@ -186,7 +190,7 @@ impl From<HandleFault> for StopFault {
 }
 
 impl From<CrewFault> for StopFault {
-    ghost use Rattle.sup_work.specs.Faults.{crew_fault_number};
+    ghost use Rattle.sup_crew.specs.Faults.{crew_fault_number};
 
     ghost from_gives = { λ e f. stop_fault_number f ≡ crew_fault_number e };
 

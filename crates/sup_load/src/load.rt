@@ -383,7 +383,7 @@ fn join_readers<R: Threads>(
     let mut outcome = Ok(());
     for reader in readers {
         match reader.join(rt) {
-            Ok(reads) => answered = answered.saturating_add(reads.answered),
+            Ok(reads) => answered = answered.saturating_add(reads.answered.count()),
             Err(gone) => outcome = Err(gone),
         }
     }
@@ -393,8 +393,8 @@ fn join_readers<R: Threads>(
 /// What the report says, with the questions that were answered. The fault is the run's, else Gone where a reader was
 /// refused.
 fn sums_of<N: Name>(report: &Report<N>, asked: (u64, Result<(), Gone>)) -> Sums
-    ensures made { (result.made ≡ report.now.made) × (result.exits ≡ report.now.exits) × (result.strays ≡ report.now.strays) }
-    ensures ended { (result.restarts ≡ report.now.restarts) × (result.given_up ≡ report.now.given_up) }
+    ensures made { (result.made ≡ report.now.tally.made) × (result.exits ≡ report.now.tally.exits) × (result.strays ≡ report.now.tally.strays) }
+    ensures ended { (result.restarts ≡ report.now.tally.restarts) × (result.given_up ≡ report.now.tally.given_up) }
     ensures sums { (moment : ℕ) (plan : List AText) → IsRunOfItsOwn (λ number arg reason. reason ≡ Normal) N.template N.press moment plan report.now →
         AreCounts N.template result }
     ensures fault { result.fault ≡ fault_behind report.now.fault asked.1 }
@@ -407,11 +407,11 @@ fn sums_of<N: Name>(report: &Report<N>, asked: (u64, Result<(), Gone>)) -> Sums
         (None, Ok(())) => None,
     };
     Sums {
-        made: report.made,
-        exits: report.exits,
-        strays: report.strays,
-        restarts: report.restarts,
-        given_up: report.given_up,
+        made: report.tally.made,
+        exits: report.tally.exits,
+        strays: report.tally.strays,
+        restarts: report.tally.restarts,
+        given_up: report.tally.given_up,
         left: report.left.len(),
         held: report.held.len(),
         reads,

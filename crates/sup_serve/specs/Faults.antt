@@ -1,15 +1,12 @@
 -- The numbers of a server's faults.
 use Rattle.std.specs.Prelude.{ℕ}
-use Rattle.sup_threads.specs.declared.plan.LiveFault.TheVariants as live
+use Rattle.sup_threads.specs.Faults.{live_crew_fault_number}
 use Rattle.sup_serve.specs.declared.fault.ServeFault.{ServeFault}
 use Rattle.sup_serve.specs.declared.fault.ServeFault.TheVariants as fault
 
 -- the numbers are the same wherever a fault is answered
 abbrev pub serve_fault_number : ServeFault → ℕ
 serve_fault_number fault.OutOfMemory = 1
-serve_fault_number (fault.Crew live.OutOfMemory) = 1
-serve_fault_number (fault.Crew live.NoThread) = 1
-serve_fault_number (fault.Crew live.NoHandle) = 5
-serve_fault_number (fault.Crew live.NoPlace) = 6
+serve_fault_number (fault.Crew met) = live_crew_fault_number met
 serve_fault_number fault.Read = 10
 serve_fault_number fault.Write = 11

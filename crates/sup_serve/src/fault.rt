@@ -26,16 +26,13 @@ impl ServeFault {
     ghost use Rattle.std.specs.Prelude.{◌≡◌};
     ghost use Rattle.sup_serve.specs.Faults.{serve_fault_number};
 
-    /// The number of this fault.
+    /// Returns the number of this fault.
     pub fn number(self) -> u8
         ensures { result ≡ serve_fault_number self }
     {
         match self {
-            ServeFault::OutOfMemory
-            | ServeFault::Crew(LiveFault::OutOfMemory)
-            | ServeFault::Crew(LiveFault::NoThread) => 1,
-            ServeFault::Crew(LiveFault::NoHandle) => 5,
-            ServeFault::Crew(LiveFault::NoPlace) => 6,
+            ServeFault::OutOfMemory => 1,
+            ServeFault::Crew(fault) => fault.number(),
             ServeFault::Read => 10,
             ServeFault::Write => 11,
         }

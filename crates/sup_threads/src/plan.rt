@@ -35,6 +35,22 @@ pub enum LiveFault {
     NoPlace,
 }
 
+impl LiveFault {
+    ghost use Rattle.std.specs.Prelude.{◌≡◌};
+    ghost use Rattle.sup_threads.specs.Faults.{live_crew_fault_number};
+
+    /// Returns the number of this fault.
+    pub fn number(&self) -> u8
+        ensures { result ≡ live_crew_fault_number self.now }
+    {
+        match self {
+            Self::OutOfMemory | Self::NoThread => 1,
+            Self::NoHandle => 5,
+            Self::NoPlace => 6,
+        }
+    }
+}
+
 impl From<OutOfMemory> for LiveFault {
     fn from(_fault: OutOfMemory) -> Self {
         LiveFault::OutOfMemory

@@ -7,7 +7,6 @@ ghost use Rattle.sup_format.specs.declared.fault.Fault.TheVariants.{BadLine};
 ghost use Rattle.sup_format.specs.Causes.{IsTextFault};
 ghost use Rattle.sup_format.specs.Reading.Words.{words_left};
 ghost use Rattle.sup_format.specs.Reading.Headers.{HasFirst, HasParts};
-ghost use Rattle.sup_format.specs.Reading.Tokens.{HasNoArguments, IsOperation, argument_words, operation_verb};
 ghost use Rattle.sup_format.specs.Reading.History.{AreFirstWords, EntryMeans, MeansNoEntry, Spells};
 ghost use Rattle.sup_format.specs.Reading.HistoryReading.{HistoryStops, IsReadTo, HasPlain, HasMarked, HasDeed, HasAnswer, HasFailure, IsNextEntry};
 
@@ -209,21 +208,11 @@ fn read_deed(rest: Option<&[u8]>) -> Option<(Operation, Answer)>
 {
     let (word, rest) = next_word(rest?);
     let verb = read_verb(word)?;
-    let Some((operation, rest)) = called_operation(verb, rest) else {
+    let Some((operation, rest)) = next_operation(verb, rest) else {
         return None;
     };
     let answer = read_answer(rest)?;
     Some((operation, answer))
-}
-
-/// As [`next_operation`], by a call: inlined, it makes the lines of a history slower, which have more words around it.
-#[inline(never)]
-fn called_operation(verb: Verb, rest: Option<&[u8]>) -> Option<(Operation, Option<&[u8]>)>
-    ensures { MatchOption result (HasNoArguments verb (words_left rest.entry))
-        (λ found. IsOperation found.0 × (operation_verb found.0 ≡ verb)
-        × (words_left rest.entry ≡ argument_words found.0 ++ words_left found.1)) }
-{
-    next_operation(verb, rest)
 }
 
 /// The answer that the last words are.

@@ -157,8 +157,6 @@ pub fn after_word<'a>(rest: Option<&'a [u8]>, word: &[u8]) -> Option<Option<&'a 
 }
 
 /// The operation of this name with the arguments that the next words are, and the words after them.
-// (Inlined: an operation that a call returns is written in pieces and then read as one, which takes time.)
-#[inline(always)]
 pub fn next_operation(verb: Verb, rest: Option<&[u8]>) -> Option<(Operation, Option<&[u8]>)>
     ensures { MatchOption result (HasNoArguments verb (words_left rest.entry))
         (λ found. IsOperation found.0 × (operation_verb found.0 ≡ verb)

@@ -133,10 +133,7 @@ pub fn append_refusal<A: Allocator>(
     }
 }
 
-// The lines of replies are written piece by piece, and what writes them is inlined, so that a word which is known is not copied by a call.
-
 /// Appends a line of one word.
-#[inline(always)]
 fn append_word<A: Allocator>(out: &mut Vec<u8, A>, word: &[u8]) -> Result<(), AllocError>
     ensures ok { OnOk result (out.new.items ≡ out.old.items ++ line_of (word.now ∷ [])) }
     ensures err { OnErr result (Grows out.old.items out.new.items) }
@@ -146,7 +143,6 @@ fn append_word<A: Allocator>(out: &mut Vec<u8, A>, word: &[u8]) -> Result<(), Al
     Ok(())
 }
 
-#[inline(always)]
 fn append_words<A: Allocator>(
     out: &mut Vec<u8, A>,
     first: &[u8],
@@ -160,7 +156,6 @@ fn append_words<A: Allocator>(
     append_word(out, second)
 }
 
-#[inline(always)]
 fn append_numbered<A: Allocator>(
     out: &mut Vec<u8, A>,
     word: &[u8],
@@ -173,7 +168,6 @@ fn append_numbered<A: Allocator>(
     append_last(out, number)
 }
 
-#[inline(always)]
 fn append_pair<A: Allocator>(
     out: &mut Vec<u8, A>,
     word: &[u8],

@@ -241,9 +241,8 @@ fn answer_command<S: FixedStarter, A: Allocator + Copy>(
     ensures err { OnErr result (Grows out.old.items out.new.items) }
     ensures fault { IfErr result (λ f. IsLineFault f) }
 {
-    // (Read where it is returned: moved out, it would be copied piece by piece.)
-    match &read_line(line) {
-        Some(command) => Ok(append_answer(command, sup, starter, out)?),
+    match read_line(line) {
+        Some(command) => Ok(append_answer(&command, sup, starter, out)?),
         None => Err(Fault::BadLine),
     }
 }

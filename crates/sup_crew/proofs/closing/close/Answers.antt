@@ -2,18 +2,18 @@ use Rattle.std.proofs.Common.{◌≡◌, ℕ, ◌+◌, List, ◌++◌, length, s
 use Rattle.sup_inbox.specs.declared.note.Note.{Note}
 use Rattle.sup_inbox.specs.Ends.{AreOf}
 use Rattle.sup_inbox.specs.PostingLaws.{are_of}
-use Rattle.sup_work.specs.declared.job.Child.{Child}
+use Rattle.sup_crew.specs.declared.job.Child.{Child}
 use Rattle.sup_core.specs.Account.{account}
 use Rattle.sup_crew.specs.Calls.{jobs_made}
-use Rattle.sup_work.specs.Jobs.{weigh, children_of}
-use Rattle.sup_work.specs.Joins.{taken_of}
+use Rattle.sup_crew.specs.Jobs.{weigh, children_of}
+use Rattle.sup_crew.specs.Joins.{taken_of}
 use Rattle.sup_crew.specs.Drivers.{front_of, calls_since}
-use Rattle.sup_work.specs.Work.{ended, AreEnds}
-use Rattle.sup_work.specs.JobLaws.{weigh-append}
+use Rattle.sup_crew.specs.Work.{ended, AreEnds}
+use Rattle.sup_crew.specs.JobLaws.{weigh-append}
 use Rattle.sup_crew.proofs.Right.{since-right}
 use Rattle.sup_crew.proofs.Reported.{own-others, own-left, named-entered, agree, none_unstarted}
 use Rattle.sup_crew.proofs.Sums.{endpoints, rows_of, posters-length, back_ends, taken-told, run_told, run_ends}
-use Rattle.sup_work.specs.WorkLaws.{ended-append, are_ends-append, are_ends-split}
+use Rattle.sup_crew.specs.WorkLaws.{ended-append, are_ends-append, are_ends-split}
 use Rattle.sup_crew.proofs.closing.close.Goals as goal
 
 pub collect-endpoint-requires-clause-endpoints : goal.collect-endpoint-requires-clause-endpoints

@@ -1,53 +1,131 @@
-use Rattle.std.proofs.Common.{◌≡◌, [], sym, ◌∙◌, ap, arith}
+use Rattle.std.proofs.Common.{rules, ◌≡◌, List, [], length, take, arith, sym, ◌∙◌, ap, subst}
 use Rattle.std.proofs.lemmas.List.{nil_from_length}
-use Rattle.sup_desk.specs.Books.{Kept}
-use Rattle.sup_desk.proofs.Results.{HasMet, seen_with, none_applied}
+use mathlib.Core.List.{IsPrefix}
+use Rattle.sup_types.specs.declared.history.Operation.{Operation}
+use Rattle.sup_types.specs.declared.history.Reply.{Reply}
+use Rattle.sup_desk.specs.Books.{Kept, Written, IsLeft}
+use Rattle.sup_desk.specs.Knowledge.{Knowledge}
+use Rattle.sup_desk.proofs.Results.{book_of}
+use Rattle.sup_desk.proofs.Queued.{queue_covered, queue_met, queue_seen, queue_entered, queue_silent, queue_applied}
 use Rattle.sup_desk.proofs.laws.enter_all.Goals as goal
 
-pub returns-in_default-fault-clause-seen : goal.returns-in_default-fault-clause-seen
-returns-in_default-fault-clause-seen g c =
-    let book : Kept = c.give_ticket-told.new.book in
-    let told = c.give_ticket-told.ensures in
-    let has : HasMet book c.args.handle.now c.give_ticket-told.new.handle = record {
-      front = told.front.0 ∙ sym (ap (λ (k : Kept). k.history) told.same);
-      editions_are = told.front.1 ∙ sym (ap (λ (k : Kept). k.editions) told.same);
-      whole = told.whole;
-      own = told.own;
-      seen = told.seen;
-      calls = told.calls;
-    } in
-    let entered = c.in-Ok.ensures.entered in
-    seen_with g.S.Starter.may_answer g.N.Name.template g.N.Name.press book c.args.handle.now c.give_ticket-told.new.handle c.enter_met.new.handle c.args.moment has entered.0 entered.3
+pub show-ticket-requires : goal.show-ticket-requires
+show-ticket-requires g c =
+    let book : Kept = book_of c.meet.new.self in
+    let caller : Knowledge = c.meet.new.caller in
+    let same = c.meet.ensures.same in
+    let front : IsPrefix caller.front book.history =
+    subst (λ (x : Written × Knowledge). IsPrefix x.1.front x.0.published) (λ i. (sym same.0 i, sym same.1 i)) c.meet.ensures.covered.0 in
+    let editions : IsPrefix caller.editions book.editions =
+    subst (λ (x : Written × Knowledge). IsPrefix x.1.editions x.0.editions) (λ i. (sym same.0 i, sym same.1 i)) c.meet.ensures.covered.1 in
+    let after : Knowledge = c.enter_queue-fault.new.caller in
+    let replies : List Reply = c.enter_queue-fault.new.replies.items in
+    let covered = queue_covered g.S.Starter.may_answer g.J.Journal.may_fail g.N.Name.template book c.enter_queue-fault.new.book caller after
+    (take (length replies) c.args.operations.now.items) c.args.moment replies c.enter_queue-fault.ensures.entered front editions in
+    record {
+      covered = (
+        subst (λ (k : Kept). IsPrefix after.front k.history) (sym c.book-2.view_is) covered.0,
+        subst (λ (k : Kept). IsPrefix after.editions k.editions) (sym c.book-2.view_is) covered.1,
+      );
+    }
+
+pub returns-in_default-clause-seen : goal.returns-in_default-clause-seen
+returns-in_default-clause-seen g c =
+    let may = g.S.Starter.may_answer in
+    let fails = g.J.Journal.may_fail in
+    let t = g.N.Name.template in
+    let one = c.enter_queue-fault in
+    let replies : List Reply = one.new.replies.items in
+    let operations : List Operation = take (length replies) c.args.operations.now.items in
+    let q = queue_met may fails t g.N.Name.press c.args.book.now c.args.handle.now operations c.args.moment replies one.new.book c.show-ticket.new.caller c.book.inside.transaction c.meet.new.self c.book-2.inside.transaction
+    c.handle.inside.caller c.meet.new.caller one.new.caller c.book.view_is c.handle.view_is c.meet.ensures.same c.meet.ensures.whole c.meet.ensures.met c.meet.ensures.covered one.ensures.entered c.book-2.view_is c.show-ticket.ensures.caller in
+    queue_seen may fails t g.N.Name.press c.args.book.now c.args.handle.now operations c.args.moment replies one.new.book c.show-ticket.new.caller q
+
+pub returns-in_default-clause-entered : goal.returns-in_default-clause-entered
+returns-in_default-clause-entered g c =
+    let may = g.S.Starter.may_answer in
+    let fails = g.J.Journal.may_fail in
+    let t = g.N.Name.template in
+    let one = c.enter_queue-fault in
+    let replies : List Reply = one.new.replies.items in
+    let operations : List Operation = take (length replies) c.args.operations.now.items in
+    let q = queue_met may fails t g.N.Name.press c.args.book.now c.args.handle.now operations c.args.moment replies one.new.book c.show-ticket.new.caller c.book.inside.transaction c.meet.new.self c.book-2.inside.transaction
+    c.handle.inside.caller c.meet.new.caller one.new.caller c.book.view_is c.handle.view_is c.meet.ensures.same c.meet.ensures.whole c.meet.ensures.met c.meet.ensures.covered one.ensures.entered c.book-2.view_is c.show-ticket.ensures.caller in
+    queue_entered may fails t g.N.Name.press c.args.book.now c.args.handle.now operations c.args.moment replies one.new.book c.show-ticket.new.caller q
+
+pub returns-then-is_empty-clause-seen : goal.returns-then-is_empty-clause-seen
+returns-then-is_empty-clause-seen g c =
+    let may = g.S.Starter.may_answer in
+    let fails = g.J.Journal.may_fail in
+    let t = g.N.Name.template in
+    let one = c.enter_queue-fault in
+    let replies : List Reply = one.new.replies.items in
+    let operations : List Operation = take (length replies) c.args.operations.now.items in
+    let q = queue_met may fails t g.N.Name.press c.args.book.now c.args.handle.now operations c.args.moment replies one.new.book c.show-ticket.new.caller c.book.inside.transaction c.meet.new.self c.book-2.inside.transaction
+    c.handle.inside.caller c.meet.new.caller one.new.caller c.book.view_is c.handle.view_is c.meet.ensures.same c.meet.ensures.whole c.meet.ensures.met c.meet.ensures.covered one.ensures.entered c.book-2.view_is c.show-ticket.ensures.caller in
+    queue_seen may fails t g.N.Name.press c.args.book.now c.args.handle.now operations c.args.moment replies one.new.book c.show-ticket.new.caller q
+
+pub returns-then-is_empty-clause-entered : goal.returns-then-is_empty-clause-entered
+returns-then-is_empty-clause-entered g c =
+    let may = g.S.Starter.may_answer in
+    let fails = g.J.Journal.may_fail in
+    let t = g.N.Name.template in
+    let one = c.enter_queue-fault in
+    let replies : List Reply = one.new.replies.items in
+    let operations : List Operation = take (length replies) c.args.operations.now.items in
+    let q = queue_met may fails t g.N.Name.press c.args.book.now c.args.handle.now operations c.args.moment replies one.new.book c.show-ticket.new.caller c.book.inside.transaction c.meet.new.self c.book-2.inside.transaction
+    c.handle.inside.caller c.meet.new.caller one.new.caller c.book.view_is c.handle.view_is c.meet.ensures.same c.meet.ensures.whole c.meet.ensures.met c.meet.ensures.covered one.ensures.entered c.book-2.view_is c.show-ticket.ensures.caller in
+    queue_entered may fails t g.N.Name.press c.args.book.now c.args.handle.now operations c.args.moment replies one.new.book c.show-ticket.new.caller q
 
 pub returns-clause-seen : goal.returns-clause-seen
 returns-clause-seen g c =
-    let book : Kept = c.give_ticket-told.new.book in
-    let told = c.give_ticket-told.ensures in
-    let has : HasMet book c.args.handle.now c.give_ticket-told.new.handle = record {
-      front = told.front.0 ∙ sym (ap (λ (k : Kept). k.history) told.same);
-      editions_are = told.front.1 ∙ sym (ap (λ (k : Kept). k.editions) told.same);
-      whole = told.whole;
-      own = told.own;
-      seen = told.seen;
-      calls = told.calls;
-    } in
-    let entered = c.in-Ok.ensures.entered in
-    seen_with g.S.Starter.may_answer g.N.Name.template g.N.Name.press book c.args.handle.now c.give_ticket-told.new.handle c.enter_met.new.handle c.args.moment has entered.0 entered.3
+    let may = g.S.Starter.may_answer in
+    let fails = g.J.Journal.may_fail in
+    let t = g.N.Name.template in
+    let one = c.enter_queue-fault in
+    let replies : List Reply = one.new.replies.items in
+    let operations : List Operation = take (length replies) c.args.operations.now.items in
+    let q = queue_met may fails t g.N.Name.press c.args.book.now c.args.handle.now operations c.args.moment replies one.new.book c.show-ticket.new.caller c.book.inside.transaction c.meet.new.self c.book-2.inside.transaction
+    c.handle.inside.caller c.meet.new.caller one.new.caller c.book.view_is c.handle.view_is c.meet.ensures.same c.meet.ensures.whole c.meet.ensures.met c.meet.ensures.covered one.ensures.entered c.book-2.view_is c.show-ticket.ensures.caller in
+    queue_seen may fails t g.N.Name.press c.args.book.now c.args.handle.now operations c.args.moment replies one.new.book c.show-ticket.new.caller q
 
--- an empty queue enters nothing
-pub returns-then-is_empty-clause-ok : goal.returns-then-is_empty-clause-ok
-returns-then-is_empty-clause-ok g c =
-    let book : Kept = c.give_ticket-told.new.book in
-    let told = c.give_ticket-told.ensures in
-    let has : HasMet book c.args.handle.now c.give_ticket-told.new.handle = record {
-      front = told.front.0 ∙ sym (ap (λ (k : Kept). k.history) told.same);
-      editions_are = told.front.1 ∙ sym (ap (λ (k : Kept). k.editions) told.same);
-      whole = told.whole;
-      own = told.own;
-      seen = told.seen;
-      calls = told.calls;
-    } in
-    let operations : c.args.operations.now.items ≡ [] = nil_from_length _ (grind (arith, c.is_empty.ensures, c.if-is_empty.true, c.args.operations.now.ok)) in
-    let replies : c.args.replies.now.items ≡ [] = nil_from_length _ (omega (arith, c.args.replies.now.ok.0, c.requires.none)) in
-    none_applied g.S.Starter.may_answer g.N.Name.template g.N.Name.press book c.args.handle.now c.give_ticket-told.new.handle c.give_ticket-told.new.handle c.args.moment has
-    c.args.operations.now.items c.args.replies.now.items c.give_ticket-told.result operations replies told.ticket
+pub returns-clause-entered : goal.returns-clause-entered
+returns-clause-entered g c =
+    let may = g.S.Starter.may_answer in
+    let fails = g.J.Journal.may_fail in
+    let t = g.N.Name.template in
+    let one = c.enter_queue-fault in
+    let replies : List Reply = one.new.replies.items in
+    let operations : List Operation = take (length replies) c.args.operations.now.items in
+    let q = queue_met may fails t g.N.Name.press c.args.book.now c.args.handle.now operations c.args.moment replies one.new.book c.show-ticket.new.caller c.book.inside.transaction c.meet.new.self c.book-2.inside.transaction
+    c.handle.inside.caller c.meet.new.caller one.new.caller c.book.view_is c.handle.view_is c.meet.ensures.same c.meet.ensures.whole c.meet.ensures.met c.meet.ensures.covered one.ensures.entered c.book-2.view_is c.show-ticket.ensures.caller in
+    queue_entered may fails t g.N.Name.press c.args.book.now c.args.handle.now operations c.args.moment replies one.new.book c.show-ticket.new.caller q
+
+pub returns-then-is_empty-clause-nothing : goal.returns-then-is_empty-clause-nothing
+returns-then-is_empty-clause-nothing g c =
+    let may = g.S.Starter.may_answer in
+    let fails = g.J.Journal.may_fail in
+    let t = g.N.Name.template in
+    let one = c.enter_queue-fault in
+    let replies : List Reply = one.new.replies.items in
+    let operations : List Operation = take (length replies) c.args.operations.now.items in
+    let q = queue_met may fails t g.N.Name.press c.args.book.now c.args.handle.now operations c.args.moment replies one.new.book c.show-ticket.new.caller c.book.inside.transaction c.meet.new.self c.book-2.inside.transaction
+    c.handle.inside.caller c.meet.new.caller one.new.caller c.book.view_is c.handle.view_is c.meet.ensures.same c.meet.ensures.whole c.meet.ensures.met c.meet.ensures.covered one.ensures.entered c.book-2.view_is c.show-ticket.ensures.caller in
+    let none : replies ≡ [] = nil_from_length replies (grind (arith, c.is_empty.ensures, c.if-is_empty.true, one.new.replies.ok)) in
+    let silent = queue_silent may fails t g.N.Name.press c.args.book.now c.args.handle.now operations c.args.moment replies one.new.book c.show-ticket.new.caller q none in
+    let book : book_of c.meet.new.self ≡ c.args.book.now = ap book_of c.meet.ensures.same.0 ∙ c.book.view_is in
+    (none, silent.0, silent.1, subst (λ (k : Kept). IsLeft fails k c.in-Some.fault one.new.book) book (c.in-Some.ensures.left none))
+
+pub returns-clause-part : goal.returns-clause-part
+returns-clause-part g c =
+    let may = g.S.Starter.may_answer in
+    let fails = g.J.Journal.may_fail in
+    let t = g.N.Name.template in
+    let one = c.enter_queue-fault in
+    let replies : List Reply = one.new.replies.items in
+    let operations : List Operation = take (length replies) c.args.operations.now.items in
+    let q = queue_met may fails t g.N.Name.press c.args.book.now c.args.handle.now operations c.args.moment replies one.new.book c.show-ticket.new.caller c.book.inside.transaction c.meet.new.self c.book-2.inside.transaction
+    c.handle.inside.caller c.meet.new.caller one.new.caller c.book.view_is c.handle.view_is c.meet.ensures.same c.meet.ensures.whole c.meet.ensures.met c.meet.ensures.covered one.ensures.entered c.book-2.view_is c.show-ticket.ensures.caller in
+    let shown = c.show-ticket.ensures.caller in
+    let told = c.show-ticket.ensures.ticket ∙ (λ i. record { press = g.N.Name.press; editions = (sym shown i).editions; front = (sym shown i).front }) in
+    (queue_applied may fails t g.N.Name.press c.args.book.now c.args.handle.now operations c.args.moment replies one.new.book c.show-ticket.new.caller q c.show-ticket.result told, search rules)

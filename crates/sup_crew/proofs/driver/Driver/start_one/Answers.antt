@@ -1,8 +1,8 @@
 use Rattle.std.proofs.Common.{◌+◌, ◌∷◌, [], ◌++◌, sym, ◌∙◌, refl, subst, append-nil}
 use Rattle.sup_desk.specs.Knowledge.{Knowledge}
-use Rattle.sup_drain.specs.Drains.{DrainModel}
+use Rattle.sup_crew.specs.Drains.{DrainModel}
 use Rattle.sup_crew.specs.Drivers.{run_of, DriverModel, HasDriven, started_job}
-use Rattle.sup_work.specs.Jobs.{weigh}
+use Rattle.sup_crew.specs.Jobs.{weigh}
 use Rattle.sup_crew.proofs.Born.{updated-born}
 use Rattle.sup_crew.proofs.Driven.{driven-stays, driven-started}
 use Rattle.sup_crew.proofs.Driven.{on_err-any}

@@ -14,7 +14,7 @@ pub returns-clause-journal : goal.returns-clause-journal
 returns-clause-journal g c =
     let n = g.N.Name in
     let j = g.J.Journal in
-    let leaf : Written = c.self.inside.leaf in
+    let leaf : Written = c.self.inside.transaction in
     let journal = c.close.result.journal in
     let fault : Option JournalFault = c.close.result.fault in
     let history : leaf.published ≡ c.args.self.history = ap (λ (k : Kept). k.history) c.self.view_is in

@@ -1,0 +1,67 @@
+//! What the driver and the workers of a run share, and how they wake each other.
+use crate::queue::Jobs;
+use std::sync::atomic::{AtomicBool, Ordering};
+use std::sync::{Condvar, Wait};
+use std::time::Duration;
+use sup_desk::Name;
+use sup_inbox::Inbox;
+use sup_types::Text;
+
+/// What the driver and the workers of a run share. It is made before the first thread, and taken apart once all were joined.
+#[derive(Drop)]
+pub struct Crew<N: Name> {
+    /// The queue of jobs.
+    pub jobs: Jobs<N>,
+    /// The inbox, to which the workers post.
+    pub inbox: Inbox,
+    /// How they wake each other, and whether the run is over.
+    pub signals: Signals,
+    /// The arguments of the children that are to be started, in order.
+    pub children: Vec<Text>,
+    /// How often a post is tried, and how many turns in a row the driver finds nothing before it gives up.
+    pub turns: u64,
+    /// The moment of all updates.
+    pub moment: u64,
+}
+
+/// The signals of a run, and whether it is over. Whoever waits counts the notifications, looks for what they need, and sleeps
+/// if it is not there: a notification after the count ends the sleep, so none is missed.
+#[derive(Drop)]
+pub struct Signals {
+    /// A job was queued, or the run is over.
+    pub queued: Condvar,
+    /// An exit was posted.
+    pub posted: Condvar,
+    /// The inbox was drained, or the run is over.
+    pub drained: Condvar,
+    over: AtomicBool,
+}
+
+/// Sleeps until the signal is given after this count of notifications, or a tenth of a second has gone by: one turn of a plan.
+pub fn sleep<R: Wait>(rt: &R, signal: &Condvar, noted: u64) {
+    signal.sleep(rt, noted, Duration::from_millis(100));
+}
+
+impl Signals {
+    /// Returns those of a run that begins.
+    pub fn new() -> Signals {
+        Signals {
+            queued: Condvar::new(),
+            posted: Condvar::new(),
+            drained: Condvar::new(),
+            over: AtomicBool::new(false),
+        }
+    }
+
+    /// Whether the run is over.
+    pub fn is_over(&self) -> bool {
+        self.over.load(Ordering::SeqCst)
+    }
+
+    /// Says that the run is over, and wakes the workers.
+    pub fn end(&self) {
+        self.over.store(true, Ordering::SeqCst);
+        self.queued.notify_all();
+        self.drained.notify_all();
+    }
+}

@@ -1,0 +1,330 @@
+//! The drain: it takes notes and enters them as exits, in order, and holds those that it could not enter.
+ghost use Rattle.std.specs.Prelude.{◌≡◌, List, ◌+◌, ◌<◌, ◌≤◌, ◌⊎◌, [], ◌∷◌, ◌++◌, take, IfOk, IfErr, MatchResult, length, vec_len, vec_capacity};
+ghost use Rattle.std.specs.VecDeque.{deque_len, deque_capacity};
+ghost use Rattle.arrayvec.specs.ArrayVec.{array_vec_len};
+ghost use mathlib.Core.List.{IsPrefix};
+ghost use Rattle.sup_desk.specs.Faults.{update_fault_number};
+ghost use Rattle.sup_crew.specs.Exits.{exits};
+ghost use Rattle.sup_crew.specs.Drains.{DrainModel, entered_of, notes_of, replies_of, IsEntered};
+
+use arrayvec::ArrayVec;
+use std::alloc::Global;
+use std::collections::VecDeque;
+use std::fmt;
+use std::marker::Model;
+use std::sync::Wait;
+use sup_desk::{Dones, Handle, Journal, Name, Part, UpdateFault};
+use sup_inbox::{Inbox, Note, Taker};
+use sup_log::Ticket;
+use sup_types::{Operation, OutOfMemory, Reply, Starter};
+use thiserror::Error;
+
+/// How many notes a drain holds at most.
+pub const HELD: usize = 64;
+
+/// The taker of an inbox, and the notes that were taken and not entered.
+#[derive(Drop)]
+pub struct Drain {
+    taker: Taker,
+    held: ArrayVec<Note, HELD>,
+    room: Option<Room>,
+}
+
+/// Room for the exits that a drain enters, and for its pairs. The first drain that finds a note makes it, and each later one
+/// uses it again.
+#[derive(Drop)]
+struct Room {
+    operations: VecDeque<Operation>,
+    pairs: Vec<(Note, Reply)>,
+}
+
+impl Model for Drain {
+    ghost Value = { DrainModel };
+
+    ghost view = { λ d. record { inbox = d.taker.inbox; posters = d.taker.posters; entered = entered_of d.taker.taken d.held.items; held = d.held.items } };
+
+    ghost invariant = { λ d. d.taker.taken ≡ entered_of d.taker.taken d.held.items ++ d.held.items };
+}
+
+/// The notes that one drain entered, in order, each with the reply to its exit, and a ticket for the history up to and with
+/// the last of them, where there is one.
+#[derive(Drop)]
+pub struct Drained {
+    /// The notes and the replies.
+    pub pairs: Vec<(Note, Reply)>,
+    /// The history with their exits.
+    pub ticket: Option<Ticket>,
+}
+
+/// A drain that did not enter all that it was to: what it entered before, and why it stopped.
+#[derive(Drop, Error)]
+#[error("the drain stopped: {fault}")]
+pub struct DrainFault {
+    /// What was entered.
+    pub done: Drained,
+    /// Why the others were not. They are held, and go first next time.
+    pub fault: UpdateFault,
+}
+
+impl DrainFault {
+    /// Returns the number of the fault that stopped it.
+    pub fn number(&self) -> u8
+        ensures { result ≡ update_fault_number self.now.fault }
+    {
+        self.fault.number()
+    }
+}
+
+/// How many notes were entered, and the fault. A ticket shows nothing of itself.
+impl fmt::Debug for DrainFault {
+    fn fmt<W: fmt::Write>(&self, f: &mut fmt::Formatter<W>) -> fmt::Result {
+        write!(
+            f,
+            "DrainFault {{ entered: {}, fault: {:?} }}",
+            self.done.pairs.len(),
+            self.fault
+        )
+    }
+}
+
+/// The fault alone. What was entered is let go.
+impl From<DrainFault> for UpdateFault {
+    ghost from_gives = { λ e f. f ≡ e.fault };
+
+    fn from(met: DrainFault) -> Self {
+        met.fault
+    }
+}
+
+/// Takes notes until `limit` are held, or the inbox is empty.
+fn fill<R: Wait>(
+    rt: &R,
+    inbox: &Inbox,
+    taker: &mut Taker,
+    held: &mut ArrayVec<Note, HELD>,
+    limit: usize,
+)
+    requires { (taker.old.inbox ≡ inbox.now.id) × (limit ≤ 64) }
+    ensures same { (taker.new.inbox ≡ taker.old.inbox) × (taker.new.posters ≡ taker.old.posters) }
+    ensures held { (entered : List _) → taker.old.taken ≡ entered ++ held.old.items → taker.new.taken ≡ entered ++ held.new.items }
+{
+    for _ in 0..limit {
+        if held.len() >= limit {
+            return;
+        }
+        match taker.take(rt, inbox) {
+            Some(note) => held.push(note),
+            None => return,
+        }
+    }
+}
+
+/// Empties the room of an earlier drain, or makes room for as many notes as a drain holds.
+fn make_room(alloc: Global, room: Option<Room>) -> Result<Room, OutOfMemory>
+    ensures empty { IfOk result (λ r. (r.operations.items ≡ []) × (deque_len r.operations ≡ 0) × (r.pairs.items ≡ [])) }
+    ensures room { IfOk result (λ r. (64 ≤ deque_capacity r.operations) × (64 ≤ vec_capacity r.pairs)) }
+{
+    let mut room = match room {
+        Some(room) => room,
+        None => Room {
+            operations: VecDeque::new(alloc),
+            pairs: Vec::new(alloc),
+        },
+    };
+    room.operations.clear();
+    room.operations.reserve(HELD)?;
+    room.pairs.clear();
+    room.pairs.reserve(HELD)?;
+    Ok(room)
+}
+
+/// Lists the exits that the first notes tell.
+#[tactic(auto, using(crate::proofs::DrainLemmas::exits_more))]
+fn list_exits(held: &ArrayVec<Note, HELD>, count: usize, operations: &mut VecDeque<Operation>)
+    requires count { count ≤ array_vec_len held.now }
+    requires room { (operations.old.items ≡ []) × (deque_len operations.old ≡ 0) × (count ≤ deque_capacity operations.old) }
+    ensures { operations.new.items ≡ exits (take count held.now.items) }
+{
+    for place in 0..count {
+        let note = &held[place];
+        operations.push_back_reserved(Operation::Exit(note.number, note.reason));
+    }
+}
+
+/// The first notes with these replies, taken out of those that are held.
+fn pair_up(
+    held: &mut ArrayVec<Note, HELD>,
+    replies: Vec<Reply>,
+    pairs: Vec<(Note, Reply)>,
+) -> Vec<(Note, Reply)>
+    requires room { (pairs.items ≡ []) × (vec_len replies ≤ vec_capacity pairs) }
+    requires notes { vec_len replies ≤ array_vec_len held.old }
+    ensures replies { replies_of result.items ≡ replies.items }
+    ensures notes { notes_of result.items ++ held.new.items ≡ held.old.items }
+{
+    let mut pairs = pairs;
+    let count = replies.len();
+    let mut rest = replies.into_iter();
+    for note in held.drain(..count) {
+        let Some(reply) = rest.next() else {
+            unreachable!()
+        };
+        // Names the reason: the borrow checker of this kit asks where its type is declared.
+        let reason = note.reason;
+        pairs.push_reserved((Note { reason, ..note }, reply));
+    }
+    pairs
+}
+
+/// Enters these exits of the first notes that are held, in order and in one step. Those that were entered are held no more.
+fn enter_held<N: Name, S: Starter + Drop, P: Wait + Drop, J: Journal + Drop, R: Wait>(
+    rt: &R,
+    alloc: Global,
+    handle: &mut Handle<'_, N, S, P, J>,
+    moment: u64,
+    held: &mut ArrayVec<Note, HELD>,
+    count: usize,
+    operations: &mut VecDeque<Operation>,
+    pairs: Vec<(Note, Reply)>,
+) -> Result<Drained, DrainFault>
+    requires count { (1 ≤ count) × (count ≤ array_vec_len held.old) }
+    requires exits { operations.old.items ≡ exits (take count held.old.items) }
+    requires room { (pairs.items ≡ []) × (count ≤ vec_capacity pairs) }
+    ensures ok { IfOk result (λ d. IsEntered S.may_answer N.template N.press handle.old handle.new moment d.pairs.items d.ticket) }
+    ensures all { IfOk result (λ d. (notes_of d.pairs.items ++ held.new.items ≡ held.old.items) × (vec_len d.pairs ≡ count)) }
+    ensures err { IfErr result (λ e. IsEntered S.may_answer N.template N.press handle.old handle.new moment e.done.pairs.items e.done.ticket) }
+    ensures part { IfErr result (λ e. notes_of e.done.pairs.items ++ held.new.items ≡ held.old.items) }
+    ensures few { IfErr result (λ e. vec_len e.done.pairs ≤ count) }
+    ensures front { IsPrefix handle.old.front handle.new.front }
+    ensures gone { IfErr result (λ e. e.fault ≡ UpdateFault.Gone → ⊥) }
+    ensures full { IfErr result (λ e. e.fault ≡ UpdateFault.HistoryFull → length handle.new.front ≡ N.template.entries) }
+{
+    match handle.apply_all(rt, alloc, moment, operations) {
+        Ok(Dones { replies, ticket }) => Ok(Drained {
+            pairs: pair_up(held, replies, pairs),
+            ticket: Some(ticket),
+        }),
+        Err(
+            Part {
+                replies,
+                ticket,
+                fault,
+            },
+        ) => {
+            let pairs = pair_up(held, replies, pairs);
+            Err(DrainFault {
+                done: Drained { pairs, ticket },
+                fault,
+            })
+        }
+    }
+}
+
+/// Nothing was entered.
+fn nothing(alloc: Global) -> Drained
+    ensures { (result.pairs.items ≡ []) × (vec_len result.pairs ≡ 0) × (result.ticket ≡ None) }
+{
+    Drained {
+        pairs: Vec::new(alloc),
+        ticket: None,
+    }
+}
+
+impl Drain {
+    /// A drain that holds no note. It takes no memory.
+    pub fn new(taker: Taker) -> Drain
+        ensures { result ≡ record { inbox = taker.inbox; posters = taker.posters; entered = taker.taken; held = [] } }
+    {
+        Drain {
+            taker,
+            held: ArrayVec::new(),
+            room: None,
+        }
+    }
+
+    /// Takes notes until `limit` are held or the inbox is empty, and enters the first `limit` of them as exits, in order
+    /// and in one step. `limit` is 1 to 64. Notes that were not entered stay held and go first next time. With no note it
+    /// takes no lock and no memory. The room for what it enters and answers is made before anything is entered, and kept.
+    pub fn drain<N: Name, S: Starter + Drop, P: Wait + Drop, J: Journal + Drop, R: Wait>(
+        &mut self,
+        rt: &R,
+        alloc: Global,
+        inbox: &Inbox,
+        handle: &mut Handle<'_, N, S, P, J>,
+        moment: u64,
+        limit: usize,
+    ) -> Result<Drained, DrainFault>
+        requires { (self.old.inbox ≡ inbox.now.id) × (1 ≤ limit) × (limit ≤ 64) }
+        ensures same { (self.new.inbox ≡ self.old.inbox) × (self.new.posters ≡ self.old.posters) }
+
+        // What was entered.
+        ensures ok { IfOk result (λ d. IsEntered S.may_answer N.template N.press handle.old handle.new moment d.pairs.items d.ticket) }
+        ensures entered { IfOk result (λ d. self.new.entered ≡ self.old.entered ++ notes_of d.pairs.items) }
+        ensures all { IfOk result (λ d. (vec_len d.pairs ≡ limit) ⊎ (self.new.held ≡ [])) }
+        ensures idle { IfOk result (λ d. d.pairs.items ≡ [] → handle.new ≡ handle.old) }
+        ensures few { MatchResult result (λ d. vec_len d.pairs ≤ limit) (λ e. vec_len e.done.pairs ≤ limit) }
+
+        // What a fault leaves, and when it comes.
+        ensures err { IfErr result (λ e. IsEntered S.may_answer N.template N.press handle.old handle.new moment e.done.pairs.items e.done.ticket) }
+        ensures part { IfErr result (λ e. self.new.entered ≡ self.old.entered ++ notes_of e.done.pairs.items) }
+        ensures front { IsPrefix handle.old.front handle.new.front }
+        ensures gone { IfErr result (λ e. e.fault ≡ UpdateFault.Gone → ⊥) }
+        ensures full { IfErr result (λ e. e.fault ≡ UpdateFault.HistoryFull → length handle.new.front ≡ N.template.entries) }
+    {
+        fill(rt, inbox, &mut self.taker, &mut self.held, limit);
+        let count = self.held.len().min(limit);
+        if count == 0 {
+            return Ok(nothing(alloc));
+        }
+        let Ok(
+            Room {
+                mut operations,
+                pairs,
+            },
+        ) = make_room(alloc, self.room.take())
+        else {
+            return Err(DrainFault {
+                done: nothing(alloc),
+                fault: UpdateFault::OutOfMemory,
+            });
+        };
+        list_exits(&self.held, count, &mut operations);
+        let done = enter_held(
+            rt,
+            alloc,
+            handle,
+            moment,
+            &mut self.held,
+            count,
+            &mut operations,
+            pairs,
+        );
+        self.room = Some(Room {
+            operations,
+            pairs: Vec::new(alloc),
+        });
+        Ok(done?)
+    }
+
+    /// Takes the list of an earlier drain's pairs back, as room for those of the next.
+    pub fn reuse(&mut self, pairs: Vec<(Note, Reply)>)
+        ensures { self.new ≡ self.old }
+    {
+        if let Some(room) = &mut self.room {
+            room.pairs = pairs;
+        }
+    }
+
+    /// The taker, and the notes that are held. It takes no memory.
+    pub fn end(self) -> (Taker, ArrayVec<Note, HELD>)
+        ensures taker { result.0 ≡ record { inbox = self.inbox; posters = self.posters; taken = self.entered ++ self.held } }
+        ensures held { result.1.items ≡ self.held }
+    {
+        let Drain {
+            taker,
+            held,
+            room: _,
+        } = self;
+        (taker, held)
+    }
+}

@@ -1,0 +1,195 @@
+//! A pool: a crew over a desk of its own.
+ghost use Rattle.std.specs.Prelude.{◌≡◌, ◌+◌, ◌<◌, ◌≤◌, ◌^◌, ◌⊎◌, ◌↔◌, ℕ, List, IsOk, IfOk, IfErr, Err, false, map, ⊤};
+ghost use Rattle.sup_desk.specs.declared.faults.UpdateFault.{UpdateFault as AFault};
+ghost use Rattle.sup_crew.specs.Pools.{IsPooled, IsNoText};
+ghost use Rattle.sup_crew.specs.declared.fault.PoolFault.TheVariants.{OutOfMemory, BadWorkers, BadRestarts, BadArgument, Stopped};
+ghost use Rattle.sup_types.specs.declared.reason.Reason.{Reason as AReason};
+ghost use Rattle.sup_types.specs.declared.text.Text.{Text as AText};
+
+use crate::fault::PoolFault;
+use crate::job::{Body, Job};
+use crate::plan::{Plan, Report};
+use crate::run::run_crew;
+use std::alloc::{AllocGlobal, Global};
+use std::convert::AsStr;
+use std::marker::Brand;
+use std::sync::Wait;
+use std::thread::Threads;
+use sup_desk::{Asker, Desk, Ground, Name};
+use sup_types::{AlwaysRunning, AutoShutdown, Kind, Reason, Restart, Template, Text};
+
+/// The notes that the inbox of a pool holds at most.
+const INBOX: usize = 1024;
+
+/// How often a post is tried, and how often the driver finds nothing before it gives up.
+const TURNS: u64 = 1 << 62;
+
+/// The period of the restart intensity, in seconds: OTP's default. A run is one moment, so any would do.
+const PERIOD: u64 = 5;
+
+/// How many children there are at most at once.
+const CHILDREN: u64 = 65_536;
+
+/// How many entries the history of a run has at most.
+const ENTRIES: u64 = 1 << 62;
+
+/// What became of a pool's children.
+#[derive(Clone, Copy, Debug, PartialEq, Eq)]
+pub struct PoolReport {
+    /// How many children were made, those that were started again among them.
+    pub made: u64,
+    /// How many ended.
+    pub exits: u64,
+    /// How many were made and did not end, as where the supervisor gave up before they were run.
+    pub left: u64,
+    /// How many were started again.
+    pub restarts: u64,
+    /// 1 where more of them crashed than the template allows: the supervisor gave up, and what was not run is left. Else 0.
+    pub given_up: u64,
+}
+
+/// The work of a pool's children. It is shared by the threads that do it.
+pub trait Work {
+    /// The reasons for which a child with this argument may end: any, if left out.
+    ghost may_end: { Self → AText → AReason → Type 0 } = { λ work arg reason. ⊤ };
+
+    /// Does the work of the child with this argument, and says why the child ended: `Normal` where it is done, and
+    /// `Reason::crash()`, say, where it is to be started again.
+    fn run(&self, arg: Text) -> Reason
+        ensures { may_end self.now arg result };
+}
+
+/// The body of a child that does its work.
+#[derive(Drop)]
+struct Working<'w, T> {
+    work: &'w T,
+}
+
+impl<'w, T: Work> Body for Working<'w, T> {
+    ghost may_end = { λ body number arg reason. T.may_end body.work.now arg reason };
+
+    fn run<N: Name>(&self, job: Job<N>, _asker: &mut Asker<N>) -> Reason {
+        self.work.run(job.arg)
+    }
+}
+
+/// A pool: in how many threads its children are run, and from which template they are.
+#[derive(Clone, Copy, Debug)]
+pub struct Pool {
+    /// The threads: 1 to 64.
+    pub workers: usize,
+    /// The template. Its restart intensity counts over a whole run, which is one moment.
+    pub template: Template,
+    ghost some: { (1 ≤ workers) × (workers ≤ 64) },
+}
+
+impl Pool {
+    /// A pool of so many threads, 1 to 64. A child that crashed is started again, so many times in a run at most, 0 to 1000: at the
+    /// next crash the pool gives up. There are at most 65,536 children at once.
+    pub fn new(workers: usize, restarts: u64) -> Result<Pool, PoolFault>
+        ensures pool { IfOk result (λ p. (p.workers ≡ workers) × (p.template.restart ≡ Restart.Transient) × (p.template.kind ≡ Kind.Worker)
+            × (p.template.intensity ≡ restarts) × (p.template.period ≡ 5) × (p.template.max ≡ 65536) × (p.template.entries ≡ 2 ^ 62)
+            × (p.template.significant ≡ false) × (p.template.auto_shutdown ≡ AutoShutdown.Never)) }
+        ensures restarts { (result ≡ Err BadRestarts) ↔ (1000 < restarts) }
+        ensures workers { IfErr result (λ f. (f ≡ BadRestarts) ⊎ ((f ≡ BadWorkers) × ¬ ((1 ≤ workers) × (workers ≤ 64)))) }
+    {
+        let (kind, restart) = (Kind::Worker, Restart::Transient);
+        match Template::new(restart, kind, restarts, PERIOD, CHILDREN, ENTRIES) {
+            Ok(template) => Pool::with_template(workers, template),
+            Err(_) => Err(PoolFault::BadRestarts),
+        }
+    }
+
+    /// A pool of so many threads, 1 to 64, whose children are from this template. Permanent children are started again after each end,
+    /// until the pool gives up.
+    pub fn with_template(workers: usize, template: Template) -> Result<Pool, PoolFault>
+        ensures pool { IfOk result (λ p. (p.workers ≡ workers) × (p.template ≡ template)) }
+        ensures workers { IfErr result (λ f. f ≡ BadWorkers) × (IsOk result ↔ ((1 ≤ workers) × (workers ≤ 64))) }
+    {
+        if !(1..=64).contains(&workers) {
+            return Err(PoolFault::BadWorkers);
+        }
+        Ok(Pool { workers, template })
+    }
+
+    /// Starts a child for each of the arguments, and does the work of each in one of the threads. It returns when all have ended,
+    /// or when the supervisor gave up.
+    ///
+    /// BadArgument comes before anything is run.
+    pub fn run<R, T, S>(&self, rt: &R, arguments: &[S], work: &T) -> Result<PoolReport, PoolFault>
+    where
+        R: Threads + Wait + AllocGlobal + Sync,
+        T: Work + Sync,
+        S: AsStr,
+        ensures pool { IfOk result (λ r. IsPooled (λ number arg reason. T.may_end work.now arg reason) self.now.template (map S.text arguments.now) r) }
+        ensures fault { IfErr result (λ f. (f ≡ OutOfMemory) ⊎ ((why : AFault) × (f ≡ Stopped why)) ⊎ ((place : ℕ) × (f ≡ BadArgument place) × IsNoText (map S.text arguments.now) place)) }
+    {
+        let alloc = rt.alloc();
+        let plan = Plan {
+            children: read_arguments(alloc, arguments)?,
+            workers: self.workers,
+            inbox: INBOX,
+            turns: TURNS,
+            moment: 0,
+        };
+        // The driver has a handle, and each worker a lens.
+        let ground = Ground::new(alloc, rt, self.template, self.workers as u64 + 1)?;
+        run_named::<Brand, R, T>(rt, alloc, ground, plan, work)
+    }
+}
+
+/// The arguments as texts.
+fn read_arguments<S: AsStr>(alloc: Global, arguments: &[S]) -> Result<Vec<Text>, PoolFault>
+    ensures texts { IfOk result (λ texts. texts.items ≡ map S.text arguments.now) }
+    ensures fault { IfErr result (λ f. (f ≡ OutOfMemory) ⊎ ((place : ℕ) × (f ≡ BadArgument place) × IsNoText (map S.text arguments.now) place)) }
+{
+    let mut texts = Vec::new(alloc);
+    for (place, argument) in arguments.iter().enumerate() {
+        let Some(text) = Text::new(argument.as_str().as_bytes()) else {
+            return Err(PoolFault::BadArgument(place));
+        };
+        if texts.push(text).is_err() {
+            return Err(PoolFault::OutOfMemory);
+        }
+    }
+    Ok(texts)
+}
+
+/// Runs the plan on a desk of this ground, which N names.
+fn run_named<N: Name + Send + Sync, R: Threads + Wait + Sync, T: Work + Sync>(
+    rt: &R,
+    alloc: Global,
+    ground: Ground<&R>,
+    plan: Plan,
+    work: &T,
+) -> Result<PoolReport, PoolFault>
+    requires name { (ground.press ≡ N.press) × (ground.template ≡ N.template) × (ground.roll ≡ N.roll) }
+    requires workers { (1 ≤ plan.workers) × (plan.workers ≤ 64) }
+    requires inbox { plan.inbox ≡ 1024 }
+    requires turns { plan.turns ≡ 2 ^ 62 }
+    ensures pool { IfOk result (λ r. IsPooled (λ number arg reason. T.may_end work.now arg reason) N.template plan.children.items r) }
+    ensures fault { IfErr result (λ f. (f ≡ OutOfMemory) ⊎ ((why : AFault) × (f ≡ Stopped why))) }
+{
+    let desk: Desk<N, AlwaysRunning, &R> = Desk::new(ground, AlwaysRunning);
+    let report = run_crew(rt, alloc, &desk, &Working { work }, plan)?;
+    match report.fault {
+        Some(fault) => Err(PoolFault::Stopped(fault)),
+        None => Ok(numbers_of(&report)),
+    }
+}
+
+/// The numbers of a report.
+fn numbers_of<N: Name>(report: &Report<N>) -> PoolReport
+    requires { report.now.tally.exits ≤ report.now.tally.made }
+    ensures whole { result.made ≡ result.exits + result.left }
+    ensures told { (result.made ≡ report.now.tally.made) × (result.exits ≡ report.now.tally.exits) × (result.restarts ≡ report.now.tally.restarts) × (result.given_up ≡ report.now.tally.given_up) }
+{
+    let tally = report.tally;
+    PoolReport {
+        made: tally.made,
+        exits: tally.exits,
+        left: tally.made - tally.exits,
+        restarts: tally.restarts,
+        given_up: tally.given_up,
+    }
+}

@@ -1,3 +1,0 @@
-pub mod Drains
-pub mod ExitLaws
-pub mod Exits

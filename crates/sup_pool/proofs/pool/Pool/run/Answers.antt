@@ -1,6 +1,0 @@
--- The plan's children are the arguments, and the ground's template is the one given.
-use Rattle.sup_pool.proofs.Pooling.{of_pool}
-use Rattle.sup_pool.proofs.pool.Pool.run.Goals as goal
-
-pub returns-clause-pool : goal.returns-clause-pool
-returns-clause-pool g c = of_pool _ _ _ _ _ _ c.in_ok-ground.ensures.ok.0 c.in_ok-read_arguments.ensures.texts c.run_named.ensures.pool

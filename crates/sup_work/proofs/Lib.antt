@@ -1,5 +1,0 @@
-mod Born
-mod Handed
-pub mod Moves
-pub mod Rows
-pub mod Worked

@@ -1,5 +1,0 @@
-use Rattle.std.proofs.Common.{◌≡◌}
-use Rattle.sup_work.proofs.worker.post_until.Given as goal
-
-abbrev pub invariant-loop : goal.invariant-loop
-invariant-loop g l = (l.poster ≡ l.initial.poster) × (l.exit ≡ l.initial.exit)

@@ -1,9 +1,0 @@
-pub mod Births
-pub mod Dispatchers
-pub mod Endpoints
-pub mod Faults
-pub mod JobLaws
-pub mod Jobs
-pub mod Joins
-pub mod Work
-pub mod WorkLaws
