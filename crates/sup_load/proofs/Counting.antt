@@ -13,9 +13,8 @@ use Rattle.sup_crew.specs.Drivers.{front_of, calls_since}
 use Rattle.sup_crew.specs.Reports.{calls_of_run}
 use Rattle.sup_crew.specs.Tallies.{tally_of}
 use Rattle.sup_load.specs.declared.fault.StopFault.{StopFault}
-use Rattle.sup_load.specs.declared.load.Measured.{Measured}
 use Rattle.sup_load.specs.declared.load.Sums.{Sums}
-use Rattle.sup_load.specs.Reports.{AreCounts, AreCountsOf}
+use Rattle.sup_load.specs.Reports.{AreCounts}
 
 -- a handle that made no call before has no others
 own_calls : (template : Template) (before : Knowledge) (ticket : Option Told) → before.calls ≡ [] → calls_since template before ticket ≡ calls_of template (front_of ticket) before.number
@@ -34,6 +33,6 @@ counted template before r s none all a b c d e = let counts : r.tally ≡ tally_
   given_up = e ∙ ap (λ (t : Tally). t.given_up) counts;
 }
 
-pub of_template : (template : Template) (r : Result Measured StopFault) → IfOk r (λ m. AreCountsOf template m) → IfOk r (λ m. (template : Template) × AreCountsOf template m)
-of_template template (Ok m) h = (template, h)
+pub of_template : (template : Template) (r : Result Sums StopFault) → IfOk r (λ s. AreCounts template s) → IfOk r (λ s. (template : Template) × AreCounts template s)
+of_template template (Ok s) h = (template, h)
 of_template template (Err f) h = tt

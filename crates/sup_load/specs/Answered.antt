@@ -17,13 +17,12 @@ use Rattle.sup_script.specs.declared.runs.answer.Status.{Status}
 use Rattle.sup_script.specs.declared.runs.answer.Status.TheVariants as status
 use Rattle.sup_words.specs.declared.words.Order.{Order}
 use Rattle.sup_words.specs.declared.words.Order.TheVariants as order
-use Rattle.sup_words.specs.declared.load.LoadKind.{LoadKind}
 use Rattle.sup_serve.specs.declared.server.Notices.{Notices}
 
--- a load of this kind was run and told, and the status is that of its outcome
-pub record IsLoadAnswered (kind : LoadKind) (contents held : Option (List ℕ)) (has_refused : Bool) (status : Status) : Type 0 where
+-- a load was run and told, and the status is that of its outcome
+pub record IsLoadAnswered (contents held : Option (List ℕ)) (has_refused : Bool) (status : Status) : Type 0 where
   pub outcome : Result (Unit {0}) LoadFault
-  pub loaded : IsLoaded kind contents held has_refused outcome
+  pub loaded : IsLoaded contents held has_refused outcome
   pub status_is : status ≡ status_of_load outcome
 
 -- lines were served: the words were no mistake, and a failure is of the input or of the output
@@ -49,7 +48,7 @@ abbrev pub IsAnswered : Option (List ℕ) → Option (List ℕ) → Option (List
 IsAnswered remaining left contents held has_failed given has_refused status =
     IsScriptAnswered remaining left contents held has_failed given has_refused status
     ⊎ (IsReplayAnswered remaining left contents held has_failed given has_refused status
-    ⊎ ((left ≡ remaining) × (((kind : LoadKind) × IsLoadAnswered kind contents held has_refused status) ⊎ IsShown contents held has_refused status)))
+    ⊎ ((left ≡ remaining) × (IsLoadAnswered contents held has_refused status ⊎ IsShown contents held has_refused status)))
 
 -- what an order asks for is done
 abbrev pub IsDone : Order → Option (List ℕ) → Option (List ℕ) → Option (List ℕ) → Option (List ℕ) → Bool → ℕ → Bool → Status → Type 0
@@ -57,8 +56,8 @@ IsDone (order.Script detail) remaining left contents held has_failed given has_r
     IsScriptAnswered remaining left contents held has_failed given has_refused status
 IsDone (order.Replay detail) remaining left contents held has_failed given has_refused status =
     IsReplayAnswered remaining left contents held has_failed given has_refused status
-IsDone (order.Load load kind path) remaining left contents held has_failed given has_refused status =
-    (left ≡ remaining) × IsLoadAnswered kind contents held has_refused status
+IsDone (order.Load load path) remaining left contents held has_failed given has_refused status =
+    (left ≡ remaining) × IsLoadAnswered contents held has_refused status
 IsDone (order.Serve notices) remaining left contents held has_failed given has_refused status = IsServed has_failed has_refused status
 
 -- the words are those of a server, which served
@@ -73,10 +72,10 @@ pub record IsShownAs (kind : ErrorKind) (contents held : Option (List ℕ)) (has
   pub memory : kind ≡ OutOfMemory → (held ≡ contents) × (s ≡ status.OtherFault)
   pub mistake : (kind ≡ DisplayHelp → ⊥) → (kind ≡ DisplayVersion → ⊥) → (kind ≡ OutOfMemory → ⊥) → (held ≡ contents) × (s ≡ status.BadInput)
 
--- the words of a load of this kind: it is told, or memory was wanting
-abbrev pub IsLoadReply : LoadKind → Option (List ℕ) → Option (List ℕ) → Option (List ℕ) → Option (List ℕ) → Bool → Status → Type 0
-IsLoadReply kind remaining left contents held has_refused status =
-    (left ≡ remaining) × (IsLoadAnswered kind contents held has_refused status ⊎ ((held ≡ contents) × (status ≡ status_of_stop_fault stop.OutOfMemory)))
+-- the words of a load: it is told, or memory was wanting
+abbrev pub IsLoadReply : Option (List ℕ) → Option (List ℕ) → Option (List ℕ) → Option (List ℕ) → Bool → Status → Type 0
+IsLoadReply remaining left contents held has_refused status =
+    (left ≡ remaining) × (IsLoadAnswered contents held has_refused status ⊎ ((held ≡ contents) × (status ≡ status_of_stop_fault stop.OutOfMemory)))
 
 -- the order of the words is done; or they have none, and the input is left alone and that is shown
 abbrev pub IsReply : Kinds → Command → Option (List ℕ) → Option (List ℕ) → Option (List ℕ) → Option (List ℕ) → Bool → ℕ → Bool → Status → Type 0

@@ -9,8 +9,6 @@ use std::alloc::AllocError;
 use sup_crew::CrewFault;
 use sup_desk::{DeskFault, HandleFault, UpdateFault};
 use sup_journal::BeginFault;
-use sup_live::LiveFault;
-use sup_liveload::LiveLoadFault;
 use sup_types::BadTemplate;
 use thiserror::Error;
 
@@ -44,8 +42,7 @@ pub enum StopFault {
 }
 
 impl StopFault {
-    ghost use Rattle.sup_load.specs.Loads.{of_crew, of_live, of_update};
-    ghost use Rattle.sup_liveload.specs.Faults.{live_fault_number};
+    ghost use Rattle.sup_load.specs.Loads.{of_update};
 
     /// The number of the fault: 1, 2, 4 to 7, in the order of the variants, and 13 and 14.
     pub fn number(self) -> u8
@@ -72,31 +69,6 @@ impl StopFault {
             UpdateFault::HistoryFull => StopFault::HistoryFull,
             UpdateFault::Gone => StopFault::Gone,
             UpdateFault::Journal(_) => StopFault::Journal,
-        }
-    }
-
-    /// The fault of a live load, under its number.
-    pub fn of_live(fault: LiveLoadFault) -> StopFault
-        ensures fault { result ≡ of_live fault }
-        ensures number { stop_fault_number result ≡ live_fault_number fault }
-    {
-        match fault {
-            LiveLoadFault::OutOfMemory | LiveLoadFault::NoThread => StopFault::OutOfMemory,
-            LiveLoadFault::Crew(fault) => StopFault::of_crew(fault),
-            LiveLoadFault::Update(fault) => StopFault::of_update(fault),
-            LiveLoadFault::Gone => StopFault::Gone,
-            LiveLoadFault::Handle(fault) => StopFault::from(fault),
-        }
-    }
-
-    /// The fault of a live crew that could not run.
-    fn of_crew(fault: LiveFault) -> StopFault
-        ensures { result ≡ of_crew fault }
-    {
-        match fault {
-            LiveFault::OutOfMemory | LiveFault::NoThread => StopFault::OutOfMemory,
-            LiveFault::NoHandle => StopFault::NoHandle,
-            LiveFault::NoPlace => StopFault::NoPlace,
         }
     }
 }

@@ -4,7 +4,7 @@ ghost use Rattle.std.specs.Prelude.{◌≡◌, ◌≤◌, ℕ, List, [], Err, If
 ghost use Rattle.std.specs.Io.KnownBytes.{Appends};
 ghost use Rattle.sup_load.specs.Loads.{fault_behind};
 ghost use Rattle.sup_load.specs.Lines.{load_lines, named};
-ghost use Rattle.sup_load.specs.Reports.{AreCounts, AreCountsOf, IsOfKind, IsTold, IsLoaded, fault_in, lines_of};
+ghost use Rattle.sup_load.specs.Reports.{AreCounts, IsTold, IsLoaded};
 ghost use Rattle.sup_types.specs.declared.template.Template.{Template as ATemplate};
 ghost use Rattle.sup_crew.specs.Reports.{IsRunOfItsOwn};
 ghost use Rattle.sup_types.specs.declared.reason.Reason.TheVariants.{Normal};
@@ -12,25 +12,21 @@ ghost use Rattle.sup_types.specs.declared.text.Text.{Text as AText};
 ghost use Rattle.sup_load.specs.declared.fault.LoadFault.TheVariants.{WriteFault};
 
 use crate::fault::{LoadFault, StopFault};
-use crate::live::on_live_desk;
 use itoa::Buffer;
-use std::alloc::{AllocError, AllocGlobal, Global};
+use std::alloc::{AllocError, Global};
 use std::fs::{File, Files};
 use std::io::Write;
 use std::marker::Brand;
-use std::random::RandomSource;
 use std::sync::Wait;
 use std::thread;
 use std::thread::{JoinHandle, Threads};
-use std::time::Clock;
 use sup_crew::{Body, Job, Plan, Reads, Report, read_turns, run_crew};
 use sup_desk::{Asker, Desk, Ground, Handle, Journal, Name, NoJournal};
 use sup_journal::{TextJournal, Unknown};
-use sup_liveload::{LiveSums, write_sums};
 use sup_log::Gone;
 use sup_script::{ScriptStarter, WatchedWriter};
 use sup_types::{Kind, Reason, Restart, Starter, Template, Text};
-use sup_words::{Load, LoadKind};
+use sup_words::Load;
 
 /// The notes that the inbox of a load holds at most.
 const INBOX: usize = 1024;
@@ -38,10 +34,7 @@ const INBOX: usize = 1024;
 /// How often a post is tried, and how often the driver finds nothing before it gives up.
 const CREW_TURNS: u64 = 1_000_000_000;
 
-/// How many children may be restarted within 5 seconds where they are live: all that are told to crash, and more.
-const LIVE_INTENSITY: u64 = 1000;
-
-/// What a load of children came to that end at once.
+/// What a load came to.
 #[derive(Clone, Copy)]
 pub struct Sums {
     made: u64,
@@ -53,13 +46,6 @@ pub struct Sums {
     held: usize,
     reads: u64,
     fault: Option<StopFault>,
-}
-
-/// What a load came to.
-#[derive(Clone, Copy)]
-pub enum Measured {
-    Brief(Sums),
-    Live(LiveSums),
 }
 
 /// A body that ends at once.
@@ -75,76 +61,45 @@ impl Body for EndsAtOnce {
     }
 }
 
-/// Runs the load, and writes what it came to: two lines, or three where it is live. With a path the history is written to a new
+/// Runs the load, and writes what it came to in two lines. With a path the history is written to a new
 /// file there, each update before it takes effect. The fault is one that comes before there is a report, and then nothing is
 /// written; or that of a refused write, else of the run, else of a reader.
 pub fn run_load<R, W: Write>(
     rt: &R,
     alloc: Global,
     load: Load,
-    kind: LoadKind,
     journal: Option<&str>,
     out: &mut WatchedWriter<W>,
 ) -> Result<(), LoadFault>
 where
-    R: Threads + Wait + Clock + RandomSource + AllocGlobal + Files + Sync,
+    R: Threads + Wait + Files + Sync,
     R::File: Send,
-    ensures loaded { IsLoaded kind (W.contents out.old.writer) (W.contents out.new.writer) out.new.has_refused result }
+    ensures loaded { IsLoaded (W.contents out.old.writer) (W.contents out.new.writer) out.new.has_refused result }
     ensures cause { result ≡ Err WriteFault → out.new.has_refused ≡ true }
 {
     let outcome = match journal {
-        None => measure_bare(rt, alloc, load, kind),
-        Some(path) => measure_recorded(rt, alloc, load, kind, path),
+        None => measure_bare(rt, alloc, load),
+        Some(path) => measure_recorded(rt, alloc, load, path),
     };
     tell(outcome, out)
 }
 
 /// Writes what a load came to, if there is a report. WriteFault: the writer refused, and a front of the lines is written.
 fn tell<W: Write>(
-    outcome: Result<Measured, StopFault>,
+    outcome: Result<Sums, StopFault>,
     out: &mut WatchedWriter<W>,
 ) -> Result<(), LoadFault>
     ensures outcome { IsTold outcome (W.contents out.old.writer) (W.contents out.new.writer) out.new.has_refused result }
     ensures cause { result ≡ Err WriteFault → out.new.has_refused ≡ true }
 {
-    let measured = match outcome {
-        Ok(measured) => measured,
+    let sums = match outcome {
+        Ok(sums) => sums,
         Err(fault) => return Err(LoadFault::Stopped(fault)),
     };
-    write_measured(&measured, out)?;
-    match fault_of(&measured) {
+    write_lines(&sums, out)?;
+    match sums.fault {
         Some(fault) => Err(LoadFault::Stopped(fault)),
         None => Ok(()),
-    }
-}
-
-/// What stopped it, if anything did.
-fn fault_of(measured: &Measured) -> Option<StopFault>
-    ensures { result ≡ fault_in measured.now }
-{
-    match measured {
-        Measured::Brief(sums) => sums.fault,
-        Measured::Live(sums) => match sums.fault {
-            Some(fault) => Some(StopFault::of_live(fault)),
-            None => None,
-        },
-    }
-}
-
-/// Writes the lines of what a load came to.
-fn write_measured<W: Write>(
-    measured: &Measured,
-    out: &mut WatchedWriter<W>,
-) -> Result<(), LoadFault>
-    ensures lines { OnOk result (Appends (W.contents out.old.writer) (W.contents out.new.writer) (lines_of measured.now)) }
-    ensures cause { IfErr result (λ f. (f ≡ WriteFault) × (out.new.has_refused ≡ true)) }
-{
-    match measured {
-        Measured::Brief(sums) => write_lines(sums, out),
-        Measured::Live(sums) => match write_sums(sums, out) {
-            Ok(()) => Ok(()),
-            Err(_) => Err(LoadFault::WriteFault),
-        },
     }
 }
 
@@ -190,56 +145,46 @@ pub fn write_text<W: Write>(out: &mut WatchedWriter<W>, text: &str) -> Result<()
     }
 }
 
-/// The template of the load's supervisor.
-fn template_of(load: &Load, kind: LoadKind) -> Result<Template, StopFault> {
-    let rows = load.children;
-    let (restart, intensity) = match kind {
-        LoadKind::Brief => (Restart::Temporary, 0),
-        LoadKind::Live => (Restart::Permanent, LIVE_INTENSITY),
-    };
-    Ok(Template::new(restart, Kind::Worker, intensity, 5, rows, 1 << 62)?)
+/// Returns the template of the load's supervisor.
+fn template_of(load: &Load) -> Result<Template, StopFault> {
+    Ok(Template::new(
+        Restart::Temporary,
+        Kind::Worker,
+        0,
+        5,
+        load.children,
+        1 << 62,
+    )?)
 }
 
-/// How many handles the load takes: one for each thread that runs bodies, asks or drives; or, where the children are live, the
-/// driver's, the program's and those of the threads that ask.
-fn handles_of(load: &Load, kind: LoadKind) -> u64 {
-    match kind {
-        LoadKind::Brief => (load.workers + 1 + load.readers) as u64,
-        LoadKind::Live => (2 + load.readers) as u64,
-    }
+/// Returns how many handles the load takes: one for each thread that runs bodies, asks or drives.
+fn handles_of(load: &Load) -> u64 {
+    (load.workers + 1 + load.readers) as u64
 }
 
 /// Runs the load without a journal.
-fn measure_bare<R>(rt: &R, alloc: Global, load: Load, kind: LoadKind) -> Result<Measured, StopFault>
+fn measure_bare<R>(rt: &R, alloc: Global, load: Load) -> Result<Sums, StopFault>
 where
-    R: Threads + Wait + Clock + RandomSource + AllocGlobal + Sync,
-    ensures kind { IfOk result (IsOfKind kind) }
-    ensures counts { IfOk result (λ m. (template : ATemplate) × AreCountsOf template m) }
+    R: Threads + Wait + Sync,
+    ensures { IfOk result (λ s. (template : ATemplate) × AreCounts template s) }
 {
-    let template = template_of(&load, kind)?;
-    measure(rt, alloc, load, kind, template, NoJournal)
+    let template = template_of(&load)?;
+    measure(rt, alloc, load, template, NoJournal)
 }
 
 /// Runs the load with a journal on a new file at this path.
-fn measure_recorded<R>(
-    rt: &R,
-    alloc: Global,
-    load: Load,
-    kind: LoadKind,
-    path: &str,
-) -> Result<Measured, StopFault>
+fn measure_recorded<R>(rt: &R, alloc: Global, load: Load, path: &str) -> Result<Sums, StopFault>
 where
-    R: Threads + Wait + Clock + RandomSource + AllocGlobal + Files + Sync,
+    R: Threads + Wait + Files + Sync,
     R::File: Send,
-    ensures kind { IfOk result (IsOfKind kind) }
-    ensures counts { IfOk result (λ m. (template : ATemplate) × AreCountsOf template m) }
+    ensures { IfOk result (λ s. (template : ATemplate) × AreCounts template s) }
 {
-    let template = template_of(&load, kind)?;
+    let template = template_of(&load)?;
     let Ok(file) = File::create_new(rt, path) else {
         return Err(StopFault::NoJournal);
     };
     match TextJournal::<Unknown, R::File, Global>::new(alloc, file, &template) {
-        Ok(journal) => measure(rt, alloc, load, kind, template, journal),
+        Ok(journal) => measure(rt, alloc, load, template, journal),
         Err(not_begun) => Err(StopFault::from(not_begun.fault)),
     }
 }
@@ -249,19 +194,17 @@ fn measure<R, J>(
     rt: &R,
     alloc: Global,
     load: Load,
-    kind: LoadKind,
     template: Template,
     journal: J,
-) -> Result<Measured, StopFault>
+) -> Result<Sums, StopFault>
 where
-    R: Threads + Wait + Clock + RandomSource + AllocGlobal + Sync,
+    R: Threads + Wait + Sync,
     J: Journal + Drop + Send,
     requires { J.has journal template [] [] }
-    ensures kind { IfOk result (IsOfKind kind) }
-    ensures counts { IfOk result (λ m. (template : ATemplate) × AreCountsOf template m) }
+    ensures { IfOk result (λ s. (template : ATemplate) × AreCounts template s) }
 {
-    let ground = Ground::new(alloc, rt, template, handles_of(&load, kind))?;
-    on_ground::<Brand, R, J>(rt, alloc, ground, load, kind, journal)
+    let ground = Ground::new(alloc, rt, template, handles_of(&load))?;
+    on_ground::<Brand, R, J>(rt, alloc, ground, load, journal)
 }
 
 /// Runs the load on a desk of this ground, which N names, with this journal.
@@ -270,29 +213,18 @@ fn on_ground<N, R, J>(
     alloc: Global,
     ground: Ground<&R>,
     load: Load,
-    kind: LoadKind,
     journal: J,
-) -> Result<Measured, StopFault>
+) -> Result<Sums, StopFault>
 where
     N: Name + Send + Sync,
-    R: Threads + Wait + Clock + RandomSource + AllocGlobal + Sync,
+    R: Threads + Wait + Sync,
     J: Journal + Drop + Send,
     requires name { (ground.press ≡ N.press) × (ground.template ≡ N.template) × (ground.roll ≡ N.roll) }
     requires journal { J.has journal N.template [] [] }
-    ensures kind { IfOk result (IsOfKind kind) }
-    ensures counts { IfOk result (λ m. AreCountsOf N.template m) }
+    ensures { IfOk result (λ s. AreCounts N.template s) }
 {
     let desk: Desk<N, ScriptStarter, &R, J> = Desk::with_journal(ground, ScriptStarter, journal);
-    match kind {
-        LoadKind::Brief => match on_desk(rt, alloc, &desk, load) {
-            Ok(sums) => Ok(Measured::Brief(sums)),
-            Err(fault) => Err(fault),
-        },
-        LoadKind::Live => match on_live_desk(rt, alloc, &desk, load) {
-            Ok(sums) => Ok(Measured::Live(sums)),
-            Err(fault) => Err(fault),
-        },
-    }
+    on_desk(rt, alloc, &desk, load)
 }
 
 /// Runs the load on this desk, with a handle for each reader.

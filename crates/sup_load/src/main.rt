@@ -6,7 +6,6 @@
 #![tactic(auto)]
 
 mod fault;
-mod live;
 mod load;
 mod program;
 

@@ -3,7 +3,7 @@
 ghost use Rattle.std.specs.Prelude.{◌≡◌, ◌⊎◌, ℕ, List, [], ◌∷◌, codes, false, map, true};
 ghost use Rattle.sup_script.specs.Running.Answers.{IsScriptAnswered, IsReplayAnswered, status_number};
 ghost use Rattle.sup_load.specs.Answered.{IsLoadAnswered, IsShown, IsShownAs, IsWritten, IsAnswered, IsLoadReply, IsReplyTo, IsServed, IsServing};
-ghost use Rattle.sup_words.specs.Settings.{Given, IsWhole, kind_in, words_of};
+ghost use Rattle.sup_words.specs.Settings.{Given, IsWhole, words_of};
 ghost use Rattle.clap.specs.Values.{kind_of};
 ghost use Rattle.sup_words.specs.Orders.{command_at, kinds_at};
 ghost use Rattle.sup_load.specs.Statuses.{status_of_load, status_of_load_fault, status_of_serve_fault};
@@ -24,7 +24,7 @@ use std::thread::Threads;
 use std::time::Clock;
 use sup_script::{Format, Status, WatchedReader, WatchedWriter, answer_text};
 use sup_serve::{Notices, ServeFault, serve};
-use sup_words::{Load, LoadKind, Order, read_words};
+use sup_words::{Load, Order, read_words};
 
 /// The status of a load that stopped with this fault.
 fn load_status(fault: LoadFault) -> Status
@@ -79,7 +79,7 @@ where
         reader.new.has_failed reader.new.given out.new.has_refused status }
     ensures load { (name : List ℕ) (given : Given) (w n r t : ℕ) → IsWhole given w n r t → map S.text words.now ≡ name ∷ codes "load" ∷ words_of given
         → (status : AStatus) × (result ≡ status_number status)
-        × IsLoadReply (kind_in given) (R.remaining reader.old.reader) (R.remaining reader.new.reader) (W.contents out.old.writer) (W.contents out.new.writer)
+        × IsLoadReply (R.remaining reader.old.reader) (R.remaining reader.new.reader) (W.contents out.old.writer) (W.contents out.new.writer)
         out.new.has_refused status }
     // It does what the grammar makes of the words, and else says why there is no order.
     ensures words { (status : AStatus) × (result ≡ status_number status)
@@ -124,7 +124,7 @@ where
     ensures words { IsReplyTo (map S.text words.now) (R.remaining reader.old.reader) (R.remaining reader.new.reader) (W.contents out.old.writer)
         (W.contents out.new.writer) reader.new.has_failed reader.new.given out.new.has_refused result }
     ensures load { (name : List ℕ) (given : Given) (w n r t : ℕ) → IsWhole given w n r t → map S.text words.now ≡ name ∷ codes "load" ∷ words_of given
-        → IsLoadReply (kind_in given) (R.remaining reader.old.reader) (R.remaining reader.new.reader) (W.contents out.old.writer) (W.contents out.new.writer)
+        → IsLoadReply (R.remaining reader.old.reader) (R.remaining reader.new.reader) (W.contents out.old.writer) (W.contents out.new.writer)
         out.new.has_refused result }
     ensures one { IsAnswered (R.remaining reader.old.reader) (R.remaining reader.new.reader) (W.contents out.old.writer) (W.contents out.new.writer)
         reader.new.has_failed reader.new.given out.new.has_refused result
@@ -134,9 +134,7 @@ where
     match read_words(alloc, words) {
         Ok(Order::Script(detail)) => answer_text(alloc, Format::Script, detail, reader, out, err),
         Ok(Order::Replay(detail)) => answer_text(alloc, Format::History, detail, reader, out, err),
-        Ok(Order::Load(load, kind, journal)) => {
-            answer_load(rt, alloc, load, kind, journal, out, err)
-        }
+        Ok(Order::Load(load, journal)) => answer_load(rt, alloc, load, journal, out, err),
         Ok(Order::Serve(notices)) => answer_serve(rt, alloc, notices, reader, out, err),
         Err(error) => show(alloc, &error, out, err),
     }
@@ -158,18 +156,17 @@ fn answer_load<T, W: Write, E: Write>(
     rt: &T,
     alloc: Global,
     load: Load,
-    kind: LoadKind,
     journal: Option<&str>,
     out: &mut WatchedWriter<W>,
     err: &mut E,
 ) -> Status
 where
-    T: Threads + Wait + Clock + RandomSource + AllocGlobal + Files + Sync,
+    T: Threads + Wait + Files + Sync,
     T::File: Send,
-    ensures loaded { IsLoadAnswered kind (W.contents out.old.writer) (W.contents out.new.writer) out.new.has_refused result }
+    ensures loaded { IsLoadAnswered (W.contents out.old.writer) (W.contents out.new.writer) out.new.has_refused result }
     ensures cause { result ≡ Failed → out.new.has_refused ≡ true }
 {
-    told_load(run_load(rt, alloc, load, kind, journal, out), err)
+    told_load(run_load(rt, alloc, load, journal, out), err)
 }
 
 /// Serves sessions. The fault that stopped the server, if there is one, is a line on standard error.

@@ -73,7 +73,7 @@ unfolding first_byte rows_in
 no_order command rows is outside (order.Script answer) other = let bad : ◌≡◌ {A = ℕ} 115 108 = ap first_byte (sym other.1 ∙ is) in absurd (omega arith)
 no_order command rows is outside (order.Replay answer) other = let bad : ◌≡◌ {A = ℕ} 114 108 = ap first_byte (sym other.1 ∙ is) in absurd (omega arith)
 no_order command rows is outside (order.Serve answer) other = let bad : ◌≡◌ {A = ℕ} 115 108 = ap first_byte (sym other.1 ∙ is) in absurd (omega arith)
-no_order command rows is outside (order.Load load kind path) other =
+no_order command rows is outside (order.Load load path) other =
     let same : rows ≡ other.0 = ap rows_in (sym is ∙ other.1) in
     outside load.workers load.children load.readers load.turns
     (subst (λ (R : List Row). AreNumbers R load.workers load.children load.readers load.turns) (sym same) other.2)

@@ -1,6 +1,6 @@
 -- The words of a load lead to the load of their numbers.
 use Rattle.std.proofs.Common.{◌≡◌, ◌∙◌, ◌++◌, ◌<◌, ◌≤◌, ◌^◌, ℕ, Bool, true, false, List, [], ◌∷◌, Some, None, refl, sym, ap, ap₂, subst, arith, codes, get_or, map, inl, inr}
-use Rattle.std.specs.Prelude.{Result, Ok, Err, decimal, Option, find, if◌then◌else◌, is_some, option_and_then, option_map, slice_get}
+use Rattle.std.specs.Prelude.{Result, Ok, Err, decimal, Option, find, if◌then◌else◌, is_some, option_and_then, option_map}
 use Rattle.std.specs.Borrow.{Bor}
 use Rattle.std.specs.Str.{bytes_eq}
 use Rattle.std.specs.Str.Parse.{IsNumeral, digits_value, without_leading_plus}
@@ -13,7 +13,7 @@ use Rattle.clap.specs.Kinds.{IsAmong, Kinds, or_else}
 use Rattle.clap.specs.Simple.{App, built, entered, names_of, subcommand_of}
 use Rattle.clap.specs.Takes.{is_given}
 use Rattle.clap.specs.Values.{Accepts, kind_of}
-use Rattle.clap.specs.Walk.{Row, Text, Walk, finished, first_of, one_of, idle, nothing_held, row_text, rows_after, settled, walk, walk_from}
+use Rattle.clap.specs.Walk.{Row, Text, Walk, finished, first_of, idle, nothing_held, row_text, rows_after, settled, walk, walk_from}
 use Rattle.clap.specs.declared.builder.value_parser.ValueParser.TheVariants.{Unsigned}
 use Rattle.clap.proofs.FaultLemmas.{stopped_fault}
 use Rattle.clap.proofs.KindLemmas.{value_kinds-ok}
@@ -22,16 +22,15 @@ use Rattle.clap.proofs.WalkLemmas.{walk_stopped}
 use Rattle.sup_words.specs.Grammar.{supload_app}
 use Rattle.sup_words.specs.Ranges.{IsWithin}
 use Rattle.sup_words.specs.declared.load.Load.{Load}
-use Rattle.sup_words.specs.declared.load.LoadKind.{LoadKind}
 use Rattle.clap.specs.declared.error.Error.{Error}
 use Rattle.sup_words.proofs.Leads.{first_byte, rows_in}
-use Rattle.sup_words.specs.Orders.{AreNumbers, Command, HasNumber, IsKind, IsLoadOf, LeadsTo, WordsLeadTo, command_at, kinds_at}
-use Rattle.sup_words.specs.Settings.{AreNew, AreWithin, Given, IsWhole, Setting, workers, children, readers, turns, number, live, has_live, kind_by, kind_in, least_of, most_of, name_of, number_in, words_of}
+use Rattle.sup_words.specs.Orders.{AreNumbers, Command, HasNumber, IsLoadOf, LeadsTo, WordsLeadTo, command_at, kinds_at}
+use Rattle.sup_words.specs.Settings.{AreNew, AreWithin, Given, IsWhole, Setting, workers, children, readers, turns, least_of, most_of, name_of, number_in, words_of}
 use Rattle.sup_words.specs.declared.words.Order.{Order}
 use Rattle.sup_words.specs.declared.words.Order.TheVariants as order
 use Rattle.sup_words.proofs.Numbers.{same_number}
-use Rattle.sup_words.proofs.Tables.{added, appends, final_is, found_at, found_before, found_behind, is_new, live_appends, live_is_new, row_for, row_without, rows_are_table, same_setting, says_live}
-use Rattle.sup_words.proofs.Walks.{AllPlain, final, leaf_fault, leaf_rows, live_fault, load_rules, load_shape, missing, or_else-nil, pair_fault, pair_faults, plain_text, rows_from}
+use Rattle.sup_words.proofs.Tables.{appends, found_at, is_new, row_for, rows_are_table, same_setting}
+use Rattle.sup_words.proofs.Walks.{AllPlain, leaf_fault, leaf_rows, load_rules, load_shape, missing, or_else-nil, pair_fault, pair_faults, plain_text, rows_from}
 
 -- ---- numbers
 
@@ -66,7 +65,7 @@ module _ (n : ℕ) (small : n < 2 ^ 64) where
     subst (λ (m : ℕ). m ≤ most) (sym value_is) high,
   )
 
-  number_at : (rows : List Row) (s : Setting) → find (λ r. bytes_eq r.id (name_of s)) rows ≡ Some (row_for (number s n)) → HasNumber rows (name_of s) n
+  number_at : (rows : List Row) (s : Setting) → find (λ r. bytes_eq r.id (name_of s)) rows ≡ Some (row_for (s, n)) → HasNumber rows (name_of s) n
   unfolding row_for
   number_at rows s at = record {
     text = decimal n;
@@ -81,71 +80,57 @@ module _ (n : ℕ) (small : n < 2 ^ 64) where
 all_plain : (given : Given) → AreWithin given → AllPlain given
 unfolding AllPlain
 all_plain [] within = tt
-all_plain (number s n ∷ ps) within =
-    let small = small_for s n within.1 in
-    (plain_text (decimal n) (no_first (decimal n) (numeral n small) 45 (omega arith)), all_plain ps within.2)
-all_plain (live ∷ ps) within = all_plain ps within
+all_plain (p ∷ ps) within =
+    let small = small_for p.0 p.1 within.1 in
+    (plain_text (decimal p.1) (no_first (decimal p.1) (numeral p.1 small) 45 (omega arith)), all_plain ps within.2)
 
-pair_passes : (before : Given) (s : Setting) (n : ℕ) → number_in before s ≡ None → least_of s ≤ n → n ≤ most_of s
-    → pair_fault (number s n) (map row_for before) ≡ []
+pair_passes : (before : Given) (p : Setting × ℕ) → number_in before p.0 ≡ None → least_of p.0 ≤ p.1 → p.1 ≤ most_of p.0
+    → pair_fault p (map row_for before) ≡ []
 unfolding pair_fault
-pair_passes before s n new low high =
-    let small = small_for s n high in
-    rw (is_new before s n new, value_kinds-ok false (Unsigned (least_of s) (most_of s)) (decimal n) (is_accepted n small (least_of s) (most_of s) low high)) refl
-
-live_passes : (before : Given) → has_live before ≡ false → pair_fault live (map row_for before) ≡ []
-unfolding pair_fault live_fault
-live_passes before new = rw (live_is_new before new) refl
+pair_passes before p new low high =
+    let small = small_for p.0 p.1 high in
+    rw (is_new before p.0 p.1 new, value_kinds-ok false (Unsigned (least_of p.0) (most_of p.0)) (decimal p.1) (is_accepted p.1 small (least_of p.0) (most_of p.0) low high)) refl
 
 pairs_pass : (before after : Given) → AreNew before after → AreWithin after → pair_faults (map row_for before) after ≡ []
 unfolding pair_faults
 pairs_pass before [] new within = refl
-pairs_pass before (number s n ∷ ps) new within =
-    ap₂ or_else (pair_passes before s n new.0 within.0 within.1)
-    (ap (λ r. pair_faults r ps) (appends before s n new.0 ∙ sym (map-append row_for before (number s n ∷ []))) ∙ pairs_pass (before ++ number s n ∷ []) ps new.1 within.2)
-pairs_pass before (live ∷ ps) new within =
-    ap₂ or_else (live_passes before new.0)
-    (ap (λ r. pair_faults r ps) (live_appends before new.0 ∙ sym (map-append row_for before (live ∷ []))) ∙ pairs_pass (before ++ live ∷ []) ps new.1 within)
+pairs_pass before (p ∷ ps) new within =
+    ap₂ or_else (pair_passes before p new.0 within.0 within.1)
+    (ap (λ r. pair_faults r ps) (appends before p.0 p.1 new.0 ∙ sym (map-append row_for before (p ∷ []))) ∙ pairs_pass (before ++ p ∷ []) ps new.1 within.2)
 
 -- the range of a number that is given
 within_of : (given : Given) (s : Setting) (n : ℕ) → AreWithin given → number_in given s ≡ Some n → (least_of s ≤ n) × (n ≤ most_of s)
 within_of [] s n within is = cc
-within_of (live ∷ ps) s n within is = within_of ps s n within is
-within_of (number a m ∷ ps) s n within is = go (bytes_eq (name_of a) (name_of s)) refl is (within_of ps s n within.2)
+within_of (p ∷ ps) s n within is = go (bytes_eq (name_of p.0) (name_of s)) refl is (within_of ps s n within.2)
   where
     same_in : {a b : ℕ} → Some a ≡ Some b → a ≡ b
     same_in e = cc
 
-    go : (b : Bool) → bytes_eq (name_of a) (name_of s) ≡ b → (if b then Some m else number_in ps s) ≡ Some n
+    go : (b : Bool) → bytes_eq (name_of p.0) (name_of s) ≡ b → (if b then Some p.1 else number_in ps s) ≡ Some n
         → (number_in ps s ≡ Some n → (least_of s ≤ n) × (n ≤ most_of s)) → (least_of s ≤ n) × (n ≤ most_of s)
     go true same is rest =
-        let one = same_setting a s same in
-        let low : least_of s ≤ m = subst (λ (x : Setting). least_of x ≤ m) one within.0 in
-        let high : m ≤ most_of s = subst (λ (x : Setting). m ≤ most_of x) one within.1 in
-        (subst (λ (k : ℕ). least_of s ≤ k) (same_in is) low, subst (λ (k : ℕ). k ≤ most_of s) (same_in is) high)
+        let one = same_setting p.0 s same in
+        let low : least_of s ≤ p.1 = subst (λ (a : Setting). least_of a ≤ p.1) one within.0 in
+        let high : p.1 ≤ most_of s = subst (λ (a : Setting). p.1 ≤ most_of a) one within.1 in
+        (subst (λ (m : ℕ). least_of s ≤ m) (same_in is) low, subst (λ (m : ℕ). m ≤ most_of s) (same_in is) high)
     go false same is rest = rest is
 
--- the rows of what is given, with that of a flag that was left out
-unfoldable pub all_rows : Given → List Row
-all_rows given = map row_for given ++ added (has_live given)
-
 module _ (given : Given) (w n r t : ℕ) (whole : IsWhole given w n r t) where
-  row_at : (s : Setting) (m : ℕ) → number_in given s ≡ Some m → find (λ r. bytes_eq r.id (name_of s)) (all_rows given) ≡ Some (row_for (number s m))
-  unfolding all_rows
-  row_at s m is = found_before (name_of s) (map row_for given) (added (has_live given)) (row_for (number s m)) (found_at given s ∙ ap (option_map (λ k. row_for (number s k))) is)
+  row_at : (s : Setting) (m : ℕ) → number_in given s ≡ Some m → find (λ r. bytes_eq r.id (name_of s)) (map row_for given) ≡ Some (row_for (s, m))
+  row_at s m is = found_at given s ∙ ap (option_map (λ k. row_for (s, k))) is
 
-  is_there : (s : Setting) (m : ℕ) → number_in given s ≡ Some m → is_given (name_of s) (all_rows given) ≡ true
+  is_there : (s : Setting) (m : ℕ) → number_in given s ≡ Some m → is_given (name_of s) (map row_for given) ≡ true
   unfolding row_for
   is_there s m is = rw (row_at s m is) refl
 
-  none_missing : missing (all_rows given) ≡ []
+  none_missing : missing (map row_for given) ≡ []
   unfolding missing
   none_missing = rw (is_there workers w whole.has_workers, is_there children n whole.has_children, is_there readers r whole.has_readers, is_there turns t whole.has_turns) refl
 
-  number_of : (s : Setting) (m : ℕ) → number_in given s ≡ Some m → HasNumber (all_rows given) (name_of s) m
-  number_of s m is = number_at m (small_for s m (within_of given s m whole.within is).1) (all_rows given) s (row_at s m is)
+  number_of : (s : Setting) (m : ℕ) → number_in given s ≡ Some m → HasNumber (map row_for given) (name_of s) m
+  number_of s m is = number_at m (small_for s m (within_of given s m whole.within is).1) (map row_for given) s (row_at s m is)
 
-  numbers : AreNumbers (all_rows given) w n r t
+  numbers : AreNumbers (map row_for given) w n r t
   numbers = record {
     workers = number_of workers w whole.has_workers;
     children = number_of children n whole.has_children;
@@ -153,9 +138,8 @@ module _ (given : Given) (w n r t : ℕ) (whole : IsWhole given w n r t) where
     turns = number_of turns t whole.has_turns;
   }
 
-  table : final (rows_from [] given) ≡ all_rows given
-  unfolding all_rows
-  table = ap final (rows_are_table [] given whole.once) ∙ final_is given
+  table : rows_from [] given ≡ map row_for given
+  table = rows_are_table [] given whole.once
 
   leaf_passes : level_fault load_shape [] nothing_held (words_of given) false [] ≡ []
   leaf_passes = leaf_fault given (all_plain given whole.within) ∙ ap₂ or_else (pairs_pass [] given whole.once whole.within) (ap missing table ∙ none_missing)
@@ -200,57 +184,31 @@ at_load rest = refl
 entered_below : (name : Text) (rest : List Text) → subcommand_of supload_app (name ∷ codes "load" ∷ rest) ≡ Some (codes "load", rows_after load_rules [] rest)
 entered_below name rest = ap (λ (w : Walk). entered app w.stopped) (stops rest) ∙ at_load rest
 
--- what is given has no path of a journal
-no_path : (given : Given) → first_of (codes "journal") (all_rows given) ≡ None
-unfolding all_rows row_for row_without
-no_path given = ap (option_and_then first_value) (found_behind (codes "journal") (map row_for given) (added (has_live given)) (none given) ∙ none_added (has_live given))
-  where
-    first_value : Row → Option Text
-    first_value r = slice_get r.values 0
-
-    none : (ps : Given) → find (λ r. bytes_eq r.id (codes "journal")) (map row_for ps) ≡ None
-    none [] = refl
-    none (number workers n ∷ ps) = none ps
-    none (number children n ∷ ps) = none ps
-    none (number readers n ∷ ps) = none ps
-    none (number turns n ∷ ps) = none ps
-    none (live ∷ ps) = none ps
-
-    none_added : (b : Bool) → find (λ r. bytes_eq r.id (codes "journal")) (added b) ≡ None
-    none_added true = refl
-    none_added false = refl
+-- the four numbers have no path of a journal
+no_path : (given : Given) → first_of (codes "journal") (map row_for given) ≡ None
+unfolding row_for
+no_path [] = refl
+no_path ((workers, n) ∷ ps) = no_path ps
+no_path ((children, n) ∷ ps) = no_path ps
+no_path ((readers, n) ∷ ps) = no_path ps
+no_path ((turns, n) ∷ ps) = no_path ps
 
 no_text : (path : Option (Bor Text)) → option_map (λ s. s.now) path ≡ None → path ≡ None
 no_text None e = refl
 no_text (Some s) e = cc
 
--- the kind that the rows say
-words_differ : codes "true" ≡ codes "false" → ⊥
-words_differ e = let bad : ◌≡◌ {A = ℕ} 116 102 = ap (λ (t : List ℕ). get_or t 0 0) e in absurd (omega arith)
-
-some_same : {a b : Text} → Some a ≡ Some b → a ≡ b
-some_same e = cc
-
-kind_said : (rows : List Row) (b : Bool) → one_of (codes "live") rows ≡ Some (if b then codes "true" else codes "false") → IsKind rows (kind_by b)
-kind_said rows true says = record { given = λ e. refl; left_out = λ e. absurd (words_differ (some_same (sym says ∙ e))) }
-kind_said rows false says = record { given = λ e. absurd (words_differ (some_same (sym e ∙ says))); left_out = λ e. refl }
-
-one_kind : (rows : List Row) (b : Bool) (kind : LoadKind) → one_of (codes "live") rows ≡ Some (if b then codes "true" else codes "false") → IsKind rows kind → kind ≡ kind_by b
-one_kind rows true kind says is = is.given says
-one_kind rows false kind says is = is.left_out says
-
 -- an order of the numbers alone is the load of them, and an error is want of memory
-load_of : (kinds : Kinds) (command : Command) (rows : List Row) (b : Bool) (w n r t : ℕ) → kinds ≡ [] → command ≡ Some (codes "load", rows)
-    → AreNumbers rows w n r t → first_of (codes "journal") rows ≡ None → one_of (codes "live") rows ≡ Some (if b then codes "true" else codes "false")
-    → IsWithin w n r t → (result : Result Order Error) → LeadsTo kinds command result → IsLoadOf (kind_by b) w n r t result
+load_of : (kinds : Kinds) (command : Command) (rows : List Row) (w n r t : ℕ) → kinds ≡ [] → command ≡ Some (codes "load", rows)
+    → AreNumbers rows w n r t → first_of (codes "journal") rows ≡ None → IsWithin w n r t → (result : Result Order Error) → LeadsTo kinds command result
+    → IsLoadOf w n r t result
 unfolding first_byte rows_in
-load_of kinds command rows b w n r t none is are bare says within (Ok (order.Script d)) leads =
+load_of kinds command rows w n r t none is are bare within (Ok (order.Script d)) leads =
     let bad : ◌≡◌ {A = ℕ} 115 108 = ap first_byte (sym leads.1.1 ∙ is) in absurd (omega arith)
-load_of kinds command rows b w n r t none is are bare says within (Ok (order.Replay d)) leads =
+load_of kinds command rows w n r t none is are bare within (Ok (order.Replay d)) leads =
     let bad : ◌≡◌ {A = ℕ} 114 108 = ap first_byte (sym leads.1.1 ∙ is) in absurd (omega arith)
-load_of kinds command rows b w n r t none is are bare says within (Ok (order.Serve d)) leads =
+load_of kinds command rows w n r t none is are bare within (Ok (order.Serve d)) leads =
     let bad : ◌≡◌ {A = ℕ} 115 108 = ap first_byte (sym leads.1.1 ∙ is) in absurd (omega arith)
-load_of kinds command rows b w n r t none is are bare says within (Ok (order.Load load kind path)) leads =
+load_of kinds command rows w n r t none is are bare within (Ok (order.Load load path)) leads =
     let same : leads.1.0 ≡ rows = ap rows_in (sym leads.1.1 ∙ is) in
     let those = subst (λ (R : List Row). AreNumbers R load.workers load.children load.readers load.turns) same leads.1.2 in
     let path_is : option_map (λ s. s.now) path ≡ None = leads.1.3 ∙ (ap (first_of (codes "journal")) same ∙ bare) in (
@@ -259,11 +217,10 @@ load_of kinds command rows b w n r t none is are bare says within (Ok (order.Loa
       same_number those.readers are.readers,
       same_number those.turns are.turns,
       no_text path path_is,
-      one_kind rows b kind says (subst (λ (R : List Row). IsKind R kind) same leads.1.4),
     )
-load_of kinds command rows b w n r t none is are bare says within (Err e) (inl memory) = memory
-load_of kinds command rows b w n r t none is are bare says within (Err e) (inr (inl among)) = absurd (subst (IsAmong (kind_of e)) none among)
-load_of kinds command rows b w n r t none is are bare says within (Err e) (inr (inr other)) =
+load_of kinds command rows w n r t none is are bare within (Err e) (inl memory) = memory
+load_of kinds command rows w n r t none is are bare within (Err e) (inr (inl among)) = absurd (subst (IsAmong (kind_of e)) none among)
+load_of kinds command rows w n r t none is are bare within (Err e) (inr (inr other)) =
     let load : Load = record {
       workers = w;
       children = n;
@@ -274,15 +231,15 @@ load_of kinds command rows b w n r t none is are bare says within (Err e) (inr (
       asking = within.4;
       asked = (within.5, within.6);
     } in
-    absurd (other.1.none (order.Load load (kind_by b) None) (rows, is, are, sym bare, kind_said rows b says))
+    absurd (other.1.none (order.Load load None) (rows, is, are, sym bare))
 
 pub load_leads : (name : Text) (given : Given) (w n r t : ℕ) → IsWhole given w n r t → (result : Result Order Error)
-    → WordsLeadTo (name ∷ codes "load" ∷ words_of given) result → IsLoadOf (kind_in given) w n r t result
-unfolding kinds_at command_at all_rows
+    → WordsLeadTo (name ∷ codes "load" ∷ words_of given) result → IsLoadOf w n r t result
+unfolding kinds_at command_at
 load_leads name given w n r t whole result leads =
     let words = name ∷ codes "load" ∷ words_of given in
-    let rows : rows_after load_rules [] (words_of given) ≡ all_rows given = leaf_rows given (all_plain given whole.within) ∙ table given w n r t whole in
-    let entered : subcommand_of supload_app words ≡ Some (codes "load", all_rows given) =
+    let rows : rows_after load_rules [] (words_of given) ≡ map row_for given = leaf_rows given (all_plain given whole.within) ∙ table given w n r t whole in
+    let entered : subcommand_of supload_app words ≡ Some (codes "load", map row_for given) =
     entered_below name (words_of given) ∙ ap (λ (R : List Row). Some (codes "load", R)) rows in
     let range : (s : Setting) (m : ℕ) → number_in given s ≡ Some m → (least_of s ≤ m) × (m ≤ most_of s) = λ s m is. within_of given s m whole.within is in
     let within : IsWithin w n r t = (
@@ -294,5 +251,5 @@ load_leads name given w n r t whole result leads =
       (range turns t whole.has_turns).0,
       (range turns t whole.has_turns).1,
     ) in
-    load_of (fault_of supload_app words) (subcommand_of supload_app words) (all_rows given) (has_live given) w n r t
-    (fault_below name (words_of given) ∙ leaf_passes given w n r t whole) entered (numbers given w n r t whole) (no_path given) (says_live given) within result leads
+    load_of (fault_of supload_app words) (subcommand_of supload_app words) (map row_for given) w n r t
+    (fault_below name (words_of given) ∙ leaf_passes given w n r t whole) entered (numbers given w n r t whole) (no_path given) within result leads

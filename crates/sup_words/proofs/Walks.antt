@@ -1,5 +1,5 @@
 -- What clap's walk makes of the words of a load.
-use Rattle.std.proofs.Common.{◌≡◌, ◌∙◌, ◌==◌, ◌&&◌, ◌++◌, ℕ, Bool, true, false, List, [], ◌∷◌, Some, None, refl, sym, ap, ap₂, codes}
+use Rattle.std.proofs.Common.{◌≡◌, ◌∙◌, ◌==◌, ◌&&◌, ℕ, Bool, true, false, List, [], ◌∷◌, Some, None, refl, sym, ap, ap₂, codes}
 use Rattle.std.specs.Prelude.{decimal}
 use Rattle.std.specs.List.{fold, list_any}
 use Rattle.std.specs.Prelude.{⊤, ◌||◌, not, if◌then◌else◌}
@@ -10,30 +10,20 @@ use Rattle.clap.specs.Faults.{turn_fault, walk_fault, settle_fault, defaults_fau
 use Rattle.clap.specs.Kinds.{Kinds, or_else, values_kinds, check_kinds}
 use Rattle.clap.specs.Lexer.{long_of, short_of}
 use Rattle.clap.specs.Simple.{Shape, help_rule, filled, new_shape}
-use Rattle.clap.specs.Walk.{Held, Row, Rule, Text, Walk, idle, option, walked, settled, nothing_held, finished, reacted, used, is_empty, default_rows, reading_by, with_default, has_row, rows_after}
+use Rattle.clap.specs.Walk.{Held, Row, Rule, Text, Walk, idle, option, walked, settled, nothing_held, finished, used, is_empty, default_rows, reading_by, with_default, has_row, rows_after}
 use Rattle.clap.specs.Takes.{is_given}
 use Rattle.clap.specs.declared.builder.value_parser.ValueParser.TheVariants.{Unsigned}
 use Rattle.clap.proofs.OnLiterals.{clap_on_literals}
-use Rattle.sup_words.specs.Grammar.{journal_rule, live_rule, setting_rule}
-use Rattle.sup_words.specs.Settings.{Setting, Said, Given, workers, children, readers, turns, number, live, name_of, flag_of, live_flag, words_of, least_of, most_of}
+use Rattle.sup_words.specs.Grammar.{journal_rule, setting_rule}
+use Rattle.sup_words.specs.Settings.{Setting, Given, workers, children, readers, turns, name_of, flag_of, words_of, least_of, most_of}
 
 -- ---- the load as clap builds it
 
 abbrev pub ready : Setting → Rule
 ready s = filled (setting_rule s)
 
-abbrev pub live_ready : Rule
-live_ready = filled live_rule
-
--- the rules of what has a value, and then the others
-abbrev pub valued : List Rule
-valued = ready workers ∷ ready children ∷ ready readers ∷ ready turns ∷ filled journal_rule ∷ []
-
-abbrev pub flags : List Rule
-flags = live_ready ∷ filled help_rule ∷ []
-
 abbrev pub load_rules : List Rule
-load_rules = ready workers ∷ ready children ∷ ready readers ∷ ready turns ∷ filled journal_rule ∷ live_ready ∷ filled help_rule ∷ []
+load_rules = ready workers ∷ ready children ∷ ready readers ∷ ready turns ∷ filled journal_rule ∷ filled help_rule ∷ []
 
 abbrev pub load_shape : Shape
 load_shape = record (new_shape (codes "load")) {
@@ -61,14 +51,6 @@ wants s h = record {
 -- behind a flag and its number
 abbrev behind : Setting → Text → Held → Held
 behind s v h = record (settled load_rules h) { pending = Some (name_of s, v ∷ []) }
-
--- behind `--live`
-abbrev behind_live : Held → Held
-behind_live h = reacted load_rules live_ready [] h
-
-live_walked : (h : Held) → walked load_rules [] (idle_at h) live_flag ≡ idle_at (behind_live h)
-unfolding clap_on_literals
-live_walked h = refl
 
 flag_walked : (s : Setting) (h : Held) → walked load_rules [] (idle_at h) (flag_of s) ≡ wants s h
 unfolding clap_on_literals
@@ -111,14 +93,6 @@ flag_fault children h = refl
 flag_fault readers h = refl
 flag_fault turns h = refl
 
--- `--live` was there already
-unfoldable pub live_fault : List Row → Kinds
-live_fault R = or_else (repeat_fault false (codes "live") R) []
-
-live_passed : (h : Held) → turn_fault load_shape [] (idle_at h) live_flag ≡ or_else (or_else (settle_fault load_rules false h) (live_fault (settled load_rules h).rows)) []
-unfolding clap_on_literals live_fault
-live_passed h = refl
-
 -- ---- all options
 
 pub or_else-nil : (a : Kinds) → or_else a [] ≡ a
@@ -131,50 +105,40 @@ or_else-assoc (k ∷ ks) b c = refl
 
 run : Given → Held → Held
 run [] h = h
-run (number s n ∷ ps) h = run ps (behind s (decimal n) h)
-run (live ∷ ps) h = run ps (behind_live h)
+run (p ∷ ps) h = run ps (behind p.0 (decimal p.1) h)
 
 faults : Given → Held → Kinds
 faults [] h = []
-faults (number s n ∷ ps) h = or_else (settle_fault load_rules false h) (faults ps (behind s (decimal n) h))
-faults (live ∷ ps) h = or_else (or_else (settle_fault load_rules false h) (live_fault (settled load_rules h).rows)) (faults ps (behind_live h))
+faults (p ∷ ps) h = or_else (settle_fault load_rules false h) (faults ps (behind p.0 (decimal p.1) h))
 
 unfoldable pub AllPlain : Given → Type 0
 AllPlain [] = ⊤
-AllPlain (number s n ∷ ps) = IsPlain (decimal n) × AllPlain ps
-AllPlain (live ∷ ps) = AllPlain ps
+AllPlain (p ∷ ps) = IsPlain (decimal p.1) × AllPlain ps
 
 walk_is : (given : Given) (h : Held) → AllPlain given → fold (walked load_rules []) (idle_at h) (words_of given) ≡ idle_at (run given h)
 unfolding run AllPlain
 walk_is [] h plain = refl
-walk_is (number s n ∷ ps) h plain =
-    ap (λ w. fold (walked load_rules []) (walked load_rules [] w (decimal n)) (words_of ps)) (flag_walked s h)
-    ∙ (ap (λ w. fold (walked load_rules []) w (words_of ps)) (value_walked (decimal n) h plain.0 s)
-    ∙ walk_is ps (behind s (decimal n) h) plain.1)
-walk_is (live ∷ ps) h plain =
-    ap (λ w. fold (walked load_rules []) w (words_of ps)) (live_walked h) ∙ walk_is ps (behind_live h) plain
+walk_is (p ∷ ps) h plain =
+    ap (λ w. fold (walked load_rules []) (walked load_rules [] w (decimal p.1)) (words_of ps)) (flag_walked p.0 h)
+    ∙ (ap (λ w. fold (walked load_rules []) w (words_of ps)) (value_walked (decimal p.1) h plain.0 p.0)
+    ∙ walk_is ps (behind p.0 (decimal p.1) h) plain.1)
 
 fault_is : (given : Given) (h : Held) → AllPlain given → walk_fault load_shape [] (idle_at h) (words_of given) ≡ faults given h
 unfolding faults AllPlain walk_fault
 fault_is [] h plain = refl
-fault_is (number s n ∷ ps) h plain =
-    ap₂ or_else (flag_fault s h ∙ or_else-nil (settle_fault load_rules false h))
-    (ap (λ w. or_else (turn_fault load_shape [] w (decimal n)) (walk_fault load_shape [] (walked load_rules [] w (decimal n)) (words_of ps))) (flag_walked s h)
-    ∙ (ap₂ (λ k w. or_else k (walk_fault load_shape [] w (words_of ps))) (value_passed (decimal n) h plain.0 s) (value_walked (decimal n) h plain.0 s)
-    ∙ fault_is ps (behind s (decimal n) h) plain.1))
-fault_is (live ∷ ps) h plain =
-    ap₂ or_else (live_passed h ∙ or_else-nil _)
-    (ap (λ w. walk_fault load_shape [] w (words_of ps)) (live_walked h) ∙ fault_is ps (behind_live h) plain)
+fault_is (p ∷ ps) h plain =
+    ap₂ or_else (flag_fault p.0 h ∙ or_else-nil (settle_fault load_rules false h))
+    (ap (λ w. or_else (turn_fault load_shape [] w (decimal p.1)) (walk_fault load_shape [] (walked load_rules [] w (decimal p.1)) (words_of ps))) (flag_walked p.0 h)
+    ∙ (ap₂ (λ k w. or_else k (walk_fault load_shape [] w (words_of ps))) (value_passed (decimal p.1) h plain.0 p.0) (value_walked (decimal p.1) h plain.0 p.0)
+    ∙ fault_is ps (behind p.0 (decimal p.1) h) plain.1))
 
--- ---- what each adds, and its fault
+-- ---- what each option adds, and its fault
 
-unfoldable pub use_of : Said → List Row → List Row
-use_of (number s n) R = used (ready s) (decimal n ∷ []) R
-use_of live R = used live_ready [] R
+unfoldable pub use_of : Setting × ℕ → List Row → List Row
+use_of p R = used (ready p.0) (decimal p.1 ∷ []) R
 
-unfoldable pub pair_fault : Said → List Row → Kinds
-pair_fault (number s n) R = or_else (repeat_fault false (name_of s) R) (values_kinds false (Unsigned (least_of s) (most_of s)) (decimal n ∷ []))
-pair_fault live R = live_fault R
+unfoldable pub pair_fault : Setting × ℕ → List Row → Kinds
+pair_fault p R = or_else (repeat_fault false (name_of p.0) R) (values_kinds false (Unsigned (least_of p.0) (most_of p.0)) (decimal p.1 ∷ []))
 
 unfoldable pub pair_faults : List Row → Given → Kinds
 pair_faults R [] = []
@@ -184,51 +148,34 @@ unfoldable pub rows_from : List Row → Given → List Row
 rows_from R [] = R
 rows_from R (p ∷ ps) = rows_from (use_of p R) ps
 
-settle_behind : (s : Setting) (n : ℕ) (h : Held) → settle_fault load_rules false (behind s (decimal n) h) ≡ pair_fault (number s n) (settled load_rules h).rows
+settle_behind : (s : Setting) (n : ℕ) (h : Held) → settle_fault load_rules false (behind s (decimal n) h) ≡ pair_fault (s, n) (settled load_rules h).rows
 unfolding pair_fault
 settle_behind workers n h = refl
 settle_behind children n h = refl
 settle_behind readers n h = refl
 settle_behind turns n h = refl
 
-rows_behind : (s : Setting) (n : ℕ) (h : Held) → (settled load_rules (behind s (decimal n) h)).rows ≡ use_of (number s n) (settled load_rules h).rows
+rows_behind : (s : Setting) (n : ℕ) (h : Held) → (settled load_rules (behind s (decimal n) h)).rows ≡ use_of (s, n) (settled load_rules h).rows
 unfolding use_of
 rows_behind workers n h = refl
 rows_behind children n h = refl
 rows_behind readers n h = refl
 rows_behind turns n h = refl
 
-rows_behind_live : (h : Held) → (settled load_rules (behind_live h)).rows ≡ use_of live (settled load_rules h).rows
-unfolding use_of
-rows_behind_live h = refl
-
-settle_behind_live : (h : Held) → settle_fault load_rules false (behind_live h) ≡ []
-settle_behind_live h = refl
-
 faults_are : (given : Given) (h : Held) → or_else (faults given h) (settle_fault load_rules false (run given h))
     ≡ or_else (settle_fault load_rules false h) (pair_faults (settled load_rules h).rows given)
-unfolding faults run pair_faults pair_fault
+unfolding faults run pair_faults
 faults_are [] h = sym (or_else-nil (settle_fault load_rules false h))
-faults_are (number s n ∷ ps) h =
-    let next = behind s (decimal n) h in
+faults_are (p ∷ ps) h =
+    let next = behind p.0 (decimal p.1) h in
     or_else-assoc (settle_fault load_rules false h) (faults ps next) (settle_fault load_rules false (run ps next))
     ∙ ap (or_else (settle_fault load_rules false h)) (faults_are ps next
-    ∙ ap₂ (λ k R. or_else k (pair_faults R ps)) (settle_behind s n h) (rows_behind s n h))
-faults_are (live ∷ ps) h =
-    let next = behind_live h in
-    let settle = settle_fault load_rules false h in
-    let here = live_fault (settled load_rules h).rows in
-    let rest = settle_fault load_rules false (run ps next) in
-    or_else-assoc (or_else settle here) (faults ps next) rest
-    ∙ (or_else-assoc settle here (or_else (faults ps next) rest)
-    ∙ ap (λ k. or_else settle (or_else here k)) (faults_are ps next
-    ∙ ap₂ (λ k R. or_else k (pair_faults R ps)) (settle_behind_live h) (rows_behind_live h)))
+    ∙ ap₂ (λ k R. or_else k (pair_faults R ps)) (settle_behind p.0 p.1 h) (rows_behind p.0 p.1 h))
 
 rows_are : (given : Given) (h : Held) → (settled load_rules (run given h)).rows ≡ rows_from (settled load_rules h).rows given
 unfolding run rows_from
 rows_are [] h = refl
-rows_are (number s n ∷ ps) h = rows_are ps (behind s (decimal n) h) ∙ ap (λ R. rows_from R ps) (rows_behind s n h)
-rows_are (live ∷ ps) h = rows_are ps (behind_live h) ∙ ap (λ R. rows_from R ps) (rows_behind_live h)
+rows_are (p ∷ ps) h = rows_are ps (behind p.0 (decimal p.1) h) ∙ ap (λ R. rows_from R ps) (rows_behind p.0 p.1 h)
 
 -- ---- after the walk
 
@@ -244,37 +191,13 @@ same_rows : (b : Bool) (a : Rule) (R : List Row) → a.defaults ≡ [] → (if b
 same_rows true a R none = refl
 same_rows false a R none = rw none refl
 
--- what has no default adds nothing, before rules that may have one
-defaults_none : (c d : List Rule) (R : List Row) → NoDefaults c
-    → (defaults_fault R (c ++ d) ≡ defaults_fault R d) × (fold with_default R (c ++ d) ≡ fold with_default R d)
+defaults_none : (c : List Rule) (R : List Row) → NoDefaults c → (defaults_fault R c ≡ []) × (fold with_default R c ≡ R)
 unfolding defaults_fault
-defaults_none [] d R none = (refl, refl)
-defaults_none (a ∷ rest) d R none =
+defaults_none [] R none = (refl, refl)
+defaults_none (a ∷ rest) R none =
     let same = same_rows (has_row a.id R) a R none.0 in
-    let after = defaults_none rest d R none.1 in
-    (ap₂ or_else (no_fault (has_row a.id R) a none.0) (ap (λ r. defaults_fault r (rest ++ d)) same ∙ after.0), ap (λ r. fold with_default r (rest ++ d)) same ∙ after.1)
-
--- the rows with that of `--live`, which says `false` where it was left out
-unfoldable pub final : List Row → List Row
-final R = with_default R live_ready
-
-live_default : (b : Bool) → (if b || is_empty live_ready.defaults then [] else given_default_fault live_ready live_ready.defaults) ≡ []
-live_default true = refl
-live_default false = refl
-
-flags_add : (R : List Row) → (defaults_fault R flags ≡ []) × (fold with_default R flags ≡ final R)
-unfolding defaults_fault final
-flags_add R =
-    let next = with_default R live_ready in
-    let same = same_rows (has_row (codes "help") next) (filled help_rule) next refl in
-    let none = no_fault (has_row (codes "help") next) (filled help_rule) refl in
-    (ap₂ or_else (live_default (has_row (codes "live") R)) (ap₂ or_else none refl), same)
-
-defaults_add : (R : List Row) → (defaults_fault R load_rules ≡ []) × (fold with_default R load_rules ≡ final R)
-defaults_add R =
-    let before = defaults_none valued flags R (refl, (refl, (refl, (refl, (refl, tt))))) in
-    let after = flags_add R in
-    (before.0 ∙ after.0, before.1 ∙ after.1)
+    let after = defaults_none rest R none.1 in
+    (ap₂ or_else (no_fault (has_row a.id R) a none.0) (ap (λ r. defaults_fault r rest) same ∙ after.0), ap (λ r. fold with_default r rest) same ∙ after.1)
 
 -- a required option is missing
 unfoldable pub missing : List Row → Kinds
@@ -285,21 +208,21 @@ parts F w = or_else F (or_else (settle_fault load_rules false w.held)
     (or_else (defaults_fault (settled load_rules w.held).rows load_rules) (check_fault load_shape (finished load_rules w.held) false)))
 
 pub leaf_fault : (given : Given) → AllPlain given
-    → level_fault load_shape [] nothing_held (words_of given) false [] ≡ or_else (pair_faults [] given) (missing (final (rows_from [] given)))
+    → level_fault load_shape [] nothing_held (words_of given) false [] ≡ or_else (pair_faults [] given) (missing (rows_from [] given))
 unfolding parts missing
 leaf_fault given plain =
     let end = run given nothing_held in
     let R = (settled load_rules end).rows in
-    let add = defaults_add R in
+    let none = defaults_none load_rules R (refl, (refl, (refl, (refl, (refl, (refl, tt)))))) in
     let parted : level_fault load_shape [] nothing_held (words_of given) false [] ≡ parts (faults given nothing_held) (idle_at end) =
     ap₂ parts (fault_is given nothing_held plain) (walk_is given nothing_held plain) in
-    let tail : or_else (defaults_fault R load_rules) (check_fault load_shape (fold with_default R load_rules) false) ≡ missing (final (rows_from [] given)) =
-    ap₂ (λ k r. or_else k (check_fault load_shape r false)) add.0 (add.1 ∙ ap final (rows_are given nothing_held)) in
+    let tail : or_else (defaults_fault R load_rules) (check_fault load_shape (fold with_default R load_rules) false) ≡ missing (rows_from [] given) =
+    ap₂ (λ k r. or_else k (check_fault load_shape r false)) none.0 (none.1 ∙ rows_are given nothing_held) in
     parted ∙ (sym (or_else-assoc (faults given nothing_held) (settle_fault load_rules false end) _)
     ∙ ap₂ or_else (faults_are given nothing_held) tail)
 
-pub leaf_rows : (given : Given) → AllPlain given → rows_after load_rules [] (words_of given) ≡ final (rows_from [] given)
+pub leaf_rows : (given : Given) → AllPlain given → rows_after load_rules [] (words_of given) ≡ rows_from [] given
 leaf_rows given plain =
     let end = run given nothing_held in
     ap (λ w. finished load_rules w.held) (walk_is given nothing_held plain)
-    ∙ ((defaults_add (settled load_rules end).rows).1 ∙ ap final (rows_are given nothing_held))
+    ∙ ((defaults_none load_rules (settled load_rules end).rows (refl, (refl, (refl, (refl, (refl, (refl, tt))))))).1 ∙ rows_are given nothing_held)

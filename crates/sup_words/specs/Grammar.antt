@@ -48,13 +48,10 @@ path_rule name = record (new_rule name) {
 abbrev pub journal_rule : Rule
 journal_rule = path_rule (codes "journal")
 
-abbrev pub live_rule : Rule
-live_rule = flag_rule (codes "live")
-
--- the load, with its four numbers, perhaps a journal, and perhaps live children
+-- the load, with its four numbers, and perhaps a journal
 abbrev pub load_app : App
-load_app = with_rule (with_rule (with_rule (with_rule (with_rule (with_rule (new_app (codes "load"))
-    (setting_rule workers)) (setting_rule children)) (setting_rule readers)) (setting_rule turns)) journal_rule) live_rule
+load_app = with_rule (with_rule (with_rule (with_rule (with_rule (new_app (codes "load"))
+    (setting_rule workers)) (setting_rule children)) (setting_rule readers)) (setting_rule turns)) journal_rule
 
 -- the program has a version and asks for a command
 abbrev pub bare_app : App

@@ -15,8 +15,6 @@ use Rattle.sup_script.specs.declared.runs.answer.Detail.{Detail}
 use Rattle.sup_script.specs.declared.runs.answer.Detail.TheVariants as detail
 use Rattle.sup_words.specs.declared.words.Order.{Order}
 use Rattle.sup_words.specs.declared.words.Order.TheVariants as order
-use Rattle.sup_words.specs.declared.load.LoadKind.{LoadKind}
-use Rattle.sup_words.specs.declared.load.LoadKind.TheVariants as load_kind
 use Rattle.sup_serve.specs.declared.server.Notices.{Notices}
 use Rattle.sup_serve.specs.declared.server.Notices.TheVariants as notices
 
@@ -53,17 +51,12 @@ pub record AreNumbers (rows : List Row) (w n r t : ℕ) : Type 0 where
 abbrev pub IsPath : List Row → Option (Bor Text) → Type 0
 IsPath rows path = option_map (λ s. s.now) path ≡ first_of (codes "journal") rows
 
--- the children are live where `--live` was given, and else end at once
-pub record IsKind (rows : List Row) (kind : LoadKind) : Type 0 where
-  pub given : one_of (codes "live") rows ≡ Some (codes "true") → kind ≡ load_kind.Live
-  pub left_out : one_of (codes "live") rows ≡ Some (codes "false") → kind ≡ load_kind.Brief
-
 -- the order is the one that the command names, with what its options say
 abbrev pub IsOrder : Command → Order → Type 0
 IsOrder command (order.Script answer) = (rows : List Row) × (command ≡ Some (codes "script", rows)) × IsDetail rows answer
 IsOrder command (order.Replay answer) = (rows : List Row) × (command ≡ Some (codes "replay", rows)) × IsDetail rows answer
-IsOrder command (order.Load load kind path) = (rows : List Row) × (command ≡ Some (codes "load", rows))
-    × AreNumbers rows load.workers load.children load.readers load.turns × IsPath rows path × IsKind rows kind
+IsOrder command (order.Load load path) = (rows : List Row) × (command ≡ Some (codes "load", rows))
+    × AreNumbers rows load.workers load.children load.readers load.turns × IsPath rows path
 IsOrder command (order.Serve answer) = (rows : List Row) × (command ≡ Some (codes "serve", rows)) × IsNotices rows answer
 
 -- no order is the command's
@@ -92,9 +85,9 @@ command_at words = subcommand_of supload_app words
 abbrev pub WordsLeadTo : List Text → Result Order Error → Type 0
 WordsLeadTo words = LeadsTo (kinds_at words) (command_at words)
 
--- the load of this kind and these numbers, without a journal, unless memory ran out
-abbrev pub IsLoadOf : LoadKind → ℕ → ℕ → ℕ → ℕ → Result Order Error → Type 0
-IsLoadOf k w n r t (Ok (order.Load load kind path)) =
-    (load.workers ≡ w) × (load.children ≡ n) × (load.readers ≡ r) × (load.turns ≡ t) × (path ≡ None) × (kind ≡ k)
-IsLoadOf k w n r t (Ok _) = ⊥
-IsLoadOf k w n r t (Err e) = kind_of e ≡ OutOfMemory
+-- the load of these numbers, without a journal, unless memory ran out
+abbrev pub IsLoadOf : ℕ → ℕ → ℕ → ℕ → Result Order Error → Type 0
+IsLoadOf w n r t (Ok (order.Load load path)) =
+    (load.workers ≡ w) × (load.children ≡ n) × (load.readers ≡ r) × (load.turns ≡ t) × (path ≡ None)
+IsLoadOf w n r t (Ok _) = ⊥
+IsLoadOf w n r t (Err e) = kind_of e ≡ OutOfMemory

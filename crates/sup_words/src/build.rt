@@ -79,7 +79,7 @@ fn load_command<'a>(alloc: Global) -> Result<Command<'a>, AllocError>
         alloc,
         "turns",
         "T",
-        "Questions of each thread, and messages to each live child: 1 to 1000000",
+        "Questions of each thread: 1 to 1000000",
         (1, 1_000_000),
     );
     let journal = path(
@@ -88,7 +88,6 @@ fn load_command<'a>(alloc: Global) -> Result<Command<'a>, AllocError>
         "FILE",
         "A new file to which the history is written",
     );
-    let live = flag(alloc, "live", "Keeps children alive and sends messages");
     Command::new(alloc, "load")
         .about(LOAD)
         .long_about(LOAD_HELP)
@@ -97,8 +96,7 @@ fn load_command<'a>(alloc: Global) -> Result<Command<'a>, AllocError>
         .arg(children)?
         .arg(readers)?
         .arg(turns)?
-        .arg(journal)?
-        .arg(live)
+        .arg(journal)
 }
 
 /// A command that reads a text on standard input.

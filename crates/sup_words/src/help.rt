@@ -88,18 +88,6 @@ Writes two lines: `made A exits B strays C restarts D gave_up E left F held G`, 
 made, of exits that were entered, of those answered stray, restarted and gave_up, of children that were left without a
 run and of exits that were held back; and `reads Q`, the number of questions that were answered.
 
-With --live the N children stay alive in W threads. Each counts the messages that it reads, and costs nothing while it
-waits for one. When all have been started, every 100th is told to crash, and runs again under a new number: N / 100
-restarts, rounded down. Then T rounds of messages are sent, one message to each child in a round, and a round begins
-when all of the last one were read. Beside that, R threads ask T times each. In the end all children are told to end.
-
-Writes three lines then: `made A exits B strays C restarts D gave_up E left F held G lost L`, where F exits were
-not taken from the inbox, G were taken and not entered, and L never came there; `messages M reads Q`, the numbers of
-messages that children read and of questions that were answered; and
-`a second: starts S messages M restarts R reads Q`, how many of each there were in a second of the clock, rounded
-down: by the time of all starts, of all rounds, of all restarts, and of the slowest of the threads that ask. A time
-of 0 counts as a nanosecond.
-
 With --journal the history is written to FILE, which must not be there yet, as a text that `supload replay` reads: each
 update before it takes effect.
 
@@ -107,13 +95,7 @@ Examples:
   supload load --workers 4 --children 100 --readers 2 --turns 50 --journal load.txt
 writes
   made 100 exits 100 strays 0 restarts 0 gave_up 0 left 0 held 0
-  reads 100
-
-  supload load --live --workers 4 --children 1000 --readers 2 --turns 50
-writes, with other numbers in the last line
-  made 1010 exits 1010 strays 0 restarts 10 gave_up 0 left 0 held 0 lost 0
-  messages 50000 reads 100
-  a second: starts 90000 messages 400000 restarts 20000 reads 700000";
+  reads 100";
 
 pub(crate) const SERVE: &str =
     "Serves sessions: reads a command a line on standard input, and answers each at once";

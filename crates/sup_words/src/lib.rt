@@ -2,7 +2,7 @@
 //!
 //! ```text
 //! match read_words(alloc, words)? {
-//!     Order::Load(load, LoadKind::Live, journal) => ..,
+//!     Order::Load(load, journal) => ..,
 //!     ..
 //! }
 //! ```
@@ -15,5 +15,5 @@ mod help;
 mod load;
 mod words;
 
-pub use load::{Load, LoadKind};
+pub use load::Load;
 pub use words::{Order, read_words};

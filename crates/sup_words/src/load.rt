@@ -3,15 +3,6 @@
 ghost use Rattle.std.specs.Prelude.{◌≡◌, ◌≤◌, MatchOption};
 ghost use Rattle.sup_words.specs.Ranges.{IsWithin};
 
-/// What the children of a load do.
-#[derive(Clone, Copy, Debug, PartialEq, Eq)]
-pub enum LoadKind {
-    /// Each ends at once.
-    Brief,
-    /// They stay alive, and are sent messages.
-    Live,
-}
-
 /// How much is to be done.
 #[derive(Clone, Copy, Debug, PartialEq, Eq)]
 pub struct Load {
@@ -21,7 +12,7 @@ pub struct Load {
     pub children: u64,
     /// How many threads ask: 0 to 64.
     pub readers: usize,
-    /// How often each of them asks, and how many messages a live child is sent: 1 to 1,000,000.
+    /// How often each of them asks: 1 to 1,000,000.
     pub turns: u64,
     ghost crew: { (1 ≤ workers) × (workers ≤ 64) },
     ghost crowd: { (1 ≤ children) × (children ≤ 65536) },
@@ -30,7 +21,7 @@ pub struct Load {
 }
 
 impl Load {
-    /// This much, where it is within the ranges.
+    /// Returns this much, where it is within the ranges.
     pub fn new(workers: usize, children: u64, readers: usize, turns: u64) -> Option<Load>
         ensures { MatchOption result (IsWithin workers children readers turns → ⊥)
             (λ load. (load.workers ≡ workers) × (load.children ≡ children) × (load.readers ≡ readers) × (load.turns ≡ turns)) }

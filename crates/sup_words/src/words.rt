@@ -5,13 +5,13 @@ ghost use Rattle.clap.specs.Kinds.{IsAmong};
 ghost use Rattle.clap.specs.Words.{found_of, kind_of, rows_of, subcommand_rows_of};
 ghost use Rattle.clap.specs.declared.error.kind.ErrorKind.TheVariants.{OutOfMemory};
 ghost use Rattle.sup_words.specs.Ranges.{IsWithin};
-ghost use Rattle.sup_words.specs.Orders.{AreNumbers, IsDetail, IsKind, IsLoadOf, IsNoOrder, IsNotices, IsOrder, IsPath, WordsLeadTo};
-ghost use Rattle.sup_words.specs.Settings.{Given, IsWhole, kind_in, words_of};
+ghost use Rattle.sup_words.specs.Orders.{AreNumbers, IsDetail, IsLoadOf, IsNoOrder, IsNotices, IsOrder, IsPath, WordsLeadTo};
+ghost use Rattle.sup_words.specs.Settings.{Given, IsWhole, words_of};
 ghost use Rattle.sup_words.specs.declared.words.Order.TheVariants as order;
 ghost use Rattle.sup_script.specs.declared.runs.answer.Detail.TheVariants as detail;
 
 use crate::build::command;
-use crate::load::{Load, LoadKind};
+use crate::load::Load;
 use clap::error::{Error, ErrorKind};
 use clap::{ArgMatches, Command};
 use std::alloc::Global;
@@ -27,7 +27,7 @@ pub enum Order<'a> {
     /// To replay a history text.
     Replay(Detail),
     /// To run a crew beside readers, with a journal on the file at this path, if there is one.
-    Load(Load, LoadKind, Option<&'a str>),
+    Load(Load, Option<&'a str>),
     /// To serve sessions.
     Serve(Notices),
 }
@@ -39,7 +39,7 @@ pub fn read_words<'a, S: AsStr>(alloc: Global, words: &'a [S]) -> Result<Order<'
     ensures replay { (name : List ℕ) → map S.text words.now ≡ name ∷ codes "replay" ∷ [] → result ≡ Ok (order.Replay detail.Number) }
     ensures words { WordsLeadTo (map S.text words.now) result }
     ensures load { (name : List ℕ) (given : Given) (w n r t : ℕ) → IsWhole given w n r t → map S.text words.now ≡ name ∷ codes "load" ∷ words_of given
-        → IsLoadOf (kind_in given) w n r t result }
+        → IsLoadOf w n r t result }
 {
     if is_command(words, "script") {
         return Ok(Order::Script(Detail::Number));
@@ -75,7 +75,7 @@ fn read_matches<'a>(alloc: Global, matches: &ArgMatches<'a>) -> Result<Order<'a>
         Some(("script", words)) => Ok(Order::Script(read_detail(words))),
         Some(("replay", words)) => Ok(Order::Replay(read_detail(words))),
         Some(("load", words)) => match read_load(words) {
-            Some(load) => Ok(Order::Load(load, read_kind(words), read_path(words))),
+            Some(load) => Ok(Order::Load(load, read_path(words))),
             None => Err(refused(alloc, ErrorKind::ValueValidation, "a number is missing")),
         },
         Some(("serve", words)) => Ok(Order::Serve(read_notices(words))),
@@ -130,17 +130,6 @@ fn read_load(words: &ArgMatches) -> Option<Load>
     let readers = words.get_one("readers")?;
     let turns = words.get_one("turns")?;
     Load::new(workers, children, readers, turns)
-}
-
-/// What the children of a load are to do.
-fn read_kind(words: &ArgMatches) -> LoadKind
-    ensures { IsKind (rows_of (found_of words.now)) result }
-{
-    if words.get_flag("live") {
-        LoadKind::Live
-    } else {
-        LoadKind::Brief
-    }
 }
 
 /// The path of the journal, if one is wanted.

@@ -2,5 +2,5 @@
 use Rattle.sup_load.proofs.Counting.{of_template}
 use Rattle.sup_load.proofs.load.measure.Goals as goal
 
-pub returns-clause-counts : goal.returns-clause-counts
-returns-clause-counts g c = of_template _ c.on_ground.result c.on_ground.ensures.counts
+pub returns : goal.returns
+returns g c = of_template _ c.on_ground.result c.on_ground.ensures

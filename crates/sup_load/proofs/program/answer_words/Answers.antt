@@ -1,10 +1,7 @@
 -- What the words lead to is done, or shown.
 use Rattle.std.proofs.Common.{refl, subst, inl, inr, map}
 use Rattle.std.specs.Prelude.{Ok}
-use Rattle.sup_load.specs.Answered.{IsLoadAnswered}
 use Rattle.sup_words.specs.Orders.{IsLoadOf, command_at, kinds_at}
-use Rattle.sup_words.specs.Settings.{kind_in}
-use Rattle.sup_words.specs.declared.load.LoadKind.{LoadKind}
 use Rattle.sup_words.specs.declared.words.Order.{Order}
 use Rattle.sup_words.specs.declared.words.Order.TheVariants as order
 use Rattle.sup_load.proofs.Replies.{done_as, error_as, serving_as}
@@ -26,7 +23,7 @@ pub returns-in-Ok-Load-clause-words : goal.returns-in-Ok-Load-clause-words
 returns-in-Ok-Load-clause-words g c =
     let words = map g.S.AsStr.text c.args.words.now in
     done_as (kinds_at words) (command_at words) _ _ _ _ _ _ _ c.answer_load.result
-    c.in-Ok-Load.field-0 (order.Load c.in-Ok-Load.load c.in-Ok-Load.kind c.in-Ok-Load.journal) c.in-Ok-Load.field-0-is c.in-Ok-Load.ensures.words (refl, c.answer_load.ensures.loaded)
+    c.in-Ok-Load.field-0 (order.Load c.in-Ok-Load.load c.in-Ok-Load.journal) c.in-Ok-Load.field-0-is c.in-Ok-Load.ensures.words (refl, c.answer_load.ensures.loaded)
 
 pub returns-in-Ok-Serve-clause-words : goal.returns-in-Ok-Serve-clause-words
 returns-in-Ok-Serve-clause-words g c =
@@ -46,7 +43,7 @@ pub returns-in-Ok-Replay-clause-one : goal.returns-in-Ok-Replay-clause-one
 returns-in-Ok-Replay-clause-one g c = inl (inr (inl c.answer_text-in-Ok-Replay.ensures.answered))
 
 pub returns-in-Ok-Load-clause-one : goal.returns-in-Ok-Load-clause-one
-returns-in-Ok-Load-clause-one g c = inl (inr (inr (refl, inl (c.in-Ok-Load.kind, c.answer_load.ensures.loaded))))
+returns-in-Ok-Load-clause-one g c = inl (inr (inr (refl, inl c.answer_load.ensures.loaded)))
 
 pub returns-in-Ok-Serve-clause-one : goal.returns-in-Ok-Serve-clause-one
 returns-in-Ok-Serve-clause-one g c =
@@ -59,20 +56,18 @@ returns-in-Err-clause-one g c = inl (inr (inr (refl, inr c.show.ensures.shown)))
 
 pub returns-in-Ok-Script-clause-load : goal.returns-in-Ok-Script-clause-load
 returns-in-Ok-Script-clause-load g c = λ name given w n r t whole words.
-    absurd (subst (λ (o : Order). IsLoadOf (kind_in given) w n r t (Ok o)) c.in-Ok-Script.field-0-is (c.in-Ok-Script.ensures.load name given w n r t whole words))
+    absurd (subst (λ (o : Order). IsLoadOf w n r t (Ok o)) c.in-Ok-Script.field-0-is (c.in-Ok-Script.ensures.load name given w n r t whole words))
 
 pub returns-in-Ok-Replay-clause-load : goal.returns-in-Ok-Replay-clause-load
 returns-in-Ok-Replay-clause-load g c = λ name given w n r t whole words.
-    absurd (subst (λ (o : Order). IsLoadOf (kind_in given) w n r t (Ok o)) c.in-Ok-Replay.field-0-is (c.in-Ok-Replay.ensures.load name given w n r t whole words))
+    absurd (subst (λ (o : Order). IsLoadOf w n r t (Ok o)) c.in-Ok-Replay.field-0-is (c.in-Ok-Replay.ensures.load name given w n r t whole words))
 
 pub returns-in-Ok-Serve-clause-load : goal.returns-in-Ok-Serve-clause-load
 returns-in-Ok-Serve-clause-load g c = λ name given w n r t whole words.
-    absurd (subst (λ (o : Order). IsLoadOf (kind_in given) w n r t (Ok o)) c.in-Ok-Serve.field-0-is (c.in-Ok-Serve.ensures.load name given w n r t whole words))
+    absurd (subst (λ (o : Order). IsLoadOf w n r t (Ok o)) c.in-Ok-Serve.field-0-is (c.in-Ok-Serve.ensures.load name given w n r t whole words))
 
 pub returns-in-Ok-Load-clause-load : goal.returns-in-Ok-Load-clause-load
-returns-in-Ok-Load-clause-load g c = λ name given w n r t whole words.
-    let is = subst (λ (o : Order). IsLoadOf (kind_in given) w n r t (Ok o)) c.in-Ok-Load.field-0-is (c.in-Ok-Load.ensures.load name given w n r t whole words) in
-    (refl, inl (subst (λ (k : LoadKind). IsLoadAnswered k (g.W.Write.contents c.args.out.now.writer) (g.W.Write.contents c.answer_load.new.out.writer) c.answer_load.new.out.has_refused c.answer_load.result) is.5 c.answer_load.ensures.loaded))
+returns-in-Ok-Load-clause-load g c = λ name given w n r t whole words. (refl, inl c.answer_load.ensures.loaded)
 
 pub returns-in-Err-clause-load : goal.returns-in-Err-clause-load
 returns-in-Err-clause-load g c = λ name given w n r t whole words. (refl, inr (c.show.ensures.kind.memory (c.in-Err.ensures.load name given w n r t whole words)))

@@ -1,4 +1,4 @@
--- The load has its six options.
+-- The load has its five options.
 use Rattle.std.proofs.Common.{◌≡◌, ◌∙◌, ◌||◌, Bool, false, rules, ap₂, codes}
 use Rattle.std.proofs.lemmas.Result.{IfOk-weaker}
 use Rattle.clap.specs.Words.{app_of, new_app, with_rule}
@@ -23,9 +23,7 @@ returns c =
     let none3 = c.in_ok-arg-3.ensures.globals ∙ ap₂ (λ a b. a || b) none2 c.number-readers.ensures.local in
     let four = c.in_ok-arg-4.ensures.shape c.number-turns.ensures.local ∙ ap₂ with_rule three c.number-turns.ensures.rule in
     let none4 = c.in_ok-arg-4.ensures.globals ∙ ap₂ (λ a b. a || b) none3 c.number-turns.ensures.local in
-    let five = c.in_ok-arg-5.ensures.shape c.path-journal.ensures.local ∙ ap₂ with_rule four c.path-journal.ensures.rule in
-    let none5 = c.in_ok-arg-5.ensures.globals ∙ ap₂ (λ a b. a || b) none4 c.path-journal.ensures.local in
-    IfOk-weaker c.arg-6.result _ _ (λ r h. (
-      h.shape c.flag-live.ensures.local ∙ ap₂ with_rule five c.flag-live.ensures.rule,
-      h.globals ∙ ap₂ (λ a b. a || b) none5 c.flag-live.ensures.local,
-    )) c.arg-6.ensures
+    IfOk-weaker c.arg-5.result _ _ (λ r h. (
+      h.shape c.path-journal.ensures.local ∙ ap₂ with_rule four c.path-journal.ensures.rule,
+      h.globals ∙ ap₂ (λ a b. a || b) none4 c.path-journal.ensures.local,
+    )) c.arg-5.ensures
