@@ -20,7 +20,7 @@ USES = {
     "journal": "sup_types sup_desk sup_journal",
     "inbox": "sup_types sup_inbox crossbeam_queue atomic_table",
     "crew": "sup_types sup_desk sup_crew",
-    "live": "sup_types sup_desk sup_live futures anyhow",
+    "live": "sup_types sup_live futures anyhow",
 }
 
 # The words that our program is given as `rt run` runs it, once it is built.
@@ -28,7 +28,7 @@ WORDS = {"live": ["1000"]}
 
 
 def said(words, folder, log, source=os.devnull):
-    """Runs a build, which reads this file. What it says goes to the log, of which the end is told where it fails."""
+    """Runs a build, which reads this file. What it says goes to the log, of which the end is shown if it fails."""
     with open(log, "wb") as file, open(source, "rb") as text:
         ran = subprocess.run(words, cwd=folder, stdin=text, stdout=file, stderr=file)
     if ran.returncode != 0:

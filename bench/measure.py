@@ -6,7 +6,7 @@ import statistics
 import subprocess
 import tempfile
 
-# What each program writes of each figure: how long so many took, or how many bytes, and what came of the work (`-`: it hangs
+# What each program writes of each figure: how long that many took, or how many bytes, and what came of the work (`-`: it hangs
 # on the schedule), which must be the same on both sides.
 LINE = re.compile(r"(.+): (\d+) (ns|bytes), (\d+) times, answer (\S+)")
 
@@ -134,7 +134,7 @@ def table_of(rows, name, unit):
 
 
 def check_same_work(ours, theirs, name):
-    """Ours and a peer must have done the same work, so many times, with the same outcome."""
+    """Ours and a peer must have done the same work, that many times, with the same outcome."""
     if not theirs.keys() <= ours.keys():
         raise Failed(f"{name} gave a figure that ours does not have: {sorted(theirs.keys() - ours.keys())}")
     for label, figure in theirs.items():

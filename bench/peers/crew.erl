@@ -1,4 +1,4 @@
-%% The same work by OTP's supervisor: so many temporary children that end at once, started by one process, as the crew's driver
+%% The same work by OTP's supervisor: as many temporary children that end at once, started by one process, as the crew's driver
 %% starts them, beside processes that call supervisor:count_children/1 all the time. Each child is a process, which any of the
 %% scheduler's threads runs: the workers of a figure only name what it is compared with.
 -module(crew).

@@ -51,7 +51,7 @@ fn read_all(shared: &RwLock<Supervisor>, threads: usize) -> u64 {
     })
 }
 
-/// How long so many updates take, and how many were made.
+/// Returns how long that many updates take, and how many were made.
 fn update_all(shared: &RwLock<Supervisor>) -> (u128, u64) {
     let mut done = 0;
     let start = Instant::now();
@@ -95,7 +95,7 @@ fn time_drawn(shared: &RwLock<Supervisor>, handles: u64) {
 }
 
 /// Batches of 32 starts and the terminations of these children, each batch under one lock.
-fn time_batches(shared: &RwLock<Supervisor>, handles: u64) {
+fn time_batches(shared: &RwLock<Supervisor>, handles: u64, rows: u64) {
     let mut ended = 0u64;
     let start = Instant::now();
     for _ in 0..BATCHES {
@@ -109,7 +109,7 @@ fn time_batches(shared: &RwLock<Supervisor>, handles: u64) {
         }
     }
     let took = start.elapsed().as_nanos();
-    println!("operation in a batch of 64, {handles} handles: {took} ns, {} times, answer {ended}", 64 * BATCHES);
+    println!("operation in a batch of 64 among {rows} rows, {handles} handles: {took} ns, {} times, answer {ended}", 64 * BATCHES);
 }
 
 fn time_reads(shared: &RwLock<Supervisor>, threads: usize, handles: u64) {
@@ -141,14 +141,15 @@ fn fill(shared: &RwLock<Supervisor>) {
 }
 
 fn main() {
-    // (a lock has no handles: the same work stands beside each desk)
+    // (a lock has no handles: each desk is compared with the same work)
     for handles in [2, 16] {
         let shared = made();
         time_updates(&shared, handles);
+        time_batches(&shared, handles, 0);
         fill(&shared);
         time_updates(&shared, handles);
         time_drawn(&shared, handles);
-        time_batches(&shared, handles);
+        time_batches(&shared, handles, ROWS as u64);
     }
     for handles in [2, 9, 16, 33, 65, 1024] {
         time_places(&made(), handles);

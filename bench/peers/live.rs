@@ -103,7 +103,7 @@ impl State {
     }
 }
 
-/// Who runs children.
+/// The thread that runs children.
 trait Runs: Send + Sync {
     fn begin(&self, number: u64);
     /// Whether the child was there.

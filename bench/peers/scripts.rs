@@ -91,7 +91,7 @@ fn step(
     }
     let reply = match operation {
         Operation::Start(arg) => {
-            // (the start function is not asked where there is no place)
+            // (the start function is not asked if there is no place)
             let answer = if sup.rows.len() == sup.template.max { Answer::Ignore } else { ask(arg) };
             sup.start(arg, answer)
         }

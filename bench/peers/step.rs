@@ -48,7 +48,7 @@ fn draw(mut drawn: u64) -> u64 {
     drawn
 }
 
-/// One of so many places.
+/// One of that many places.
 fn place_of(drawn: u64, places: usize) -> usize {
     ((drawn >> 32).wrapping_mul(places as u64) >> 32) as usize
 }

@@ -107,7 +107,7 @@ impl Supervisor {
         }
     }
 
-    /// The exit of a child; the start function is asked only where the child is to be restarted.
+    /// The exit of a child; the start function is asked only if the child is to be restarted.
     pub fn exit(&mut self, number: u64, is_clean: bool, ask: impl FnOnce(&str) -> Answer) -> Reply {
         if !self.rows.get(&number).is_some_and(|child| child.running) {
             return Reply::Stray(number);

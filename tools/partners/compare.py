@@ -193,7 +193,7 @@ def words_given(comparison):
     parser.add_argument("--self-test", action="store_true", help=f"try mutants, each of which must be caught within "
                         f"{comparison.most} seeds")
     if not comparison.has_otp:
-        parser.add_argument("--with-otp", action="store_true", help="run them through the supervisor of the installed OTP, too")
+        parser.add_argument("--with-otp", action="store_true", help="also run them through the supervisor of the installed OTP")
     given = parser.parse_args()
     if given.count < 1 or given.first < 0 or given.jobs < 1:
         parser.error("there are numbers from 1, and seeds from 0")

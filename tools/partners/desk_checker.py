@@ -5,7 +5,7 @@ order. The replies are those of the supervisor in recount.py.
 
 usage: tools/partners/desk_checker.py < RECORD
 
-It writes the first violation, and ends with status 1; with 0 where there is none; with 2 where this is no record.
+It writes the first violation, and ends with status 1; with 0 if there is none; with 2 if this is no record.
 """
 import collections
 import re
@@ -37,7 +37,7 @@ class Broken(Exception):
 
 class Call:
     """A call of a thread: by whom, when it was called and had returned, the front before and after, what was asked for, the
-    stamp of its ticket, if it has one, and what was answered. And in which process, where one goes on from another."""
+    stamp of its ticket, if it has one, and what was answered. And in which process, if one continues from another."""
 
     process = 0
 
@@ -179,12 +179,12 @@ def tickets_are_at_their_fronts(record):
 
 
 def places_are_gapless(record, updates):
-    """The updates stand at the places 1, 2, 3, .. to the length of the history, each at one of its own."""
+    """The updates are at the places 1, 2, 3, .. to the length of the history, each at one of its own."""
     for place, update in enumerate(updates, 1):
         if update.place < place:
-            raise Violation("two updates at one place", f"two stand at place {update.place}", updates[place - 2].call, update.call)
+            raise Violation("two updates at one place", f"two are at place {update.place}", updates[place - 2].call, update.call)
         if update.place > place:
-            raise Violation("lost update", f"none stands at place {place}, and the next is this", update.call)
+            raise Violation("lost update", f"none is at place {place}, and the next is this", update.call)
     if len(updates) != record.end:
         raise Violation("lost update", f"the history has {record.end} entries, and {len(updates)} were answered")
 
@@ -208,7 +208,7 @@ def journal_is_the_history(record, updates):
 
 
 def real_time_is_kept(updates):
-    """An update that had returned before another was called stands before it."""
+    """An update that had returned before another was called comes before it."""
     latest = None
     for update in updates:
         if latest and update.call.returned < latest.call.called:
@@ -232,12 +232,12 @@ def tickets_have_all(record, updates):
 
 
 def writes_follow_reads(record):
-    """An update stands behind all that its handle had seen."""
+    """An update comes after all that its handle had seen."""
     for call in record.calls:
         if call.is_update() and call.stamp is not None:
             place = call.stamp - max(len(call.replies()[0]) - 1, 0)
             if call.replies()[0] and place <= call.before:
-                raise Violation("writes follow reads", f"it stands at place {place}, and {call.who()} had seen {call.before} "
+                raise Violation("writes follow reads", f"it is at place {place}, and {call.who()} had seen {call.before} "
                                 "entries before", call)
 
 
@@ -252,7 +252,7 @@ def fronts_go_on(record):
         if before and call.before < before.after:
             raise Violation("front that goes back", f"{call.who()} had seen {before.after} entries, and then {call.before}", before, call)
         if before and call.before > before.after:
-            raise Violation("front that goes on by itself", f"{call.who()} had seen {before.after} entries, and then {call.before}",
+            raise Violation("front that moves by itself", f"{call.who()} had seen {before.after} entries, and then {call.before}",
                             before, call)
         if call.after < call.before:
             raise Violation("front that goes back", f"{call.who()} had seen {call.before} entries, and then {call.after}", call)
@@ -311,7 +311,7 @@ def queries_are_right(supervisor, calls):
 
 
 def answer_to(supervisor, call):
-    """What a supervisor of one thread answers to this query. A view has its front's length, too."""
+    """What a supervisor of one thread answers to this query. A view also has its front's length."""
     if supervisor.is_down:
         return "error down"
     if call.name == "count":

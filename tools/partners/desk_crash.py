@@ -1,7 +1,7 @@
-"""Rounds over one desk whose process ends itself in the midst of a write of its journal, and what goes on from there: how such a
+"""Rounds over one desk whose process ends itself during a write of its journal, and what continues from there: how such a
 round is run, what must hold of the two processes beside the rules of desk_checker.py, and wrong records of it.
 
-Each thread writes what it asks for ahead of an update or a batch, and its record before it goes on. So at the crash each has at
+Each thread writes what it asks for ahead of an update or a batch, and its record before it continues. So at the crash each has at
 most one call under way that lacks its reply."""
 import collections
 import os
@@ -26,12 +26,12 @@ Texts = collections.namedtuple("Texts", "first journal second later")
 
 
 def bytes_of(seed):
-    """How many bytes the journal's file takes: a place behind its first line, by the seed."""
+    """How many bytes the journal's file takes: a place after its first line, by the seed."""
     return FIRST_LINE + random.Random(seed).randrange(MOST)
 
 
 def texts(program, seed):
-    """Runs both processes: what the first one's threads wrote, its journal, and the same of the one that goes on from it."""
+    """Runs both processes: what the first one's threads wrote, its journal, and the same of the one that continues from it."""
     with tempfile.TemporaryDirectory(prefix="partners-") as room:
         journal, later = f"{room}/journal", f"{room}/later"
         first, status = run(program, seed, journal, str(bytes_of(seed)))
@@ -41,7 +41,7 @@ def texts(program, seed):
             raise desk_runs.Ended(f"the journal of seed {seed} has not as many bytes as its file took")
         second, status = run(program, seed, later, str(1 << 40), journal)
         if status != 0:
-            raise desk_runs.Ended(f"the process of seed {seed} that goes on from the journal ended with status {status}")
+            raise desk_runs.Ended(f"the process of seed {seed} that continues from the journal ended with status {status}")
         return Texts(first, text_of(journal), second, text_of(later))
 
 
@@ -80,7 +80,7 @@ class Whole(desk_checker.Record):
 
 class Lines:
     """What the threads of one process wrote: the first line, the calls in order, for each handle its last call of an update or a
-    batch with the record of it or None, and the last line's number, or None where there is none."""
+    batch with the record of it or None, and the last line's number, or None if there is none."""
 
     def __init__(self, text):
         self.head, *lines = text.splitlines()
@@ -158,7 +158,7 @@ def entry_of(place, line):
 
 
 def is_part(torn, line):
-    """Whether this is a first part of the line, behind which the answer of the start function stands."""
+    """Whether this is a first part of the line, after which the answer of the start function comes."""
     return line.startswith(torn) or torn.startswith(line) and bool(ANSWER_PART.fullmatch(torn[len(line) :]))
 
 
@@ -230,7 +230,7 @@ def entries_have_calls(crash):
             raise Violation("entry without a call", f"the journal has the places {places} of {ahead.who()}, which asked for this", ahead)
         is_full = len(crash.entries) == crash.template[1]
         if entries and len(entries) < wanted and not is_full and (not torn or torn[0] is not ahead):
-            raise Violation("part of a batch", f"the journal has the places {places} of it, and goes on behind them", ahead)
+            raise Violation("part of a batch", f"the journal has the places {places} of it, and continues after them", ahead)
 
 
 def torn_call_is_unseen(crash):
@@ -239,15 +239,15 @@ def torn_call_is_unseen(crash):
     first = len(crash.entries) - len(found[2]) if found else len(crash.entries)
     for call in crash.first.calls:
         if call.after > first:
-            raise Violation("torn call that is seen", f"its front has {call.after} entries, and the torn call begins behind {first}", call)
+            raise Violation("torn call that is seen", f"its front has {call.after} entries, and the torn call begins after {first}", call)
 
 
 def recovery_begins_with_the_lines(crash):
-    """The journal of the process that goes on begins with the whole lines of the first, and that process came to its end."""
+    """The journal of the process that continues begins with the whole lines of the first, and that process came to its end."""
     if not crash.later.startswith(crash.whole):
         raise Violation("recovery", "the journal does not begin with the whole lines of the one before")
     if crash.second.end is None or crash.second.head != crash.first.head:
-        raise Violation("recovery", "the process that goes on did not end as it should")
+        raise Violation("recovery", "the process that continues did not end as it should")
     for ahead, record in crash.second.last.values():
         if not record:
             raise Violation("recovery", "a call was not answered", ahead)
@@ -270,7 +270,7 @@ def completed(crash):
 
 
 def later_calls(crash):
-    """The calls of the process that goes on, later than all of the first."""
+    """The calls of the process that continues, later than all of the first."""
     later = crash.first.clock() + 1
     for call in crash.second.calls:
         call.called, call.returned, call.process = call.called + later, call.returned + later, 1
@@ -294,7 +294,7 @@ def count(crash, tally):
 
 
 # Wrong records, each made by one change of the texts of a round: a name, the rule that is broken first, and a function that answers
-# the changed texts, or None where there is no place for it.
+# the changed texts, or None if there is no place for it.
 
 
 def changed_lines(text, change):
@@ -303,7 +303,7 @@ def changed_lines(text, change):
 
 
 def answered_lines(lines):
-    """Where the records of updates that were entered stand."""
+    """The lines of the records of updates that were entered."""
     return [(at, line) for at, line in enumerate(lines) if re.match(r"\d+\.0 .*\| update [^|]* \| \d+ \|", line)]
 
 
@@ -385,7 +385,7 @@ def torn_call_is_seen(it):
 def entry_without_a_call(it):
     found = Crash(it).torn_call()
     place = it.journal.rfind("\n") + 1
-    # (behind entries of the torn call it would part these from the torn line)
+    # (after entries of the torn call it would part these from the torn line)
     return it._replace(journal=f"{it.journal[:place]}9 0 0 stop running\n{it.journal[place:]}") if found and not found[2] else None
 
 
@@ -417,7 +417,7 @@ MUTANTS = (
 
 
 def changed(mutant, found):
-    """What is violated by the texts with the change, None where nothing is, or the word `no place` where none has one."""
+    """What is violated by the texts with the change, None if nothing is, or the word `no place` if none has one."""
     texts_of = mutant.change(found)
     return violation_of(texts_of) if texts_of else "no place"
 

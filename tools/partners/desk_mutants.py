@@ -10,7 +10,7 @@ Mutant = collections.namedtuple("Mutant", "name rule change")
 
 
 def changed(mutant, text):
-    """The record of this text with the change, or None where there is no place for it."""
+    """The record of this text with the change, or None if there is no place for it."""
     record = desk_checker.Record(text)
     return record if mutant.change(record) else None
 
@@ -147,7 +147,7 @@ def query_of_what_comes(record):
 def part_of_a_batch(record):
     last = {(it.thread, it.asker): it for it in record.calls}
     batches = [it for it in record.calls if it.name == "batch" and it.stamp is not None and len(it.replies()[0]) > 1]
-    # (the last moment at which one of the first so many updates was called)
+    # (for each number of updates from the first on, the last moment at which one of them was called)
     latest = list(itertools.accumulate((it.call.called for it in record.updates()), max))
     found = middle([(call, it) for call in last.values() if call.is_query() for it in batches
                     if call.before < it.stamp and latest[it.stamp - 2] < call.returned])
@@ -164,7 +164,7 @@ def refusal_without_a_reason(record):
 
 
 def of_journal(record, change):
-    """Changes the lines behind the first one of the journal, where there are two that differ."""
+    """Changes the lines after the first one of the journal, if there are two that differ."""
     first, *lines = record.journal.splitlines(True)
     pairs = [at for at, (line, then) in enumerate(zip(lines, lines[1:])) if line != then]
     at = middle(pairs)

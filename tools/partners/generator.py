@@ -63,7 +63,7 @@ class Walk:
         return [*fields.values(), *self.shutdown(fields["restart"])]
 
     def shutdown(self, restart):
-        """Mark and auto, or nothing; three in a hundred cannot stand."""
+        """Mark and auto, or nothing; three in a hundred do not fit."""
         rng, which = self.rng, self.rng.random()
         if which < 0.35:
             return []
@@ -78,10 +78,10 @@ class Walk:
             return " ".join(["sup", *fields])
         return " ".join(["history", "1" if len(fields) == 5 else "2", *fields])
 
-    # What stands in a line
+    # What a line has
 
     def moment(self):
-        """The next moment; the style decides how moments go on."""
+        """The next moment; the style decides how moments follow one another."""
         rng, period = self.rng, self.sup.template.period
         if self.style == "long" and rng.random() < 0.1:
             self.now += 2 * period + rng.randrange(100)
@@ -116,7 +116,7 @@ class Walk:
         return rng.choice([MOST, 2**32, 2**63])
 
     def operation(self):
-        """A word of an operation and what stands behind its moment."""
+        """A word of an operation and what follows its moment."""
         rng, rows = self.rng, self.sup.rows
         running = [it for it, row in rows.items() if row[0]]
         waiting = [it for it, row in rows.items() if not row[0]]

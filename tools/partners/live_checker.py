@@ -1,4 +1,4 @@
-"""What four threads did by a door each, and were told, over one live crew, and what its report says: whether all of it can be."""
+"""The calls and answers of four threads, by a client each, over one live crew, and its report: whether all of it can be."""
 import re
 
 WORDS = {"true": True, "false": False}
@@ -15,25 +15,25 @@ class Violation(Exception):
 
 
 class Record:
-    """The lines of a run: the report, the driver's replies, what the children counted, each door's sums, the events of the threads
+    """The lines of a run: the report, the driver's replies, what the children counted, each client's sums, the events of the threads
     in their order, and the audit."""
 
     def __init__(self, text):
-        self.events, self.doors, self.named = [], [], {}
+        self.events, self.clients, self.named = [], [], {}
         for line in text.splitlines():
             words = [value_of(it) for it in line.split(" ")]
-            if words[0] == "door":
-                self.doors.append(fields_of(words[2:], line))
+            if words[0] == "client":
+                self.clients.append(fields_of(words[2:], line))
             elif isinstance(words[0], int):
                 self.events.append(words)
             else:
                 self.named[words[0]] = words[1] if words[0] == "audit" else fields_of(words[1:], line)
         lacking = {"report", "tally", "board", "audit"} - self.named.keys()
-        if lacking or not self.doors:
-            raise Broken(f"the record lacks {', '.join(sorted(lacking)) or 'the doors'}")
+        if lacking or not self.clients:
+            raise Broken(f"the record lacks {', '.join(sorted(lacking)) or 'the clients'}")
 
     def sum(self, name):
-        return sum(it[name] for it in self.doors)
+        return sum(it[name] for it in self.clients)
 
 
 def value_of(word):
@@ -55,37 +55,37 @@ def check(record):
     """Raises the first violation."""
     check_account(record)
     check_ends(record)
-    for door in range(len(record.doors)):
-        check_events([it[1:] for it in record.events if it[0] == door], door)
+    for client in range(len(record.clients)):
+        check_events([it[1:] for it in record.events if it[0] == client], client)
 
 
 def check_account(record):
-    """Each child that was made has one exit, which was entered, and is one of those that doors, restarts and tries made."""
+    """Each child that was made has one exit, which was entered, and is one of those that clients, restarts and tries made."""
     report, tally, board = (record.named[it] for it in ("report", "tally", "board"))
-    demand(not report["fault"] and not any(it["fault"] for it in record.doors), "no fault", f"{report}, {record.doors}")
+    demand(not report["fault"] and not any(it["fault"] for it in record.clients), "no fault", f"{report}, {record.clients}")
     demand(report["adds_up"] and report["owed"] == 0, "the account adds up", report)
     demand(report["made"] == report["exits"] + report["not_entered"], "each child has an exit", report)
     made = record.sum("started") + tally["restarts"] + tally["retried"]
-    demand(report["made"] == made, "doors, restarts and tries made the children", f"{report['made']} were made, and not {made}")
+    demand(report["made"] == made, "clients, restarts and tries made the children", f"{report['made']} were made, and not {made}")
     demand(board["begun"] == report["made"], "each child was begun once", f"{board}, {report}")
     demand(board["gone"] == board["begun"], "each child is gone", board)
     demand(record.named["audit"], "the audit is Ok", "it is not")
 
 
 def check_ends(record):
-    """What ended by a crash was sent one, and what was ended by a door is a stray or came when all was down."""
+    """What ended by a crash was sent one, and what was ended by a client is a stray or came when all was down."""
     tally = record.named["tally"]
     demand(tally["restarts"] <= record.sum("crashes"), "a restart has its crash", f"{tally}, {record.sum('crashes')} crashes were sent")
     demand(tally["retried"] <= tally["failed"], "a later try has its failed restart", tally)
-    demand(tally["strays"] <= record.sum("ended"), "a stray was ended by a door", f"{tally}, {record.sum('ended')} were ended")
+    demand(tally["strays"] <= record.sum("ended"), "a stray was ended by a client", f"{tally}, {record.sum('ended')} were ended")
     demand(record.named["board"]["heard"] <= record.sum("taken"), "what is heard was sent", record.named["board"])
 
 
-def check_events(events, door):
-    """Of one door: its numbers and fronts grow, and each answer is one that there can be."""
+def check_events(events, client):
+    """Of one client: its numbers and fronts grow, and each answer is one that there can be."""
     front = 0
     for kind, *told in events:
-        says = f"door {door}: {kind} {told}"
+        says = f"client {client}: {kind} {told}"
         if kind == "started":
             known, number = told
             demand(known < number, "numbers grow", says)
@@ -104,7 +104,7 @@ def check_events(events, door):
 
 
 def changed_count(text, place, by):
-    """The last count that is told, with another number at this place."""
+    """The last count that is reported, with another number at this place."""
     *_, found = re.finditer("^[0-9] counted (.*)$", text, re.M)
     numbers = found[1].split(" ")
     numbers[place] = str(int(numbers[place]) + by)
@@ -112,7 +112,7 @@ def changed_count(text, place, by):
 
 
 def changed_field(text, line, name, by):
-    """The number of this name in the first line that begins so, greater by so many."""
+    """The number of this name in the first line that begins so, greater by that many."""
     found = re.search(f"^{line} .*?\\b{name} ([0-9]+)", text, re.M)
     return f"{text[:found.start(1)]}{int(found[1]) + by}{text[found.end(1):]}"
 
@@ -121,14 +121,14 @@ def changed_field(text, line, name, by):
 WRONG = {
     "an exit is forgotten": (lambda it: changed_field(it, "report", "exits", -1), "each child has an exit"),
     "an exit is entered twice": (lambda it: changed_field(it, "report", "exits", 1), "each child has an exit"),
-    "a start is not counted": (lambda it: changed_field(it, "door 0", "started", -1), "doors, restarts and tries made the children"),
-    "a restart is not counted": (lambda it: changed_field(it, "tally", "restarts", -1), "doors, restarts and tries made the children"),
+    "a start is not counted": (lambda it: changed_field(it, "client 0", "started", -1), "clients, restarts and tries made the children"),
+    "a restart is not counted": (lambda it: changed_field(it, "tally", "restarts", -1), "clients, restarts and tries made the children"),
     "a child is begun twice": (lambda it: changed_field(it, "board", "begun", 1), "each child was begun once"),
     "a child is still there": (lambda it: changed_field(it, "board", "gone", -1), "each child is gone"),
-    "a restart has no crash": (lambda it: changed_field(it, "door 0", "crashes", -(10**9)), "a restart has its crash"),
+    "a restart has no crash": (lambda it: changed_field(it, "client 0", "crashes", -(10**9)), "a restart has its crash"),
     "a try comes from nowhere": (lambda it: changed_field(changed_field(it, "tally", "retried", 10**6), "tally", "restarts", -(10**6)),
                                  "a later try has its failed restart"),
-    "a stray is nobody's": (lambda it: changed_field(it, "tally", "strays", 10**9), "a stray was ended by a door"),
+    "a stray is nobody's": (lambda it: changed_field(it, "tally", "strays", 10**9), "a stray was ended by a client"),
     "a message is heard that was not sent": (lambda it: changed_field(it, "board", "heard", 10**9), "what is heard was sent"),
     "the audit is refused": (lambda it: it.replace("audit true", "audit false"), "the audit is Ok"),
     "a kept child does not run": (lambda it: re.sub("(kept [0-9]+) true", "\\1 false", it, count=1), "a child that nobody ends runs"),

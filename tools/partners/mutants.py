@@ -1,6 +1,6 @@
 """Mutants: wrong recounts, each made by one change of the text of recount.py. A mutant stands in for a wrong program, since
 to build one takes minutes. And drivers that do not translate one of the differences from OTP. Each has a name, the text that
-it changes, and what it puts there; a driver's has its file, too."""
+it changes, and what it puts there; a driver's also has its file."""
 import shutil
 import types
 
@@ -48,7 +48,7 @@ def changed(file, name, old, new):
     with open(f"{runs.HERE}/{file}", encoding="utf-8") as it:
         whole = it.read()
     if whole.count(old) != 1:
-        raise runs.Missing(f"the text of the mutant {name} stands {whole.count(old)} times in {file}, and not once: {old}")
+        raise runs.Missing(f"the text of the mutant {name} is {whole.count(old)} times in {file}, and not once: {old}")
     return whole.replace(old, new)
 
 

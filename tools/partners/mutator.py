@@ -74,7 +74,7 @@ def word_changed(rng, line):
 
 
 def number_changed(rng, line):
-    """Another number, at a limit or spelt otherwise, or the next one, where one stood."""
+    """Another number, at a limit or spelt otherwise, or the next one, in place of one."""
     words = line.split(b" ")
     places = [it for it, word in enumerate(words) if word.isdigit()] or [0]
     place = rng.choice([*places, places[-1]])
@@ -84,7 +84,7 @@ def number_changed(rng, line):
 
 
 def text_changed(rng, line):
-    """Another text where none of the formats' own words and no number stood."""
+    """Another text in place of one that is none of the formats' own words and no number."""
     words = line.split(b" ")
     places = [it for it, word in enumerate(words) if not word.isdigit() and word not in KEYWORDS] or [-1]
     words[rng.choice(places)] = rng.choice(TEXTS)

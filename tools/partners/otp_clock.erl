@@ -69,7 +69,7 @@ field(Name) ->
     Before = lists:takewhile(fun(It) -> It =/= Name end, persistent_term:get(?MODULE)),
     length(Before) + 2.
 
-%% Makes the calling process, a supervisor that begins, play on this stage: a table in which its moment stands.
+%% Makes the calling process, a supervisor that begins, play on this stage: a table that has its moment.
 enter_stage(Stage) ->
     put(?MODULE, Stage).
 

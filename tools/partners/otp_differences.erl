@@ -1,5 +1,5 @@
 %% Where Sapyguendo differs from OTP: each difference that docs/DECISIONS.md lists, at one place, and nothing else.
-%% The two of them that are no translation of a reply stand elsewhere:
+%% The two of them that are no translation of a reply are elsewhere:
 %%   "Automatic retry": otp_clock:hold/2 holds the supervisor's message to itself, and otp_driver sends it on for `retry`.
 %%   "Automatic shutdown with simple_one_for_one": otp_driver:begin_run/2 tells a release that does not allow it.
 -module(otp_differences).

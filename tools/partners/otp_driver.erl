@@ -35,7 +35,7 @@ serve(Port) ->
             halt(0)
     end.
 
-%% Runs the text in a process of its own. Where the driver fails, status 254 and standard error say so.
+%% Runs the text in a process of its own. If the driver fails, status 254 and standard error say so.
 run_apart(Letter, Text) ->
     {_, Watch} = spawn_monitor(fun() -> exit({told, run(Letter, Text)}) end),
     receive
@@ -139,12 +139,12 @@ reply(Run, {Moment, Operation, Answer}) ->
         Rows -> perform(Operation, Run, Rows)
     end.
 
-%% The clock of the stage stands at the highest moment so far, as a monotonic clock does.
+%% The clock of the stage shows the highest moment so far, as a monotonic clock does.
 arrive(#run{stage = Stage}, Moment, Answer) ->
     ets:insert(Stage, [{moment, max(Moment, ets:lookup_element(Stage, moment, 2))}, {given, Moment}, {answer, Answer}]),
     [ets:delete(Stage, It) || It <- [asked, clock_was_read, held]].
 
-%% The supervisor's own table, in which a child is a process or {restarting, process}; down where there is no supervisor.
+%% The supervisor's own table, in which a child is a process or {restarting, process}; down if there is no supervisor.
 rows(#run{sup = Sup}) ->
     case otp_differences:when_down(fun() -> sys:get_state(Sup, infinity) end) of
         down -> down;
@@ -192,7 +192,7 @@ terminate(#run{sup = Sup} = Run, Pid, Rows) ->
         {false, false} -> Left = Rows, otp_differences:dead_process(Answer)
     end.
 
-%% A child that runs ends with the reason. Else the supervisor is told that the dead process ended, which changes nothing.
+%% A child that runs ends with the reason. Else the supervisor hears that the dead process ended, which changes nothing.
 exit_of(#run{sup = Sup} = Run, Number, Pid, Reason, Rows) when is_map_key(Pid, Rows) ->
     Pid ! {end_with, Reason},
     wait_for_exit(Sup, Pid),

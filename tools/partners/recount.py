@@ -50,7 +50,7 @@ def text(token):
 
 
 def reason(token):
-    """The reason as it stands; what follows `shutdown:` is a text of its own."""
+    """The reason as it is; what follows `shutdown:` is a text of its own."""
     text(token[len(b"shutdown:") :] if token.startswith(b"shutdown:") else token)
     return token
 
@@ -251,7 +251,7 @@ def begun(tokens, line):
 
 
 def lines_of(whole):
-    """The lines, without a further one behind a last line feed."""
+    """The lines, without a further one after a last line feed."""
     lines = whole.split(b"\n")
     return lines[:-1] if lines[-1] == b"" else lines
 

@@ -1,5 +1,5 @@
 """How a text is run: by the program, by OTP's supervisor, and by the recount. Each result is standard output, standard
-error and exit status. Where something is missing, Missing says what and how to come by it."""
+error and exit status. If something is missing, Missing says what and how to come by it."""
 import os
 import shutil
 import signal
@@ -65,7 +65,7 @@ class Otp:
     def packet(self):
         head = self.machine.stdout.read(4)
         if len(head) < 4:
-            raise Missing("the virtual machine of Erlang ended; what it said stands above")
+            raise Missing("the virtual machine of Erlang ended; what it said is above")
         return self.machine.stdout.read(struct.unpack(">I", head)[0])
 
     def run(self, kind, text):

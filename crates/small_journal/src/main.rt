@@ -1,17 +1,16 @@
-//! A supervisor that outlives its program: its history stands in a file, and the next run goes on from there. Each run starts
-//! one session more.
+//! A supervisor that outlives its program: its history is in a file, and the next run continues from there. Each run starts one
+//! session more.
 #![tactic(auto)]
 
 use anyhow::{Context, Result};
-use std::alloc::Global;
 use std::fs::Files;
 use std::sync::Wait;
-use sup_desk::{Caller, Desk, JournaledProgram, Name, on_journaled_desk};
-use sup_journal::{Flush, Opened, Synced, TextJournal, Unknown, open_journal};
+use sup_desk::{Caller, Desk, JournaledProgram, Name};
+use sup_journal::{FileJournal, Flush, on_desk_in_file};
 use sup_types::{AlwaysRunning, Kind, Restart, Template, Text};
 
 /// A journal in a file.
-type Kept<R> = TextJournal<Unknown, Synced<<R as Files>::File>, Global>;
+type Kept<R> = FileJournal<<R as Files>::File>;
 
 /// Starts one session more.
 #[derive(Drop)]
@@ -20,7 +19,7 @@ struct OneMore;
 impl<R: Wait + Files + Print> JournaledProgram<AlwaysRunning, R, Kept<R>> for OneMore {
     type Outcome = Result<()>;
 
-    /// Goes on by the handle of the run before, where there was one.
+    /// Continues by the handle of the previous run, if there was one.
     fn run<N: Name + Send + Sync>(
         self,
         rt: &R,
@@ -42,17 +41,15 @@ impl<R: Wait + Files + Print> JournaledProgram<AlwaysRunning, R, Kept<R>> for On
 
 fn main(rt: HostRuntime) -> Result<()> {
     let template = Template::new(Restart::Transient, Kind::Worker, 5, 10, 1000, 1 << 62)?;
-    let Opened { journal, entries } = open_journal(&rt, rt.alloc(), "sessions.txt", &template)?;
     // An update is answered once its line is on the disk.
-    let journal = journal.with_flush(Flush::EachUpdate);
-    let (outcome, closed) = on_journaled_desk(
+    let (outcome, closed) = on_desk_in_file(
         &rt,
         rt.alloc(),
+        "sessions.txt",
+        Flush::EachUpdate,
         template,
         1,
         AlwaysRunning,
-        journal,
-        &entries,
         OneMore,
     )?;
     outcome?;

@@ -3,17 +3,19 @@ ghost use Rattle.std.specs.Prelude.{◌≡◌, None};
 
 use sup_types::Text;
 
-/// Where a child was found, if it was looked up. It is a hint: no reply depends on it.
+/// Says where a child was found, if it was looked up. It is a hint: no reply depends on it.
 ///
-/// Supervisors after the same history have each child in the same place. So what one of them found, the others need not look for.
+/// Supervisors after the same history have each child in the same place. So what one of them found, the others need not
+/// look for.
 #[derive(Clone, Copy, Debug)]
 pub struct Spot {
     place: usize,
 }
 
-/// Whether the start function is to be asked, and about which argument.
+/// Says whether the start function is to be asked, and about which argument.
 ///
-/// It also says where a child was found that may be restarted, so that the entry with the answer needs no second look-up.
+/// It also says where a child was found that may be restarted, so that the entry with the answer needs no second
+/// look-up.
 #[derive(Clone, Copy, Debug)]
 pub struct Asked {
     /// The argument whose start decides the reply, if there is one.
@@ -50,7 +52,7 @@ impl Spot {
         Spot { place: NO_PLACE }
     }
 
-    /// Returns the spot of a child that stands there.
+    /// Returns the spot of a child that is there.
     pub(crate) fn at(place: usize) -> Spot {
         Spot { place }
     }

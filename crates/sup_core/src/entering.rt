@@ -11,9 +11,10 @@ use std::alloc::Allocator;
 use sup_types::{Answer, Entry, FixedStarter, Operation, Reply, Text};
 
 impl<A: Allocator + Copy> Sup<A> {
-    /// Enters the next entry of the history, and answers the reply to it.
+    /// Enters the next entry of the history, and returns the reply to it. It is never refused: it may be called only
+    /// while the history is not full (see [`Sup::is_spent`]).
     ///
-    /// Where [`Sup::asks`] was called for this entry, [`Sup::step_at`] takes a look-up less.
+    /// After [`Sup::asks`] for this entry, [`Sup::step_at`] takes one look-up less.
     pub fn step(&mut self, entry: &Entry) -> Reply
         requires { self.old.steps < self.old.template.entries }
         ensures reply { result ≡ reply_to self.old entry.now }
@@ -26,9 +27,9 @@ impl<A: Allocator + Copy> Sup<A> {
         self.advance(entry.moment, &entry.operation, entry.answer, NO_PLACE)
     }
 
-    /// Enters an entry as [`Sup::step`] does. The child is looked for at this spot first, and by its number only if it does not stand
-    /// there. So the reply is right whatever spot is told: that of [`Sup::asks`] for this entry, or the [`Sup::spot`] that another
-    /// supervisor had after it.
+    /// Enters an entry as [`Sup::step`] does. The child is looked for at this spot first, and by its number only if it
+    /// is not there. So the reply is right for any spot: that of [`Sup::asks`] for this entry, or the [`Sup::spot`]
+    /// that another supervisor had after it.
     pub fn step_at(&mut self, entry: &Entry, spot: Spot) -> Reply
         requires { self.old.steps < self.old.template.entries }
         ensures reply { result ≡ reply_to self.old entry.now }
@@ -39,9 +40,9 @@ impl<A: Allocator + Copy> Sup<A> {
         self.advance(entry.moment, &entry.operation, entry.answer, spot.place())
     }
 
-    /// Enters an operation at this moment as the next entry, with what the start function answers where it is asked, and answers the
-    /// reply to it. The start function is asked at most once, and the child is looked up once. Which handle the entry is of makes no
-    /// difference.
+    /// Enters an operation at this moment, in seconds, as the next entry, with the start function's answer if it is
+    /// asked, and returns the reply. The start function is asked at most once, and the child is looked up once. Which
+    /// handle the entry is of makes no difference.
     pub fn update<S: FixedStarter>(
         &mut self,
         starter: &S,

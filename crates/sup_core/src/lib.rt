@@ -7,15 +7,17 @@
 //! with the entry; every query answers as the reference semantics does. A step needs no memory, and is never refused while
 //! the history is not full: the supervisor makes room at first for all that its template allows.
 //!
-//! It reads no clock: the caller gives the moment. [`Sup::update`] asks the start function itself, where the rules ask it:
+//! It reads no clock: the caller gives the moment. [`Sup::update`] asks the start function itself, when the rules ask
+//! it:
 //!
 //! ```text
 //! let mut sup = Sup::new(alloc, template)?;
 //! let reply = sup.update(&starter, moment, &operation);
 //! ```
 //!
-//! A caller that keeps the entries asks itself, where [`Sup::asks`] says so, and hands the answer in with the entry. [`Sup::step_at`] goes
-//! on from what `asks` found, so a restart takes one look-up; [`Sup::step`] looks for itself, as for an entry of a history.
+//! A caller that keeps the entries asks itself, when [`Sup::asks`] says so, and hands the answer in with the entry.
+//! [`Sup::step_at`] continues from what `asks` found, so a restart takes one look-up; [`Sup::step`] looks for itself,
+//! such as for an entry of a history.
 //!
 //! ```text
 //! let asked = sup.asks(&operation, moment);

@@ -1,9 +1,8 @@
 //! The supervisor: its entries and its queries.
 //!
-//! Some public functions only call a private one: `counts` calls `count`, `child` calls `find`, `rows` calls `copied`,
-//! `wants_answer` and `asks` call `asked_argument`, and `step`, `step_at` and `update` ([`crate::entering`]) call `advance`. The private
-//! one is proved of the supervisor's state, by its code. The public one is proved from that of the whole history, by lemmas on the
-//! reference semantics. So no proof walks through code and history at once.
+//! A public function that only calls a private one (`counts` calls `count`, `child` calls `find`, `rows` calls `copied`, `step` calls
+//! `advance`) is proved of the whole history, by lemmas on the reference semantics. The private one is proved of the supervisor's
+//! state, by its code. So no proof walks through code and history at once.
 ghost use Rattle.std.specs.Prelude.{◌≡◌, ◌==◌, ◌<◌, ◌≤◌, ℕ, ◌+◌, List, [], ◌∷◌, ◌++◌, None, IsTrue, IfOk, IsOk, ◌⊎◌, MatchOption, false, true, length, if◌then◌else◌};
 ghost use Rattle.std.specs.List.{list_any};
 ghost use Rattle.sup_window.specs.Attempts.{remembered};
@@ -27,7 +26,8 @@ use sup_types::{
 };
 use sup_window::Window;
 
-/// A supervisor, with room for the children and the attempts that its template allows.
+/// Applies the rules of `simple_one_for_one` to one entry after another. It has room for the children and the attempts
+/// that its template allows.
 #[derive(Drop)]
 pub struct Sup<A: Allocator = Global> {
     template: Template,
@@ -95,7 +95,7 @@ impl<A: Allocator + Copy> Sup<A> {
         self.steps == self.template.entries
     }
 
-    /// Returns how many children there are.
+    /// Returns how many children there are (OTP's manual of `supervisor`, `count_children/1`).
     pub fn counts(&self) -> Seen<Counts>
         ensures value { result ≡ seen_of self.now (counts_of self.now.template.kind self.now.rows) }
         ensures history { (history : List Entry) → IsAfter self.now history
@@ -142,8 +142,10 @@ impl<A: Allocator + Copy> Sup<A> {
         Seen::Up(self.table.row_at(number))
     }
 
-    /// Returns the listed children, by ascending numbers. Of no children, and where the supervisor is down, it takes no memory and is
-    /// never refused.
+    /// Returns the listed children in ascending order of number (OTP's manual of `supervisor`, `which_children/1`).
+    ///
+    /// # Errors
+    /// `OutOfMemory` if there is no memory for the list: never if no child is listed, or the supervisor is down.
     pub fn rows(&self) -> Result<Seen<Vec<Row, A>>, OutOfMemory>
         ensures value { IfOk result (λ seen. MatchSeen seen
             (λ rows. (self.now.down ≡ false) × (rows.items ≡ self.now.rows)) (self.now.down ≡ true)) }
@@ -221,8 +223,8 @@ impl<A: Allocator + Copy> Sup<A> {
         self.table.asked_of(status, number)
     }
 
-    /// Returns where the child stood that the last entry took out or let wait. A supervisor that lacks just this entry has it there, so that
-    /// [`Sup::step_at`] need not look for it. An entry of no child leaves what the one before it found.
+    /// Returns where the child was that the last entry of a child took out or let wait. A supervisor that lacks just this entry
+    /// has it there, so that [`Sup::step_at`] need not look for it.
     pub fn spot(&self) -> Spot {
         Spot::at(self.table.stood())
     }
@@ -318,7 +320,7 @@ impl<A: Allocator + Copy> Sup<A> {
         Reply::ShutDown(number)
     }
 
-    /// Returns whether the end of a child that is listed no more takes the supervisor down.
+    /// Returns whether the end of a child that is no longer listed takes the supervisor down.
     fn shuts_down(&self) -> bool
         ensures { result ≡ shuts_down self.now.template self.now.rows }
     {
@@ -363,7 +365,7 @@ impl<A: Allocator + Copy> Sup<A> {
         Reply::Stopped
     }
 
-    /// Attempts to restart the listed child with this number and status; none where there is none.
+    /// Attempts to restart the listed child with this number and status. Returns `None` if there is none.
     fn restart(
         &mut self,
         status: Status,

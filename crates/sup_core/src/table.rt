@@ -1,9 +1,9 @@
 //! The rows of a supervisor, found by their numbers.
 //!
-//! The children stand in a map from their numbers. Numbers only grow, so the map's order is that of the numbers. A child that ended
-//! leaves its number there without a child: the map does not promise that what is taken out gives its room back. Where no room is left,
-//! or clearly more than half of the numbers have no child, the listed children move to the front in their order, and the rest goes.
-//! That needs no memory.
+//! The children are in a map from their numbers. Numbers only grow, so the map's order is that of the numbers. A child
+//! that ended leaves its number there without a child: the map does not promise that what is taken out gives its room
+//! back. If no room is left, or clearly more than half of the numbers have no child, the listed children move to the
+//! front in their order, and the rest goes. That needs no memory.
 ghost use Rattle.std.specs.Prelude.{true, false, ◌≡◌, ◌≤◌, ◌<◌, ◌+◌, ◌*◌, ◌^◌, ℕ, [], ◌∷◌, ◌++◌, IfOk, None, Some, map, length, nat_eq, is_some, slice_index_or, slice_get, take, MatchBool, MatchOption, IsOk, IsSome, IfSome, IfNone, if◌then◌else◌};
 ghost use Rattle.std.specs.List.{list_any};
 ghost use Rattle.std.specs.Vec.{vec_capacity};
@@ -24,10 +24,10 @@ use sup_types::{Row, Status, Text};
 
 type Children<A> = IndexMap<u64, Option<Child>, Near, A>;
 
-/// So few numbers without a child are not worth giving back.
+/// That few numbers without a child are not worth giving back.
 const FEW: usize = 64;
 
-/// The listed children, of whom there may be so many.
+/// The listed children, of whom there may be `max`.
 #[derive(Drop)]
 pub(crate) struct Table<A: Allocator> {
     children: Children<A>,
@@ -35,7 +35,7 @@ pub(crate) struct Table<A: Allocator> {
     max: u64,
     live: u64,
     running: u64,
-    // Where the child stood that was taken or let wait last. No reply depends on it.
+    // Where the child was that was taken or let wait last. No reply depends on it.
     stood: usize,
 }
 
@@ -87,7 +87,7 @@ impl<A: Allocator + Copy> Table<A> {
         self.running
     }
 
-    /// Returns where the child stood that was taken out or let wait last; `NO_PLACE` before the first.
+    /// Returns where the child was that was taken out or let wait last; `NO_PLACE` before the first.
     pub(crate) fn stood(&self) -> usize {
         self.stood
     }
@@ -110,7 +110,7 @@ impl<A: Allocator + Copy> Table<A> {
         }
     }
 
-    /// Returns the rows, by ascending numbers.
+    /// Returns the rows in ascending order of number.
     pub(crate) fn copied(&self, alloc: A) -> Result<Vec<Row, A>, AllocError>
         ensures rows { IfOk result (λ copy. copy.items ≡ self.now.rows) }
         ensures free { self.now.rows ≡ [] → IsOk result }
@@ -145,8 +145,7 @@ impl<A: Allocator + Copy> Table<A> {
             || self.take_as(Status::Restarting, number, place).is_some()
     }
 
-    /// Takes the row with this number out, if it has this status, and returns its argument. `place` is where it may have been
-    /// found.
+    /// Takes the row with this number out, if it has this status, and returns its argument. It may be at `place`.
     pub(crate) fn take_as(&mut self, status: Status, number: u64, place: usize) -> Option<Text>
         ensures taken { MatchOption result
             ((list_any (stands_as status number) self.old.rows ≡ false) × (self.new ≡ self.old))
@@ -162,8 +161,7 @@ impl<A: Allocator + Copy> Table<A> {
         Some(arg)
     }
 
-    /// Lets the row with this number wait for another try, if it has this status, and returns its argument. `place` is where it may
-    /// have been found.
+    /// Lets the row with this number wait, if it has this status, and returns its argument. It may be at `place`.
     pub(crate) fn wait_as(&mut self, status: Status, number: u64, place: usize) -> Option<Text>
         ensures { MatchOption result
             ((list_any (stands_as status number) self.old.rows ≡ false) × (self.new ≡ self.old))
@@ -196,7 +194,7 @@ fn one_if(counts: bool) -> u64
     if counts { 1 } else { 0 }
 }
 
-/// Returns the child of this number, and its index. It is looked for by its number only where it does not stand at `place`.
+/// Returns the child of this number, and its index. It is looked for by its number only if it is not at `place`.
 fn find<A: Allocator>(children: &Children<A>, number: u64, place: usize) -> Option<(usize, &Child)>
     requires { IsUnique nat_eq children.now }
     ensures none { IfNone result (row_at number (listed children.now.entries) ≡ None) }
@@ -211,7 +209,7 @@ fn find<A: Allocator>(children: &Children<A>, number: u64, place: usize) -> Opti
     }
 }
 
-/// Returns the argument of this number's child, if it has this status, and its index. `place` is where it may stand.
+/// Returns the argument of this number's child, if it has this status, and its index. `place` is where it may be.
 fn find_as<A: Allocator>(
     children: &Children<A>,
     status: Status,
@@ -257,8 +255,8 @@ fn copy_listed<A: Allocator>(children: &Children<A>, copy: &mut Vec<Row, A>)
     }
 }
 
-/// Makes room for one more number. Those without a child are given back once they are as many as the listed children and some
-/// more, so that what is read lies close together where the children are few.
+/// Makes room for one more number. Those without a child are given back once they are as many as the listed children
+/// and some more, so that what is read lies close together if the children are few.
 fn make_room<A: Allocator>(children: &mut Children<A>, max: usize, live: usize)
     requires unique { IsUnique nat_eq children.old }
     requires live { live ≡ length (listed children.old.entries) }

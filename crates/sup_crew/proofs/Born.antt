@@ -1,4 +1,4 @@
--- The children that updates made stand in the front that the updates left.
+-- The children that updates made are in the front that the updates left.
 use Rattle.std.proofs.Common.{ℕ, List, [], ◌∷◌, ◌++◌, Option, Some, None, ap, ◌∙◌, subst, arith}
 use Rattle.std.specs.Prelude.{IfSome}
 use Rattle.logbook.specs.Pages.{Book}

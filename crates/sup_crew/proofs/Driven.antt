@@ -137,7 +137,7 @@ module _ (may : Text → ℕ → Answer → Type 0) (run : Run) (begun : List Te
   abbrev cs : List Call
   cs = calls_of_driver run old
 
-  -- some calls more, which are all those of the front that is told
+  -- some calls more, which are all those of the ticket's front
   driven-more : (now : Told) (full ds : List Call) (more : List Entry) (notes : List Note) (args : List Text) (jobs : List Child)
       → new.ticket ≡ Some now → new.drain.entered ≡ old.drain.entered ++ notes
       → now.press ≡ run.press → now.front ≡ after.front → after.number ≡ before.number → entries_of after.front after.number ≡ after.calls
@@ -269,7 +269,7 @@ none_before None (Some y) P stays h = tt
 none_before (Some x) None P stays h = absurd (cc (stays refl))
 none_before (Some x) (Some y) P stays h = tt
 
--- what holds in any case holds where there is an error
+-- what holds in any case holds if there is an error
 pub on_err-any : {T E : Type 0} (r : Result T E) (P : Type 0) → P → OnErr r P
 on_err-any (Ok x) P h = tt
 on_err-any (Err e) P h = h

@@ -40,7 +40,7 @@ all_good items m (c ∷ cs) =
     let w = weigh-append (bad items m) (child_made items c.reply) (children_made items cs) in
     omega (arith, a, b, w)
 
--- what holds of the notes holds of those that are left
+-- what holds of the notes holds of the remaining ones
 own_after : (items : List Item) (operation : Operation) (notes : List Note) → AreOwn items (ended notes) → AreOwn items (ended (notes_after operation notes))
 own_after items (Exit number reason) [] own = own
 own_after items (Exit number reason) (note ∷ notes) own = own.1
@@ -57,7 +57,7 @@ ends_after may_end (Retry number) notes ends = ends
 ends_after may_end (Terminate number) notes ends = ends
 ends_after may_end Stop notes ends = ends
 
--- the first note tells of the child whose exit the call is, if it is one
+-- the first note is of the child whose exit the call is, if it is one
 one_told : (items : List Item) (operation : Operation) (rest : List Operation) (notes : List Note) → exit_of operation ++ rest ≡ exits notes → AreOwn items (ended notes)
     → ended notes ≡ child_ended items operation ++ ended (notes_after operation notes)
 one_told items (Exit number reason) rest [] told own = absurd (cc told)
@@ -83,7 +83,7 @@ one_named may_end items (Retry number) rest notes told own ends = tt
 one_named may_end items (Terminate number) rest notes told own ends = tt
 one_named may_end items Stop rest notes told own ends = tt
 
--- the notes that were entered tell of the children whose exits the calls are
+-- the notes that were entered are of the children whose exits the calls are
 all_told : (items : List Item) (cs : List Call) (notes : List Note) → exits_in cs ≡ exits notes → AreOwn items (ended notes) → ended notes ≡ children_ended items cs
 all_told items [] [] told own = refl
 all_told items [] (note ∷ notes) told own = absurd (cc told)
@@ -100,7 +100,7 @@ all_named may_end items (c ∷ cs) notes told own ends =
       all_named may_end items cs (notes_after c.operation notes) rest (own_after items c.operation notes own) (ends_after may_end c.operation notes ends),
     )
 
--- of a driver whose jobs are those of the notes that were entered, of other notes and of jobs that are left
+-- of a driver whose jobs are those of the notes that were entered, of other notes and of jobs that remain
 module _ (items : List Item) (cs : List Call) (right : AreRightCalls items cs) (entered others : List Note) (left : List Child)
     (driven : AreDriven cs)
     (told : exits_in cs ≡ exits entered)
@@ -123,7 +123,7 @@ module _ (items : List Item) (cs : List Call) (right : AreRightCalls items cs) (
   pub agree : (h : Child → ℕ) → weigh h (children_made items cs) ≡ weigh h (children_ended items cs) + weigh h (ended others) + weigh h left
   agree h = let a = made h in let b = ap (weigh h) (all_told items cs entered told own_entered) in omega (arith, a, b)
 
--- where all were started none is left
+-- if all were started, none remains
 pub none_unstarted : {F : Type 0} (fault : Option F) (started : ℕ) (plan rest : List Text) → rest ≡ drop started plan → IfNone fault (started ≡ length plan) → IfNone fault (rest ≡ [])
 none_unstarted None started plan rest e all = e ∙ ap (λ n. drop n plan) all ∙ drop_all (length plan) plan (omega arith)
 none_unstarted (Some fault) started plan rest e all = tt

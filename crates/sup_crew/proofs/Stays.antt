@@ -1,4 +1,4 @@
--- A child that was made stands in each front that begins with the one where it was made.
+-- A child that was made is in each front that begins with the one where it was made.
 use Rattle.std.proofs.Common.{ℕ, ◌+◌, ◌≤◌, Bool, true, false, cond, List, [], ◌∷◌, ◌++◌, ap, sym, ◌∙◌, subst, arith, append_assoc, append-nil}
 use mathlib.Core.List.{IsPrefix}
 use Rattle.sup_types.specs.declared.template.Template.{Template}

@@ -13,7 +13,7 @@ use Rattle.sup_crew.specs.Work.{IsWorked, AreWorked, ended_of, ended, untold}
 use Rattle.sup_crew.specs.JobLaws.{weigh-append}
 use Rattle.sup_crew.specs.WorkLaws.{ended-append}
 
--- the account, where the job that was taken is told
+-- the account, with the job that was taken
 pub account-posted : (taken taken' : List Child) (posted posted' : List Note) (child : Child) (note : Note) → taken' ≡ taken ++ child ∷ [] → posted' ≡ posted ++ note ∷ [] → child ≡ ended_of note
     → ((h : Child → ℕ) → weigh h taken ≡ weigh h (ended posted)) → (h : Child → ℕ) → weigh h taken' ≡ weigh h (ended posted')
 account-posted taken taken' posted posted' child note t p same account h =

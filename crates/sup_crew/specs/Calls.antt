@@ -60,7 +60,7 @@ job_made (Start arg) (Started number) notes = record { number = number; arg = ar
 job_made (Exit ended reason) (Restarted old number) (note ∷ notes) = record { number = number; arg = note.arg } ∷ []
 job_made _ _ _ = []
 
--- the notes that are left for the calls after this one
+-- the notes that remain for the calls after this one
 abbrev pub notes_after : Operation → List Note → List Note
 notes_after (Exit ended reason) (note ∷ notes) = notes
 notes_after _ notes = notes

@@ -1,4 +1,4 @@
--- The exits of notes that stand one after the other.
+-- The exits of notes that come one after the other.
 use Rattle.std.proofs.Common.{◌≡◌, List, [], ◌∷◌, ◌++◌, refl, ap}
 use Rattle.sup_types.specs.declared.history.Operation.TheVariants.{Exit}
 use Rattle.sup_inbox.specs.declared.note.Note.{Note}

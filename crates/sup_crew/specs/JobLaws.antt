@@ -1,4 +1,4 @@
--- The weight of children that stand one after the other.
+-- The weight of children that come one after the other.
 use Rattle.std.proofs.Common.{◌≡◌, ℕ, ◌+◌, List, [], ◌∷◌, ◌++◌, length, refl, ap, arith}
 use Rattle.sup_desk.specs.declared.name.Name.{Ghosts}
 use Rattle.sup_crew.specs.declared.job.Job.{Job}

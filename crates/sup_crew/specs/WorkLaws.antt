@@ -1,4 +1,4 @@
--- The ends that notes tell which stand one after the other.
+-- The ends that are in notes which come one after the other.
 use Rattle.std.proofs.Common.{◌≡◌, ℕ, List, [], ◌∷◌, ◌++◌, refl, ap}
 use Rattle.sup_types.specs.declared.text.Text.{Text}
 use Rattle.sup_types.specs.declared.reason.Reason.{Reason}

@@ -8,7 +8,7 @@ use sup_desk::{HandleOf, Name};
 use sup_log::Gone;
 use sup_types::{Counts, Seen};
 
-/// How many questions were answered. It is a witness: without an answer no code outside this module makes it greater.
+/// Counts the questions that were answered. It is a witness: without an answer no code outside this module makes it greater.
 #[derive(Clone, Copy, Debug, PartialEq, Eq)]
 pub struct Asked {
     count: u64,

@@ -1,4 +1,4 @@
-//! The end of a run: what its workers had is collected, and what was counted is told.
+//! The end of a run: what its workers had is collected, and what was counted is reported.
 ghost use Rattle.std.specs.Prelude.{◌≡◌, ◌+◌, ◌<◌, ◌≤◌, [], ◌++◌, drop, length, IfOk, vec_len, vec_capacity};
 ghost use Rattle.sup_crew.specs.Jobs.{weigh, children_of};
 ghost use Rattle.sup_crew.specs.Joins.{AreEndpoints, note_in, posters_of, taken_of, unposted_of};
@@ -19,21 +19,21 @@ use sup_desk::Name;
 use sup_inbox::{Note, Poster, settle};
 use sup_types::{OutOfMemory, Text};
 
-/// Room for what the end of a run hands over, made before the run, so that its end takes no memory.
+/// Holds room for what the end of a run hands over. It is made before the run, so that its end takes no memory.
 #[derive(Drop)]
 pub struct Buffers {
     /// For the posters that the workers hand back.
     pub posters: Vec<Poster>,
     /// For the notes that they could not post.
     pub unposted: Vec<Note>,
-    /// For the notes that are left in the inbox.
+    /// For the notes that remain in the inbox.
     pub inbox: Vec<Note>,
     /// For the notes that the drain holds.
     pub held: Vec<Note>,
 }
 
 impl Buffers {
-    /// Room for a run of so many workers over an inbox of this capacity.
+    /// Makes room for a run of this number of workers over an inbox of this capacity, or returns OutOfMemory.
     pub fn new(alloc: Global, workers: usize, inbox: usize) -> Result<Buffers, OutOfMemory>
         ensures empty { IfOk result (λ r. (r.posters.items ≡ []) × (r.unposted.items ≡ []) × (r.inbox.items ≡ []) × (r.held.items ≡ [])) }
         ensures room { IfOk result (λ r. (workers ≤ vec_capacity r.posters) × (workers ≤ vec_capacity r.unposted) × (inbox ≤ vec_capacity r.inbox) × (64 ≤ vec_capacity r.held)) }
@@ -47,7 +47,7 @@ impl Buffers {
     }
 }
 
-/// The notes that are held, in a list that has room for them.
+/// Returns the notes that are held, in a list that has room for them.
 fn list_held(held: ArrayVec<Note, HELD>, room: Vec<Note>) -> Vec<Note>
     requires { (room.items ≡ []) × (64 ≤ vec_capacity room) }
     ensures { result.items ≡ held.items }
@@ -61,7 +61,7 @@ fn list_held(held: ArrayVec<Note, HELD>, room: Vec<Note>) -> Vec<Note>
     list
 }
 
-/// The children but for the first ones.
+/// Returns the children without the first ones.
 fn without_first(children: Vec<Text>, started: usize) -> Vec<Text>
     requires { started ≤ vec_len children }
     ensures { result.items ≡ drop started children.items }
@@ -133,7 +133,7 @@ fn read_all<N: Name, R: Wait>(
     unreachable!()
 }
 
-/// Settles the inbox, reads the queue of jobs out, and tells what the run did.
+/// Settles the inbox, reads the queue of jobs out, and reports what the run did.
 pub fn close<N: Name, B: Body, R: Wait>(
     rt: &R,
     crew: Crew<N>,

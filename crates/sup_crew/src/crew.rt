@@ -7,7 +7,7 @@ use sup_desk::Name;
 use sup_inbox::Inbox;
 use sup_types::Text;
 
-/// What the driver and the workers of a run share. It is made before the first thread, and taken apart once all were joined.
+/// Holds what the driver and the workers of a run share. It is made before the first thread, and taken apart once all were joined.
 #[derive(Drop)]
 pub struct Crew<N: Name> {
     /// The queue of jobs.
@@ -24,8 +24,8 @@ pub struct Crew<N: Name> {
     pub moment: u64,
 }
 
-/// The signals of a run, and whether it is over. Whoever waits counts the notifications, looks for what they need, and sleeps
-/// if it is not there: a notification after the count ends the sleep, so none is missed.
+/// Holds the signals of a run, and whether it is over. A thread that waits counts the notifications, looks for what it needs, and
+/// sleeps if it is not there. A notification after the count ends the sleep, so none is missed.
 #[derive(Drop)]
 pub struct Signals {
     /// A job was queued, or the run is over.
@@ -37,13 +37,13 @@ pub struct Signals {
     over: AtomicBool,
 }
 
-/// Sleeps until the signal is given after this count of notifications, or a tenth of a second has gone by: one turn of a plan.
+/// Sleeps until the signal is given after this count of notifications, and at most 0.1 s: one turn of a plan.
 pub fn sleep<R: Wait>(rt: &R, signal: &Condvar, noted: u64) {
     signal.sleep(rt, noted, Duration::from_millis(100));
 }
 
 impl Signals {
-    /// Returns those of a run that begins.
+    /// Returns the signals of a run that begins.
     pub fn new() -> Signals {
         Signals {
             queued: Condvar::new(),
@@ -53,7 +53,7 @@ impl Signals {
         }
     }
 
-    /// Whether the run is over.
+    /// Returns whether the run is over.
     pub fn is_over(&self) -> bool {
         self.over.load(Ordering::SeqCst)
     }

@@ -22,7 +22,7 @@ use thiserror::Error;
 /// How many notes a drain holds at most.
 pub const HELD: usize = 64;
 
-/// The taker of an inbox, and the notes that were taken and not entered.
+/// Takes notes from an inbox, enters them as exits, and holds those that it could not enter.
 #[derive(Drop)]
 pub struct Drain {
     taker: Taker,
@@ -46,8 +46,8 @@ impl Model for Drain {
     ghost invariant = { λ d. d.taker.taken ≡ entered_of d.taker.taken d.held.items ++ d.held.items };
 }
 
-/// The notes that one drain entered, in order, each with the reply to its exit, and a ticket for the history up to and with
-/// the last of them, where there is one.
+/// Holds the notes that one drain entered, in order, each with the reply to its exit, and a ticket for the history up to and with
+/// the last of them, if there is one.
 #[derive(Drop)]
 pub struct Drained {
     /// The notes and the replies.
@@ -56,7 +56,7 @@ pub struct Drained {
     pub ticket: Option<Ticket>,
 }
 
-/// A drain that did not enter all that it was to: what it entered before, and why it stopped.
+/// Says why a drain stopped, and what it had entered by then.
 #[derive(Drop, Error)]
 #[error("the drain stopped: {fault}")]
 pub struct DrainFault {
@@ -75,7 +75,7 @@ impl DrainFault {
     }
 }
 
-/// How many notes were entered, and the fault. A ticket shows nothing of itself.
+/// Shows how many notes were entered, and the fault.
 impl fmt::Debug for DrainFault {
     fn fmt<W: fmt::Write>(&self, f: &mut fmt::Formatter<W>) -> fmt::Result {
         write!(
@@ -87,7 +87,7 @@ impl fmt::Debug for DrainFault {
     }
 }
 
-/// The fault alone. What was entered is let go.
+/// Keeps the fault alone. What was entered is dropped.
 impl From<DrainFault> for UpdateFault {
     ghost from_gives = { λ e f. f ≡ e.fault };
 
@@ -138,7 +138,7 @@ fn make_room(alloc: Global, room: Option<Room>) -> Result<Room, OutOfMemory>
     Ok(room)
 }
 
-/// Lists the exits that the first notes tell.
+/// Lists the exits that the first notes report.
 #[tactic(auto, using(crate::proofs::DrainLemmas::exits_more))]
 fn list_exits(held: &ArrayVec<Note, HELD>, count: usize, operations: &mut VecDeque<Operation>)
     requires count { count ≤ array_vec_len held.now }
@@ -151,7 +151,7 @@ fn list_exits(held: &ArrayVec<Note, HELD>, count: usize, operations: &mut VecDeq
     }
 }
 
-/// The first notes with these replies, taken out of those that are held.
+/// Takes the first notes out of those that are held, and returns them with these replies.
 fn pair_up(
     held: &mut ArrayVec<Note, HELD>,
     replies: Vec<Reply>,
@@ -220,7 +220,7 @@ fn enter_held<N: Name, S: Starter + Drop, P: Wait + Drop, J: Journal + Drop, R: 
     }
 }
 
-/// Nothing was entered.
+/// Returns that nothing was entered.
 fn nothing(alloc: Global) -> Drained
     ensures { (result.pairs.items ≡ []) × (vec_len result.pairs ≡ 0) × (result.ticket ≡ None) }
 {
@@ -231,7 +231,7 @@ fn nothing(alloc: Global) -> Drained
 }
 
 impl Drain {
-    /// A drain that holds no note. It takes no memory.
+    /// Makes a drain that holds no note. It takes no memory.
     pub fn new(taker: Taker) -> Drain
         ensures { result ≡ record { inbox = taker.inbox; posters = taker.posters; entered = taker.taken; held = [] } }
     {
@@ -242,9 +242,9 @@ impl Drain {
         }
     }
 
-    /// Takes notes until `limit` are held or the inbox is empty, and enters the first `limit` of them as exits, in order
-    /// and in one step. `limit` is 1 to 64. Notes that were not entered stay held and go first next time. With no note it
-    /// takes no lock and no memory. The room for what it enters and answers is made before anything is entered, and kept.
+    /// Takes notes until `limit` are held or the inbox is empty, and enters the first `limit` of them as exits, in order and in one
+    /// step. `limit` is 1 to 64. Notes that were not entered stay held and go first next time. The room for what it enters and
+    /// answers is made before anything is entered, and kept. If there is no note, it takes no lock and no memory.
     pub fn drain<N: Name, S: Starter + Drop, P: Wait + Drop, J: Journal + Drop, R: Wait>(
         &mut self,
         rt: &R,
@@ -315,7 +315,7 @@ impl Drain {
         }
     }
 
-    /// The taker, and the notes that are held. It takes no memory.
+    /// Returns the taker, and the notes that are held. It takes no memory.
     pub fn end(self) -> (Taker, ArrayVec<Note, HELD>)
         ensures taker { result.0 ≡ record { inbox = self.inbox; posters = self.posters; taken = self.entered ++ self.held } }
         ensures held { result.1.items ≡ self.held }

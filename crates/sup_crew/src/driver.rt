@@ -19,7 +19,7 @@ use sup_desk::{Done, Handle, Journal, Name, UpdateFault};
 use sup_log::Ticket;
 use sup_types::{Reply, Starter, Text};
 
-/// The driver of a run: it makes all updates.
+/// Drives a run: it makes all updates.
 #[derive(Drop)]
 pub struct Driver<'d, N: Name, S: Starter + Drop, P: Wait + Drop, J: Journal + Drop> {
     /// The handle by which it makes its updates.
@@ -42,7 +42,7 @@ impl<'d, N: Name, S: Starter + Drop, P: Wait + Drop, J: Journal + Drop> Model
 }
 
 impl<'d, N: Name, S: Starter + Drop, P: Wait + Drop, J: Journal + Drop> Driver<'d, N, S, P, J> {
-    /// A driver that did nothing yet.
+    /// Returns a driver that has done nothing.
     pub fn new(handle: Handle<'d, N, S, P, J>, jobs: Dispatcher<N>, drain: Drain) -> Self
         ensures { result ≡ record { knows = handle.entry; jobs = jobs; drain = drain; ticket = None; tally = tally_of [] } }
     {
@@ -55,7 +55,7 @@ impl<'d, N: Name, S: Starter + Drop, P: Wait + Drop, J: Journal + Drop> Driver<'
         }
     }
 
-    /// Starts the children in order. How many were started, and the fault that stopped it.
+    /// Starts the children in order. Returns how many were started, and the fault that stopped it, if there is one.
     pub fn start_all<R: Wait>(&mut self, rt: &R, crew: &Crew<N>) -> (usize, Option<UpdateFault>)
         requires { self.old.jobs.queue ≡ crew.now.jobs }
         ensures same { IsSameDriver self.old self.new }
@@ -108,8 +108,8 @@ impl<'d, N: Name, S: Starter + Drop, P: Wait + Drop, J: Journal + Drop> Driver<'
         self.ticket = Some(ticket);
     }
 
-    /// Drains until as many notes were taken as jobs are queued, a fault comes, or this number of turns in a row took none; not
-    /// where there is a fault already.
+    /// Drains until as many notes were taken as jobs are queued, a fault comes, or this number of turns in a row took none. It does
+    /// nothing if there is a fault already.
     pub fn drain_all<R: Wait>(
         &mut self,
         rt: &R,
@@ -154,7 +154,7 @@ impl<'d, N: Name, S: Starter + Drop, P: Wait + Drop, J: Journal + Drop> Driver<'
         unreachable!()
     }
 
-    /// Drains once. How many exits were entered, and the fault that stopped it.
+    /// Drains once. Returns how many exits were entered, and the fault that stopped it, if there is one.
     fn drain_once<R: Wait>(
         &mut self,
         rt: &R,
@@ -175,7 +175,7 @@ impl<'d, N: Name, S: Starter + Drop, P: Wait + Drop, J: Journal + Drop> Driver<'
         }
     }
 
-    /// Counts exits, and queues the jobs for the children that restarts made. How many exits there are.
+    /// Counts exits, and queues the jobs for the children that restarts made. Returns how many exits there are.
     fn note_exits<R: Wait>(&mut self, rt: &R, crew: &Crew<N>, done: Drained) -> usize
         requires room { (self.old.jobs.queue ≡ crew.now.jobs) × (vec_len done.pairs ≤ self.old.jobs.room) }
         requires press { MatchOption done.ticket (done.pairs.items ≡ []) (λ t. t.press ≡ N.press) }
@@ -205,7 +205,7 @@ impl<'d, N: Name, S: Starter + Drop, P: Wait + Drop, J: Journal + Drop> Driver<'
     }
 }
 
-/// How many updates there were, by what was asked for and what was replied.
+/// Counts updates by what was asked for and what was replied.
 #[derive(Clone, Copy)]
 pub struct Tally {
     /// How many made a child.
@@ -224,7 +224,7 @@ pub struct Tally {
     pub refused: u64,
 }
 
-/// The count, and one more where there is one. A count that would not fit waits for ever: no history is as long.
+/// Returns the count, with one more if there is one. A count that would not fit waits for ever: no history is as long.
 fn more<R: Wait>(rt: &R, count: u64, one: bool) -> u64
     ensures { result ≡ count + bit one }
 {
@@ -238,7 +238,7 @@ fn more<R: Wait>(rt: &R, count: u64, one: bool) -> u64
     unreachable!()
 }
 
-/// Whether the reply says that a child was made.
+/// Returns whether the reply says that a child was made.
 fn makes(reply: &Reply) -> bool
     ensures { result ≡ makes_child reply.now }
 {
@@ -246,7 +246,7 @@ fn makes(reply: &Reply) -> bool
 }
 
 impl Tally {
-    /// No update.
+    /// Returns the count of no update.
     pub fn new() -> Tally
         ensures { result ≡ tally_of [] }
     {
@@ -261,7 +261,7 @@ impl Tally {
         }
     }
 
-    /// A start more, with this reply.
+    /// Counts a start with this reply.
     pub fn started<R: Wait>(self, rt: &R, reply: &Reply) -> Tally
         ensures { result ≡ with_start self reply.now }
     {
@@ -273,7 +273,7 @@ impl Tally {
         }
     }
 
-    /// An exit more, with this reply.
+    /// Counts an exit with this reply.
     fn exited<R: Wait>(self, rt: &R, reply: &Reply) -> Tally
         ensures { result ≡ with_exit self reply.now }
     {

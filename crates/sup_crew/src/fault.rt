@@ -8,13 +8,13 @@ use sup_desk::{DeskFault, HandleFault, UpdateFault};
 use sup_types::OutOfMemory;
 use thiserror::Error;
 
-/// Why a run did not begin. Nothing was entered.
+/// Says why a run did not begin. Nothing was entered.
 #[derive(Clone, Copy, Debug, PartialEq, Eq, Error)]
 pub enum CrewFault {
     /// A growth was refused, or the start of a thread.
     #[error("out of memory")]
     OutOfMemory,
-    /// All handles of the desk were made, and the run was to have one of its own.
+    /// All handles of the desk were made, and the run needs one of its own.
     #[error("all handles of the desk were made")]
     NoHandle,
     /// All places for lenses are taken.
@@ -52,22 +52,22 @@ impl From<HandleFault> for CrewFault {
     }
 }
 
-/// Why a pool is not run, or not to its end.
+/// Says why a pool was not run, or not to its end.
 #[derive(Clone, Copy, Debug, PartialEq, Eq, Error)]
 pub enum PoolFault {
     /// A growth was refused, or the start of a thread.
     #[error("out of memory")]
     OutOfMemory,
-    /// There are no workers, or more than 64.
+    /// The number of workers is not 1 to 64.
     #[error("a pool has 1 to 64 workers")]
     BadWorkers,
-    /// More than 1000 restarts are not counted.
+    /// The number of restarts is above 1000.
     #[error("a pool bears 0 to 1000 restarts")]
     BadRestarts,
-    /// The argument at this place of the list, from 0 on, is no text of 1 to 40 visible ASCII characters: a space is none.
+    /// The argument at this place of the list, from 0 on, is no text of 1 to 40 visible ASCII characters. A space is not visible.
     #[error("argument {0}, counted from 0, is no text of 1 to 40 visible ASCII characters")]
     BadArgument(usize),
-    /// The run was stopped by an update that was refused: the history is full, say.
+    /// An update was refused, which stopped the run.
     #[error("{0}")]
     Stopped(UpdateFault),
 }

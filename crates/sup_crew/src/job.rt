@@ -9,8 +9,7 @@ use sup_desk::{Asker, Name};
 use sup_log::Ticket;
 use sup_types::{Reason, Text};
 
-/// A child that was made and is to run, of the desk that N names: its number, the argument with which it was started, and a
-/// ticket of the update that made it. It is given to its body by value.
+/// Names a child that was made and is to run, of the desk that N names. It is given to its body by value.
 #[derive(Drop)]
 pub struct Job<N: Name> {
     /// The number of the child.
@@ -25,7 +24,7 @@ pub struct Job<N: Name> {
 }
 
 impl<N: Name> Job<N> {
-    /// A job of the desk from which the ticket comes.
+    /// Returns a job of the desk from which the ticket comes.
     pub fn new(number: u64, arg: Text, ticket: Ticket) -> Job<N>
         requires press { ticket.press ≡ N.press }
         requires born { IsBorn N.template ticket.front number }
@@ -49,13 +48,13 @@ pub struct Child {
     pub arg: Text,
 }
 
-/// The work of a child, shared among the workers.
+/// Does the work of a child. The workers share it.
 pub trait Body {
     /// The reasons for which a child with this number and argument may end.
     ghost may_end: { Self → ℕ → Text → Reason → Type 0 };
 
-    /// Runs the child of this job to its end, and says why it ended. It may ask about the children, and so see that its own
-    /// was ended. Its own was made in what the asker has seen.
+    /// Runs the child of this job to its end, and returns why it ended. It may ask about the children, and so see that its own was
+    /// ended. The asker has seen that its own was made.
     fn run<N: Name>(&self, job: Job<N>, asker: &mut Asker<N>) -> Reason
         requires { IsBorn N.template asker.old.front job.number }
         ensures { may_end self.now job.number job.arg result };

@@ -7,7 +7,7 @@ use sup_inbox::Note;
 use sup_log::Ticket;
 use sup_types::Text;
 
-/// What a crew is to do.
+/// Says what a crew is to do.
 #[derive(Drop)]
 pub struct Plan {
     /// The arguments of the children that are to be started, in order. There may be none.
@@ -17,13 +17,13 @@ pub struct Plan {
     /// How many notes the inbox holds at most, 1 to 65,536.
     pub inbox: usize,
     /// How often a post is tried, and how many turns in a row the driver finds nothing before it gives up: 1 to 2^62. A turn
-    /// without success is a sleep, which ends after a tenth of a second at the latest.
+    /// without success is a sleep of at most 0.1 s.
     pub turns: u64,
-    /// The moment of all updates.
+    /// The moment of all updates, in seconds.
     pub moment: u64,
 }
 
-/// A run of a crew.
+/// Reports a run of a crew.
 #[derive(Drop)]
 pub struct Report<N: Name> {
     /// The number of the driver's handle, by which all updates were made.
@@ -36,7 +36,7 @@ pub struct Report<N: Name> {
     pub unstarted: Vec<Text>,
     /// The notes that were taken and not entered.
     pub held: Vec<Note>,
-    /// The notes that were left in the inbox.
+    /// The notes that remain in the inbox.
     pub inbox: Vec<Note>,
     /// The notes that the workers could not post.
     pub unposted: Vec<Note>,

@@ -33,28 +33,28 @@ const CHILDREN: u64 = 65_536;
 /// How many entries the history of a run has at most.
 const ENTRIES: u64 = 1 << 62;
 
-/// What became of a pool's children.
+/// Reports what became of a pool's children.
 #[derive(Clone, Copy, Debug, PartialEq, Eq)]
 pub struct PoolReport {
-    /// How many children were made, those that were started again among them.
+    /// How many children were made, including those that were started again.
     pub made: u64,
     /// How many ended.
     pub exits: u64,
-    /// How many were made and did not end, as where the supervisor gave up before they were run.
+    /// How many were made and did not end, since the run stopped before.
     pub left: u64,
     /// How many were started again.
     pub restarts: u64,
-    /// 1 where more of them crashed than the template allows: the supervisor gave up, and what was not run is left. Else 0.
+    /// 1 if more of them crashed than the template allows, so that the supervisor gave up. Else 0.
     pub given_up: u64,
 }
 
-/// The work of a pool's children. It is shared by the threads that do it.
+/// Does the work of a pool's children. Its threads share it.
 pub trait Work {
-    /// The reasons for which a child with this argument may end: any, if left out.
+    /// The reasons for which a child with this argument may end. Any, if it is omitted.
     ghost may_end: { Self → AText → AReason → Type 0 } = { λ work arg reason. ⊤ };
 
-    /// Does the work of the child with this argument, and says why the child ended: `Normal` where it is done, and
-    /// `Reason::crash()`, say, where it is to be started again.
+    /// Does the work of the child with this argument, and returns why the child ended: `Normal` if it is done, or for example
+    /// `Reason::crash()` if it is to be started again.
     fn run(&self, arg: Text) -> Reason
         ensures { may_end self.now arg result };
 }
@@ -73,19 +73,19 @@ impl<'w, T: Work> Body for Working<'w, T> {
     }
 }
 
-/// A pool: in how many threads its children are run, and from which template they are.
+/// Runs a child for each argument over a desk of its own.
 #[derive(Clone, Copy, Debug)]
 pub struct Pool {
-    /// The threads: 1 to 64.
+    /// The number of threads: 1 to 64.
     pub workers: usize,
-    /// The template. Its restart intensity counts over a whole run, which is one moment.
+    /// The children's template. Its restart intensity counts over a whole run, which is one moment.
     pub template: Template,
     ghost some: { (1 ≤ workers) × (workers ≤ 64) },
 }
 
 impl Pool {
-    /// A pool of so many threads, 1 to 64. A child that crashed is started again, so many times in a run at most, 0 to 1000: at the
-    /// next crash the pool gives up. There are at most 65,536 children at once.
+    /// Makes a pool of 1 to 64 threads, or returns BadWorkers. Children that crash are started again, at most `restarts` times in a
+    /// run, 0 to 1000, else BadRestarts: at the next crash the pool gives up. There are at most 65,536 children at once.
     pub fn new(workers: usize, restarts: u64) -> Result<Pool, PoolFault>
         ensures pool { IfOk result (λ p. (p.workers ≡ workers) × (p.template.restart ≡ Restart.Transient) × (p.template.kind ≡ Kind.Worker)
             × (p.template.intensity ≡ restarts) × (p.template.period ≡ 5) × (p.template.max ≡ 65536) × (p.template.entries ≡ 2 ^ 62)
@@ -100,8 +100,8 @@ impl Pool {
         }
     }
 
-    /// A pool of so many threads, 1 to 64, whose children are from this template. Permanent children are started again after each end,
-    /// until the pool gives up.
+    /// Makes a pool of 1 to 64 threads with children of this template, or returns BadWorkers. Permanent children are started again
+    /// after each end, until the pool gives up.
     pub fn with_template(workers: usize, template: Template) -> Result<Pool, PoolFault>
         ensures pool { IfOk result (λ p. (p.workers ≡ workers) × (p.template ≡ template)) }
         ensures workers { IfErr result (λ f. f ≡ BadWorkers) × (IsOk result ↔ ((1 ≤ workers) × (workers ≤ 64))) }
@@ -115,7 +115,8 @@ impl Pool {
     /// Starts a child for each of the arguments, and does the work of each in one of the threads. It returns when all have ended,
     /// or when the supervisor gave up.
     ///
-    /// BadArgument comes before anything is run.
+    /// # Errors
+    /// OutOfMemory and BadArgument come before anything is run; Stopped if an update was refused, say since the history was full.
     pub fn run<R, T, S>(&self, rt: &R, arguments: &[S], work: &T) -> Result<PoolReport, PoolFault>
     where
         R: Threads + Wait + AllocGlobal + Sync,
@@ -138,7 +139,7 @@ impl Pool {
     }
 }
 
-/// The arguments as texts.
+/// Returns the arguments as texts.
 fn read_arguments<S: AsStr>(alloc: Global, arguments: &[S]) -> Result<Vec<Text>, PoolFault>
     ensures texts { IfOk result (λ texts. texts.items ≡ map S.text arguments.now) }
     ensures fault { IfErr result (λ f. (f ≡ OutOfMemory) ⊎ ((place : ℕ) × (f ≡ BadArgument place) × IsNoText (map S.text arguments.now) place)) }
@@ -178,7 +179,7 @@ fn run_named<N: Name + Send + Sync, R: Threads + Wait + Sync, T: Work + Sync>(
     }
 }
 
-/// The numbers of a report.
+/// Returns the numbers of a report.
 fn numbers_of<N: Name>(report: &Report<N>) -> PoolReport
     requires { report.now.tally.exits ≤ report.now.tally.made }
     ensures whole { result.made ≡ result.exits + result.left }

@@ -1,5 +1,5 @@
-//! The queue of jobs, under the rule that each job that was queued stands once, with the one who took it or in the queue; and
-//! the driver's side of it.
+//! The queue of jobs, under the rule that each queued job is in one place, with whoever took it or in the queue; and the driver's
+//! side of it.
 ghost use Rattle.std.specs.Prelude.{◌≡◌, ℕ, ◌+◌, ◌<◌, ◌≤◌, [], ◌∷◌, ◌++◌, length, IfOk, MatchResult, MatchOption, None, Some, vec_len, vec_capacity};
 ghost use Rattle.std.specs.Global.{Global};
 ghost use Rattle.crossbeam_queue.specs.SegTies.{SegId};
@@ -85,7 +85,7 @@ impl<N: Name> Lesson<Job<N>, Permission> for ReadsJob {
 
 type Line<N> = RuledSegQueue<Job<N>, Permission, JobRule>;
 
-/// The queue of jobs, shared by reference.
+/// Holds the jobs that nobody took. It is shared by reference.
 pub struct Jobs<N: Name> {
     line: Line<N>,
 }
@@ -103,7 +103,7 @@ impl<N: Name> Drop for Jobs<N> {
     }
 }
 
-/// The right to take jobs, and for the driver to queue them. It may go to another thread.
+/// Gives the right to take jobs, and to the driver that to queue them. It may go to another thread.
 #[derive(Drop)]
 pub struct Endpoint<N: Name> {
     pass: SegPass<Job<N>, Permission>,
@@ -118,7 +118,7 @@ impl<N: Name> Model for Endpoint<N> {
 }
 
 impl<N: Name> Jobs<N> {
-    /// An empty queue, and the endpoint that knows all of it.
+    /// Makes an empty queue, and the endpoint that knows all of it.
     pub fn new(alloc: Global) -> Result<(Jobs<N>, Endpoint<N>), OutOfMemory>
         ensures { IfOk result (λ r. r.1 ≡ record { queue = r.0; permission = permission 1024 [] [] }) }
     {
@@ -128,7 +128,7 @@ impl<N: Name> Jobs<N> {
 }
 
 impl<N: Name> Endpoint<N> {
-    /// An endpoint that took nothing yet.
+    /// Returns an endpoint that has taken nothing.
     pub fn give(&mut self, jobs: &Jobs<N>) -> Endpoint<N>
         requires { (self.old.queue ≡ jobs.now) × (1 < self.old.permission.parts) }
         ensures given { result ≡ record { queue = jobs.now; permission = permission 1 [] [] } }
@@ -139,7 +139,7 @@ impl<N: Name> Endpoint<N> {
         }
     }
 
-    /// Takes a hand back, with all that it took.
+    /// Takes an endpoint back, with all that it took.
     pub fn join(&mut self, jobs: &Jobs<N>, other: Endpoint<N>)
         requires { (self.old.queue ≡ jobs.now) × (other.queue ≡ jobs.now) × (0 < self.old.permission.parts) }
         ensures { self.new ≡ record { queue = jobs.now; permission = permission (self.old.permission.parts + other.permission.parts) (self.old.permission.put ++ other.permission.put) (self.old.permission.taken ++ other.permission.taken) } }
@@ -148,7 +148,7 @@ impl<N: Name> Endpoint<N> {
         jobs.line.absorb::<GivesPart>(&mut self.pass, pass);
     }
 
-    /// Queues a job. It comes back where memory runs out.
+    /// Queues a job. It comes back if memory runs out.
     pub fn put<R: Wait>(&mut self, rt: &R, jobs: &Jobs<N>, job: Job<N>) -> Result<(), Job<N>>
         requires { (self.old.queue ≡ jobs.now) × (0 < self.old.permission.parts) }
         ensures { MatchResult result (λ _. self.new ≡ record { queue = jobs.now; permission = permission self.old.permission.parts (self.old.permission.put ++ child_of job ∷ []) self.old.permission.taken }) (λ back. (back ≡ job) × (self.new ≡ self.old)) }
@@ -156,7 +156,7 @@ impl<N: Name> Endpoint<N> {
         jobs.line.push_as::<PutsJob, R>(rt, &mut self.pass, job)
     }
 
-    /// Takes the oldest job.
+    /// Takes the oldest job, or returns `None` if there is none.
     pub fn take<R: Wait>(&mut self, rt: &R, jobs: &Jobs<N>) -> Option<Job<N>>
         requires { (self.old.queue ≡ jobs.now) × (0 < self.old.permission.parts) }
         ensures { MatchOption result (self.new ≡ self.old) (λ job. self.new ≡ record { queue = jobs.now; permission = permission self.old.permission.parts self.old.permission.put (self.old.permission.taken ++ child_of job ∷ []) }) }
@@ -164,7 +164,7 @@ impl<N: Name> Endpoint<N> {
         jobs.line.pop_as::<TakesJob, R>(rt, &mut self.pass)
     }
 
-    /// Reads out a job, once every endpoint was joined. `None` only where each job that was queued was taken.
+    /// Reads out a job, once every endpoint was joined. Returns `None` only if each job that was queued was taken.
     pub fn read<R: Wait>(&mut self, rt: &R, jobs: &Jobs<N>) -> Option<Job<N>>
         requires { (self.old.queue ≡ jobs.now) × (self.old.permission.parts ≡ 1024) }
         ensures job { MatchOption result (self.new ≡ self.old) (λ job. (self.new ≡ record { queue = jobs.now; permission = permission 1024 self.old.permission.put (self.old.permission.taken ++ child_of job ∷ []) }) × (length self.new.permission.taken ≤ length self.new.permission.put)) }
@@ -174,8 +174,8 @@ impl<N: Name> Endpoint<N> {
     }
 }
 
-/// Queues jobs, and keeps those for which the queue has no memory. Beside those that it keeps it has room for all that it
-/// queued, so that the jobs that are left at the end of a run can be read out without memory.
+/// Queues jobs, and keeps those for which the queue has no memory. Beside those it has room for all that it queued, so that the
+/// jobs that remain at the end of a run can be read out without memory.
 #[derive(Drop)]
 pub struct Dispatcher<N: Name> {
     endpoint: Endpoint<N>,
@@ -196,7 +196,7 @@ impl<N: Name> Model for Dispatcher<N> {
 }
 
 impl<N: Name> Dispatcher<N> {
-    /// A dispatcher that queued nothing.
+    /// Returns a dispatcher that has queued nothing.
     pub fn new(alloc: Global, endpoint: Endpoint<N>) -> Dispatcher<N>
         requires { (endpoint.permission.put ≡ []) × (endpoint.permission.taken ≡ []) × (0 < endpoint.permission.parts) }
         ensures { (result.queue ≡ endpoint.queue) × (result.parts ≡ endpoint.permission.parts) × (result.put ≡ []) × (result.kept ≡ []) }
@@ -208,12 +208,12 @@ impl<N: Name> Dispatcher<N> {
         }
     }
 
-    /// How many jobs it queued.
+    /// Returns how many jobs it queued.
     pub fn queued(&self) -> usize {
         self.queued
     }
 
-    /// Makes room for so many jobs more.
+    /// Makes room for `more` further jobs.
     pub fn make_room(&mut self, more: usize) -> Result<(), OutOfMemory>
         ensures same { HasSameJobs self.old self.new }
         ensures room { IfOk result (λ _. more ≤ self.new.room) }
@@ -241,7 +241,7 @@ impl<N: Name> Dispatcher<N> {
         }
     }
 
-    /// The endpoint at the queue, and the jobs that are kept, in a list that has room for those that were queued.
+    /// Returns the endpoint at the queue, and the jobs that are kept, in a list that has room for those that were queued.
     pub fn end(self) -> (Endpoint<N>, Vec<Job<N>>)
         ensures endpoint { (result.0 ≡ record { queue = self.queue; permission = permission self.parts self.put [] }) × (0 < self.parts) }
         ensures kept { children_of result.1.items ≡ self.kept }

@@ -23,7 +23,7 @@ use sup_inbox::{Inbox, Poster, Taker};
 use sup_log::Ticket;
 use sup_types::{OutOfMemory, Starter};
 
-/// What a run is given beside its crew and its driver: an endpoint that knows all of the queue, the ends of the inbox, and room.
+/// Holds what a run is given beside its crew and its driver: the endpoint that knows all of the queue, the inbox's ends, and room.
 #[derive(Drop)]
 pub struct Parts<N: Name> {
     /// The endpoint at the queue of jobs.
@@ -44,7 +44,7 @@ struct Prepared<N: Name> {
     buffers: Buffers,
 }
 
-/// A run that is to begin: what its threads share, and its parts, which are of its queue and its inbox.
+/// Holds a run that is to begin: what its threads share, and its parts, which are of its queue and its inbox.
 #[derive(Drop)]
 pub struct Beginning<'s, N: Name> {
     /// What the driver and the workers share.
@@ -54,7 +54,7 @@ pub struct Beginning<'s, N: Name> {
     pub ghost whole: { AreParts crew.now.jobs crew.now.inbox.id parts } by { AreParts-prop crew.now.jobs crew.now.inbox.id parts },
 }
 
-/// A run whose workers were joined.
+/// Holds a run whose workers were joined.
 #[derive(Drop)]
 pub struct RunOutcome<N: Name> {
     /// The number of the driver's handle.
@@ -112,7 +112,7 @@ fn prepare<N: Name>(alloc: Global, plan: Plan) -> Result<Prepared<N>, OutOfMemor
     })
 }
 
-/// What the driver does inside the scope of the threads.
+/// Does what the driver does inside the scope of the threads.
 fn drive<'s, 'd: 's, E, N, S, P, J, B, R>(
     scope: &Scope<'s, E>,
     rt: &'s R,
@@ -197,7 +197,7 @@ where
     (desk.bind(caller), outcome)
 }
 
-/// The same for a driver's handle that is lent.
+/// Does the same for a driver's handle that is lent.
 fn run_lent<'d, N, S, P, J, B, R>(
     rt: &R,
     alloc: Global,
@@ -225,14 +225,15 @@ where
     )
 }
 
-/// Runs a crew over the desk of this handle, which is its driver: it starts the plan's children in order, the workers run the
-/// body of each and post how it ended, and the driver enters their exits. A restarted child is run again. All updates are the
-/// driver's, at the plan's moment, and all bodies ask by one asker a worker, which gives its place back. It returns when each
-/// child that was made has ended, when the driver found no note for the plan's number of turns in a row, or when an update is
-/// refused. What was not done is in the report.
+/// Runs a crew over the desk of this handle, which is its driver: it starts the plan's children in order, the workers run the body
+/// of each and post how it ended, and the driver enters their exits. A restarted child is run again. All updates are the driver's,
+/// at the plan's moment, and all bodies ask by one asker a worker, which gives its place back. It returns when each child that was
+/// made has ended, when the driver found no note for the plan's number of turns in a row, or when an update is refused. What was
+/// not done is in the report.
 ///
-/// A fault comes before the first update. It leaves the history and the driver's calls as they were. It is NoPlace if the desk
-/// has no place for a worker's asker, and OutOfMemory if memory runs out or a thread can't be started.
+/// # Errors
+/// Faults come before the first update, and leave the history and the driver's calls as they were: `NoPlace` if the desk has no
+/// place for a worker's asker, `OutOfMemory` if memory runs out or a thread can't be started.
 pub fn run_crew_with<'d, N, S, P, J, B, R>(
     rt: &R,
     alloc: Global,
@@ -264,8 +265,8 @@ where
     Ok(close(rt, crew, body, workers, outcome, buffers))
 }
 
-/// The same with a handle that is made for the run, and is not given back: an audit then lacks it. NoHandle where all handles
-/// of the desk were made.
+/// Does the same with a handle that is made for the run and not given back, so that an audit then lacks it. `NoHandle` if all
+/// handles of the desk were made.
 pub fn run_crew<N, S, P, J, B, R>(
     rt: &R,
     alloc: Global,

@@ -6,7 +6,7 @@ use crate::asked::Asked;
 use sup_desk::{HandleOf, Name};
 use sup_log::Gone;
 
-/// What a reader did.
+/// Reports what a reader did.
 #[derive(Clone, Copy, Debug, PartialEq, Eq)]
 pub struct Reads {
     /// How many questions were answered.
@@ -15,7 +15,7 @@ pub struct Reads {
     pub last: u64,
 }
 
-/// Asks that many times how many children there are. It takes no lock and no memory.
+/// Asks `turns` times how many children there are. It takes no lock and no memory. `Gone` if the desk has ended.
 pub fn read_turns<N: Name, D>(handle: &mut HandleOf<'_, N, D>, turns: u64) -> Result<Reads, Gone>
     ensures reads { IfOk result (λ reads. (reads.answered ≡ turns) × (reads.last ≡ length handle.new.front)) }
     ensures front { IsPrefix handle.old.front handle.new.front }

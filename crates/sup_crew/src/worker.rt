@@ -16,7 +16,7 @@ use sup_desk::{Asker, Desk, Journal, Name};
 use sup_inbox::{Note, Poster};
 use sup_types::Starter;
 
-/// A worker's endpoint and poster, and what it could not post.
+/// Holds a worker's endpoint and poster, and what it could not post.
 #[derive(Drop)]
 pub struct Finished<N: Name> {
     /// Its endpoint, which knows the jobs that it took.
@@ -27,8 +27,8 @@ pub struct Finished<N: Name> {
     pub unposted: Option<Note>,
 }
 
-/// Posts the poster's next note, and tries again if the inbox is full: at most `turns` times, each after a drain or a tenth of
-/// a second, and not once the run is over. A note that was not posted comes back.
+/// Posts the poster's next note, and tries again if the inbox is full: at most `turns` times, each after a drain or 0.1 s, and not
+/// once the run is over. A note that was not posted comes back.
 fn post_until<N: Name, R: Wait>(
     rt: &R,
     crew: &Crew<N>,
@@ -184,8 +184,8 @@ where
     }
 }
 
-/// Starts a worker for each poster. Where one can't be started, the run is over, and the started ones are joined: NoPlace where
-/// the desk has no place for a worker's asker or no memory for it, and else OutOfMemory.
+/// Starts a worker for each poster. If one can't be started, the run is over and the started ones are joined: NoPlace if the desk
+/// has no place for a worker's asker, and else OutOfMemory.
 pub fn start<'s, E, N, S, P, J, B, R>(
     scope: &Scope<'s, E>,
     rt: &'s R,

@@ -13,9 +13,9 @@ use std::marker::{Model, PhantomData};
 use sup_log::{Gone, Lens, Ticket, View};
 use sup_types::{Counts, Row, Seen};
 
-/// A read-only handle of the desk that N names: it asks, and makes no update. It carries the front that it has seen, each
-/// query is answered at one front that begins with it, and that is then what it has seen. It borrows nothing, and may go to
-/// any thread. Its queries take no lock and never wait: each is proved to return, `inspect` where its function does.
+/// Asks the desk that `N` names, and makes no update. It carries the front that it has seen. Each query is answered at
+/// one front that begins with that one and is then what it has seen. It borrows nothing, and may go to any thread. Its
+/// queries take no lock and never wait: each is proved to return, `inspect` if its function does.
 #[derive(Drop)]
 pub struct Asker<N: Name> {
     lens: Lens,
@@ -34,7 +34,7 @@ impl<N: Name> Model for Asker<N> {
 }
 
 impl<N: Name> Asker<N> {
-    /// An asker that has seen what the lens has.
+    /// Makes an asker that has seen what the lens has.
     pub(crate) fn begin(lens: Lens) -> Asker<N>
         requires { (lens.press ≡ N.press) × (lens.template ≡ N.template) }
         ensures { result ≡ record { editions = lens.editions; front = lens.front } }
@@ -45,8 +45,8 @@ impl<N: Name> Asker<N> {
         }
     }
 
-    /// The length of its front, in entries. The front ends with a whole publication: it is what the publications make that
-    /// it has seen. It enters nothing.
+    /// Returns the length of its front, in entries. The front is what the publications make that it has seen, so it
+    /// ends with a whole one. It enters nothing.
     pub fn front(&self) -> u64
         ensures front { result ≡ length self.now.front }
         ensures whole { self.now.front ≡ history_of self.now.editions }
@@ -54,14 +54,18 @@ impl<N: Name> Asker<N> {
         self.lens.front().stamp()
     }
 
-    /// A ticket for its front.
+    /// Returns a ticket for its front.
     pub(crate) fn told(&self) -> &Ticket
         ensures { result.now ≡ record { press = N.press; editions = self.now.editions; front = self.now.front } }
     {
         self.lens.front()
     }
 
-    /// How many children there are at one front, which begins with all that it had seen or learnt.
+    /// Returns how many children there are at one front, which begins with all that it had seen or learnt (OTP's manual
+    /// of `supervisor`, `count_children/1`).
+    ///
+    /// # Errors
+    /// `Gone` if the desk has ended.
     #[tactic(auto, using(crate::proofs::Answered::count_is))]
     pub fn count_children(&mut self) -> Result<Seen<Counts>, Gone>
         ensures front { IsPrefix self.old.front self.new.front }
@@ -71,7 +75,10 @@ impl<N: Name> Asker<N> {
         self.lens.look(|view| counts_seen(view))
     }
 
-    /// The listed child with this number at such a front.
+    /// Returns the listed child with this number at such a front.
+    ///
+    /// # Errors
+    /// `Gone` if the desk has ended.
     #[tactic(auto, using(crate::proofs::Answered::child_is))]
     pub fn child(&mut self, number: u64) -> Result<Seen<Option<Row>>, Gone>
         ensures front { IsPrefix self.old.front self.new.front }
@@ -81,7 +88,11 @@ impl<N: Name> Asker<N> {
         self.lens.look(|view| child_seen(view, number))
     }
 
-    /// The listed children at such a front, by ascending numbers.
+    /// Returns the listed children at such a front, in ascending order of number (OTP's manual of `supervisor`,
+    /// `which_children/1`).
+    ///
+    /// # Errors
+    /// `Gone` if the desk has ended, `OutOfMemory` if there is no memory for the list.
     #[tactic(auto, using(crate::proofs::Answered::which_is))]
     pub fn which_children(&mut self) -> Result<Seen<Vec<Row>>, QueryFault>
         ensures front { IsPrefix self.old.front self.new.front }
@@ -91,9 +102,12 @@ impl<N: Name> Asker<N> {
         Ok(self.lens.look(|view| rows_seen(view))??)
     }
 
-    /// Calls `f` once on a view at such a front, and not at all if the supervisor is down. `f` must make no update, no handle and no
-    /// asker: these wait for the lock, and whoever has it may wait for this look. `f` should be short: an update that waits for
-    /// this look yields and does not sleep, so it keeps its core busy.
+    /// Calls `f` once on a view at such a front, and not at all if the supervisor is down. `f` must make no update, no
+    /// handle and no asker: these wait for the lock, and the thread that has it may wait for this look. `f` should be
+    /// short: an update that waits for this look yields and does not sleep, so it keeps its core busy.
+    ///
+    /// # Errors
+    /// `Gone` if the desk has ended. Then `f` is not called.
     pub fn inspect<T, F: FnOnce(&View) -> T>(&mut self, f: F) -> Result<Seen<T>, Gone>
         requires { F.IsAlwaysCallable f }
         ensures front { IsPrefix self.old.front self.new.front }
@@ -104,7 +118,8 @@ impl<N: Name> Asker<N> {
         self.lens.look(|view| inspected(view, f))
     }
 
-    /// From now on its front begins with the ticket's, which is of the same desk. It enters nothing and always succeeds.
+    /// Makes each later front begin with the ticket's, which is of the same desk. It enters nothing and always
+    /// succeeds.
     pub fn learn(&mut self, ticket: &Ticket) -> Result<(), Gone>
         requires { ticket.now.press ≡ N.press }
         ensures answered { IsOk result }

@@ -1,4 +1,4 @@
-//! The book: what stands under the lock.
+//! The book: what is under the lock.
 ghost use Rattle.std.specs.Prelude.{◌≡◌, [], None};
 ghost use Rattle.sup_desk.specs.Books.{IsClean};
 ghost use Rattle.sup_desk.specs.Journals.{HasJust};
@@ -41,7 +41,7 @@ impl<N: Name, R: Wait + Drop> Book<N, R, NoJournal> {
 }
 
 impl<N: Name, R: Wait + Drop, J: Journal + Drop> Book<N, R, J> {
-    /// Ends the book, and returns what is left of it.
+    /// Ends the book, and returns what remains of it.
     pub(crate) fn close(self) -> Closed<J>
         ensures ticket { result.ticket ≡ record { press = N.press; editions = self.editions; front = self.history } }
         ensures journal { HasJust (J.has result.journal N.template) (J.is_torn result.journal N.template) J.may_fail result.fault self.history }

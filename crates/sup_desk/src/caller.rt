@@ -6,8 +6,8 @@ use crate::name::Name;
 use crate::roll::Claim;
 use std::marker::Model;
 
-/// A handle without its desk: what it knows, and no borrow. It may leave the scope in which a desk is borrowed. `Desk::bind`
-/// makes the handle of it again.
+/// Holds what a handle knows, without a borrow of its desk. It may leave the scope in which a desk is borrowed.
+/// `Desk::bind` makes the handle of it again.
 #[derive(Drop)]
 pub struct Caller<N: Name> {
     pub(crate) claim: Claim,

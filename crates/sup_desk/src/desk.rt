@@ -21,15 +21,15 @@ use std::sync::{Mutex, Wait};
 use sup_log::{NoPlace, Ticket};
 use sup_types::{Entry, Starter};
 
-/// A supervisor that threads share by reference, with the journal `J`, which is none if it is left out.
+/// Shares a supervisor among threads, by reference, with the journal `J`, which is none if it is left out.
 #[derive(Drop)]
 pub struct Desk<N: Name, S: Starter + Drop, R: Wait + Drop, J: Journal + Drop = NoJournal> {
     pub(crate) book: Mutex<Book<N, R, J>>,
     pub(crate) starter: S,
 }
 
-/// A desk that goes on from a history of before, a ticket for it, and the callers that its handles were, in the order of their
-/// numbers: 1, 2, 3, .. (see [`Desk::bind`]).
+/// Holds a desk that continues a recorded history, a ticket for that history, and the callers that its handles were, in
+/// the order of their numbers: 1, 2, 3, .. (see [`Desk::bind`]).
 #[derive(Drop)]
 pub struct Recovered<N: Name, S: Starter + Drop, R: Wait + Drop, J: Journal + Drop> {
     pub desk: Desk<N, S, R, J>,
@@ -38,7 +38,7 @@ pub struct Recovered<N: Name, S: Starter + Drop, R: Wait + Drop, J: Journal + Dr
 }
 
 impl<N: Name, S: Starter + Drop, R: Wait + Drop> Desk<N, S, R> {
-    /// A desk on this ground, which N names, without a journal. It takes no memory.
+    /// Makes a desk on this ground, which `N` names, without a journal. It takes no memory.
     pub fn new(ground: Ground<R>, starter: S) -> Desk<N, S, R>
         requires { (ground.press ≡ N.press) × (ground.template ≡ N.template) × (ground.roll ≡ N.roll) }
     {
@@ -47,9 +47,10 @@ impl<N: Name, S: Starter + Drop, R: Wait + Drop> Desk<N, S, R> {
 }
 
 impl<N: Name, S: Starter + Drop, R: Wait + Drop, J: Journal + Drop> Desk<N, S, R, J> {
-    /// A desk on this ground, which N names, with a journal that has recorded nothing of a supervisor of this template. From
-    /// then on the journal records each entry before it is published: whenever the lock is free, it has recorded just what is
-    /// published. Once it breaks off, updates are refused, and queries go on. It takes no memory.
+    /// Makes a desk on this ground, which `N` names, with a journal that has recorded nothing of a supervisor of this
+    /// template. From then on the journal records each entry before it is published: whenever the lock is free, it has
+    /// recorded just what is published. Once it breaks off, updates are refused, and queries continue. It takes no
+    /// memory.
     pub fn with_journal(ground: Ground<R>, starter: S, journal: J) -> Desk<N, S, R, J>
         requires name { (ground.press ≡ N.press) × (ground.template ≡ N.template) × (ground.roll ≡ N.roll) }
         requires journal { J.has journal N.template [] [] }
@@ -60,12 +61,14 @@ impl<N: Name, S: Starter + Drop, R: Wait + Drop, J: Journal + Drop> Desk<N, S, R
         }
     }
 
-    /// A desk on this ground, which N names, that goes on from a history of before: all of its entries are published, in order,
-    /// and the journal has recorded them. The ticket is for this history, so a handle that learns it has seen all of it. The
-    /// handles of before come back as callers, in the order of their numbers; new ones get the numbers after these.
+    /// Makes a desk on this ground, which `N` names, that continues a recorded history: all of its entries are
+    /// published, in order, and the journal has recorded them. The ticket is for this history, so a handle that learns
+    /// it has seen all of it. The earlier handles come back as callers, in the order of their numbers; new ones get the
+    /// numbers after these.
     ///
-    /// A fault where an entry can't be entered: HistoryFull for more entries than the template allows, NoHandle for one of a
-    /// number that no handle of the ground can have, and OutOfMemory for want of memory. There is no desk then.
+    /// # Errors
+    /// `HistoryFull` if there are more entries than the template allows, `NoHandle` if one is of a number that no
+    /// handle of the ground can have, and `OutOfMemory` if memory runs out. There is no desk then.
     pub fn recover(
         ground: Ground<R>,
         starter: S,
@@ -86,10 +89,9 @@ impl<N: Name, S: Starter + Drop, R: Wait + Drop, J: Journal + Drop> Desk<N, S, R
         Ok(recovery.finish(starter, journal))
     }
 
-    /// Ends the desk: a ticket for all of its history, and the journal. The journal has recorded just this history, unless it
-    /// broke off; then it has recorded this history, and of what was refused a part, or all where a flush failed. It waits for the
-    /// lenses that look.
-    /// Askers that are left are answered no more.
+    /// Ends the desk, and returns a ticket for all of its history, and the journal. The journal has recorded just this
+    /// history. If it broke off, it has recorded this history, and of what was refused a part, or all if a flush
+    /// failed. It waits for the lenses that look. Askers that remain are answered `Gone`.
     pub fn close(self) -> Closed<J>
         ensures ticket { result.ticket.press ≡ N.press }
         ensures journal { HasJust (J.has result.journal N.template) (J.is_torn result.journal N.template) J.may_fail result.fault result.ticket.front }
@@ -99,32 +101,40 @@ impl<N: Name, S: Starter + Drop, R: Wait + Drop, J: Journal + Drop> Desk<N, S, R
         book.into_inner().close()
     }
 
-    /// Returns a handle that has seen all of the history and made no call. It waits for the lock, and for no query. After a refusal nothing
-    /// has changed. NoHandle once as many handles were made as the ground allows; NoPlace only if handles and askers have all of its places.
-    /// One that is dropped gives its place back.
+    /// Returns a handle that has seen all of the history and made no call. It waits for the lock, and for no query. One
+    /// that is dropped gives its place back, and not its number.
+    ///
+    /// # Errors
+    /// `NoHandle` once as many handles were made as the ground allows, `NoPlace` only if handles and askers have all of
+    /// its places. Nothing changes.
     pub fn handle<W: Wait>(&self, rt: &W) -> Result<HandleOf<'_, N, Desk<N, S, R, J>>, HandleFault>
         ensures { IfOk result (λ h. (h.calls ≡ []) × (entries_of h.front h.number ≡ []) × (1 ≤ h.number)) }
     {
         Ok(self.bind(add_handle(&mut *self.book.lock(rt))?))
     }
 
-    /// The handle that the caller was.
+    /// Returns the handle that the caller was.
     pub fn bind(&self, caller: Caller<N>) -> HandleOf<'_, N, Desk<N, S, R, J>>
         ensures { result ≡ caller }
     {
         HandleOf { caller, desk: self }
     }
 
-    /// Returns an asker, which is no handle: it asks, and no audit counts it. It takes one of the places that handles take, too, and
-    /// gives it back when it is dropped. It waits for the lock, and for no query. It is refused only if no place is left, with nothing
-    /// changed.
+    /// Returns an asker, which is no handle: it asks, and no audit counts it. It takes one of the places that handles
+    /// take as well, and gives it back when it is dropped. It waits for the lock, and for no query.
+    ///
+    /// # Errors
+    /// `NoPlace` only if no place is free. Nothing changes.
     pub fn asker<W: Wait>(&self, rt: &W) -> Result<Asker<N>, NoPlace> {
         add_asker(&mut *self.book.lock(rt))
     }
 
     /// Shows that the history is the calls of these handles and nothing else: they are all that were made, in the order
-    /// of making (see `Handle::are_in_order`), and have then seen all of it. A ticket for it. It waits for the lock.
-    /// Split where a handle is missing (see `laws::audit`). Then nothing has changed.
+    /// of making (see `Handle::are_in_order`), and have then seen all of it. Returns a ticket for it. It waits for the
+    /// lock.
+    ///
+    /// # Errors
+    /// `Split` if a handle is missing (see `laws::audit`). Nothing changes.
     pub fn audit<W: Wait>(
         &self,
         rt: &W,

@@ -8,7 +8,7 @@ use sup_log::Gone;
 use sup_types::OutOfMemory;
 use thiserror::Error;
 
-/// Why an update was refused.
+/// Says why an update was refused.
 #[derive(Clone, Copy, Debug, PartialEq, Eq, Error)]
 pub enum UpdateFault {
     /// A growth was refused.
@@ -20,13 +20,13 @@ pub enum UpdateFault {
     /// The reader could not learn or enter. No update is answered so: each learns without entering.
     #[error("the press is gone")]
     Gone,
-    /// The journal broke off. Nothing was published, and no update is entered any more. Queries go on.
+    /// The journal broke off. Nothing was published, and no update is entered any more. Queries continue.
     #[error("the journal broke off: {0}")]
     Journal(JournalFault),
 }
 
 impl UpdateFault {
-    /// The number of this fault.
+    /// Returns the number of this fault.
     pub fn number(&self) -> u8
         ensures { result ≡ update_fault_number self.now }
     {
@@ -39,7 +39,7 @@ impl UpdateFault {
     }
 }
 
-/// Why an audit gave no ticket.
+/// Says why an audit gave no ticket.
 #[derive(Clone, Copy, Debug, PartialEq, Eq, Error)]
 pub enum TicketFault {
     /// The audit lacked a handle.
@@ -51,7 +51,7 @@ pub enum TicketFault {
 }
 
 impl TicketFault {
-    /// The number of this fault.
+    /// Returns the number of this fault.
     pub fn number(&self) -> u8
         ensures { result ≡ ticket_fault_number self.now }
     {
@@ -62,7 +62,7 @@ impl TicketFault {
     }
 }
 
-/// Why the children were not listed.
+/// Says why the children were not listed.
 #[derive(Clone, Copy, Debug, PartialEq, Eq, Error)]
 pub enum QueryFault {
     /// A growth was refused.
@@ -74,7 +74,7 @@ pub enum QueryFault {
 }
 
 impl QueryFault {
-    /// The number of this fault.
+    /// Returns the number of this fault.
     pub fn number(&self) -> u8
         ensures { result ≡ query_fault_number self.now }
     {
@@ -101,7 +101,7 @@ impl From<OutOfMemory> for QueryFault {
     }
 }
 
-/// Why no handle was made.
+/// Says why no handle was made.
 #[derive(Clone, Copy, Debug, PartialEq, Eq, Error)]
 pub enum HandleFault {
     /// As many handles were made as the ground said.
@@ -113,7 +113,7 @@ pub enum HandleFault {
 }
 
 impl HandleFault {
-    /// The number of this fault.
+    /// Returns the number of this fault.
     pub fn number(&self) -> u8
         ensures { result ≡ handle_fault_number self.now }
     {
@@ -124,7 +124,7 @@ impl HandleFault {
     }
 }
 
-/// Why no ground was made.
+/// Says why no ground was made.
 #[derive(Clone, Copy, Debug, PartialEq, Eq, Error)]
 pub enum DeskFault {
     /// A growth was refused.
@@ -136,7 +136,7 @@ pub enum DeskFault {
 }
 
 impl DeskFault {
-    /// The number of this fault.
+    /// Returns the number of this fault.
     pub fn number(&self) -> u8
         ensures { result ≡ desk_fault_number self.now }
     {

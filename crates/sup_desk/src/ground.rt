@@ -14,7 +14,7 @@ use std::sync::Wait;
 use sup_log::Press;
 use sup_types::Template;
 
-/// The parts of a book that has no name yet: its press, its roll, and how many handles it may have.
+/// Holds the parts of a book that has no name yet: its press, its roll, and how many handles it may have.
 #[derive(Drop)]
 pub struct Ground<R: Wait + Drop> {
     press: Press<R>,
@@ -38,8 +38,11 @@ impl<R: Wait + Drop> Model for Ground<R> {
 impl<R: Wait + Drop> Ground<R> {
     /// Makes a ground for a supervisor of this template, with 1 to 1024 places for handles and askers.
     ///
-    /// Each update visits each place, taken or not, which takes some forty instructions a place. So ask for as many as there are threads
-    /// that ask at the same time.
+    /// Each update visits each place, taken or not, which takes some forty instructions a place. So ask for as many as
+    /// there are threads that ask at the same time.
+    ///
+    /// # Errors
+    /// `BadTemplate` exactly if the number of places is out of its range, `OutOfMemory` if memory runs out.
     pub fn new(
         alloc: Global,
         rt: R,

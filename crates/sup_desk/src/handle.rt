@@ -24,16 +24,16 @@ use std::sync::Wait;
 use sup_log::{Gone, Ticket, View};
 use sup_types::{Counts, Operation, Reason, Refusal, Reply, Row, Seen, Starter, Text};
 
-/// Operations that were entered together: the reply to each, in their order, and a ticket for the history up to and with
-/// the last.
+/// Holds what came of operations that were entered together: the reply to each, in their order, and a ticket for the
+/// history up to and with the last.
 #[derive(Drop)]
 pub struct Dones<A: Allocator = Global> {
     pub replies: Vec<Reply, A>,
     pub ticket: Ticket,
 }
 
-/// Operations of which only the first were entered: the replies to these, a ticket for the history up to and with the
-/// last of them, where there is one, and why the others were not.
+/// Holds what came of operations of which only the first were entered: the replies to these, a ticket for the history
+/// up to and with the last of them, if there is one, and why the others were not.
 #[derive(Drop)]
 pub struct Part<A: Allocator = Global> {
     pub replies: Vec<Reply, A>,
@@ -41,15 +41,16 @@ pub struct Part<A: Allocator = Global> {
     pub fault: UpdateFault,
 }
 
-/// A caller of the desk from which it is borrowed: an asker, beside a borrow of the desk `D`. It may be moved to one
-/// thread. Its queries are its asker's: they take no lock, and each is proved to return.
+/// Calls the desk `D`, which it borrows: it makes updates, and asks by an asker of its own. It may be moved to one
+/// thread. Its queries take no lock, and each is proved to return.
 #[derive(Drop)]
 pub struct HandleOf<'d, N: Name, D> {
     pub(crate) caller: Caller<N>,
     pub(crate) desk: &'d D,
 }
 
-/// A handle of a desk with this starter, whose publications wait by R, and with the journal `J`, which is none if it is left out.
+/// Calls a desk with this starter, whose publications wait by `R`, and with the journal `J`, which is none if it is
+/// left out.
 pub type Handle<'d, N, S, R, J = NoJournal> = HandleOf<'d, N, Desk<N, S, R, J>>;
 
 impl<'d, N: Name, D> Model for HandleOf<'d, N, D> {
@@ -60,16 +61,19 @@ impl<'d, N: Name, D> Model for HandleOf<'d, N, D> {
     ghost view = { λ h. h.caller };
 }
 
-/// Updates. Each waits for the lock, learns all that is published, and is entered in the history at once: its reply is
-/// that of a supervisor of one thread after a history that begins with all that the handle had seen, learnt or done.
-/// The start function is asked under the lock. After a refusal the history and every published answer are as before. A journal
-/// that breaks off refuses the update and all later ones.
+/// Makes updates. Each waits for the lock, learns all that is published, and is entered in the history at once: its
+/// reply is that of a supervisor of one thread after a history that begins with all that the handle had seen, learnt or
+/// done. Moments are in seconds. The start function is asked under the lock.
+///
+/// Each refusal leaves the history and every published answer as they were: `HistoryFull` if the history has as many
+/// entries as the template allows, `OutOfMemory` if memory runs out, and `Journal` if the journal breaks off or broke
+/// off before. Then it refuses this update and all later ones.
 impl<'d, N: Name, S: Starter + Drop, R: Wait + Drop, J: Journal + Drop> HandleOf<
     'd,
     N,
     Desk<N, S, R, J>,
 > {
-    /// Starts a child with this argument, at this moment in seconds.
+    /// Starts a child with this argument (OTP's manual of `supervisor`, `start_child/2`).
     pub fn start_child<W: Wait>(
         &mut self,
         rt: &W,
@@ -82,7 +86,7 @@ impl<'d, N: Name, S: Starter + Drop, R: Wait + Drop, J: Journal + Drop> HandleOf
         self.update(rt, moment, &Operation::Start(arg))
     }
 
-    /// The child with this number ended.
+    /// Enters that the child with this number ended by itself, for this reason.
     pub fn exit<W: Wait>(
         &mut self,
         rt: &W,
@@ -104,7 +108,8 @@ impl<'d, N: Name, S: Starter + Drop, R: Wait + Drop, J: Journal + Drop> HandleOf
         self.update(rt, moment, &Operation::Retry(number))
     }
 
-    /// Ends the child with this number.
+    /// Ends the child with this number: its row goes, and whoever runs it is to end it (OTP's manual of `supervisor`,
+    /// `terminate_child/2`).
     pub fn terminate_child<W: Wait>(
         &mut self,
         rt: &W,
@@ -145,10 +150,14 @@ impl<'d, N: Name, S: Starter + Drop, R: Wait + Drop, J: Journal + Drop> HandleOf
         )
     }
 
-    /// Enters the operations of the queue as updates, from its front on and in order, and publishes them in one step: they
-    /// are one publication, so that everyone who asks sees all of them or none. An
-    /// operation that is entered leaves the queue. The room for the replies is made first. After a fault what was entered
-    /// is published, and the queue has the others in order. An empty queue enters nothing.
+    /// Enters the operations of the queue as updates, from its front on and in order, and publishes them in one step:
+    /// they are one publication, so that everyone who asks sees all of them or none. An operation that is entered
+    /// leaves the queue. An empty queue enters nothing.
+    ///
+    /// # Errors
+    /// Those of an update. What was entered before the fault is published, and the queue has the others in order. The
+    /// room for the replies is made first, so a refusal of it enters nothing; a journal that breaks off leaves the
+    /// whole queue.
     pub fn apply_all<W: Wait, A: Allocator + Copy>(
         &mut self,
         rt: &W,
@@ -200,8 +209,8 @@ impl<'d, N: Name, S: Starter + Drop, R: Wait + Drop, J: Journal + Drop> HandleOf
         })
     }
 
-    /// Gives a ticket for all of the history, which the handle has then seen. Its calls are all that stand there under its
-    /// number. It waits for the lock.
+    /// Returns a ticket for all of the history, which the handle has then seen. Its calls are all the entries there
+    /// under its number. It waits for the lock.
     pub fn ticket<W: Wait>(&mut self, rt: &W) -> Ticket
         ensures ticket { result ≡ record { press = N.press; editions = self.new.editions; front = self.new.front } }
         ensures own { entries_of self.new.front self.new.number ≡ self.new.calls }
@@ -214,16 +223,16 @@ impl<'d, N: Name, S: Starter + Drop, R: Wait + Drop, J: Journal + Drop> HandleOf
     }
 }
 
-/// What takes no lock and never waits.
+/// Asks, takes no lock and never waits.
 impl<'d, N: Name, D> HandleOf<'d, N, D> {
-    /// Its number: 1, 2, 3, .. in the order of making. No other handle of its desk has it.
+    /// Returns its number: 1, 2, 3, .. in the order of making. No other handle of its desk has it.
     pub fn number(&self) -> u64
         ensures { result ≡ self.now.number }
     {
         self.caller.number()
     }
 
-    /// The handle without its desk, and the desk.
+    /// Returns the handle without its desk, and the desk.
     pub fn unbind(self) -> (Caller<N>, &'d D)
         ensures { result.0 ≡ self.entry }
     {
@@ -231,7 +240,7 @@ impl<'d, N: Name, D> HandleOf<'d, N, D> {
         (caller, desk)
     }
 
-    /// Whether these are handle 1, handle 2, .., in the order of making, as an audit asks for them.
+    /// Returns whether these are handle 1, handle 2, .., in the order of making, as an audit asks for them.
     pub fn are_in_order(handles: &[HandleOf<'d, N, D>]) -> bool
         ensures { IsTrue result ↔ AreNumbered handles.now }
     {
@@ -243,8 +252,8 @@ impl<'d, N: Name, D> HandleOf<'d, N, D> {
         true
     }
 
-    /// The length of its front, in entries. The front ends with a whole publication: it is what the publications make that
-    /// the handle has seen. It enters nothing.
+    /// Returns the length of its front, in entries. The front is what the publications make that the handle has seen,
+    /// so it ends with a whole one. It enters nothing.
     pub fn front(&self) -> u64
         ensures front { result ≡ length self.now.front }
         ensures whole { self.now.front ≡ history_of self.now.editions }
@@ -294,7 +303,7 @@ impl<'d, N: Name, D> HandleOf<'d, N, D> {
         self.caller.asker.inspect(f)
     }
 
-    /// Learns as [`Asker::learn`] does.
+    /// Learns as [`Asker::learn`] does: each later front begins with the ticket's.
     pub fn learn(&mut self, ticket: &Ticket) -> Result<(), Gone>
         requires { ticket.now.press ≡ N.press }
         ensures answered { IsOk result }
@@ -306,21 +315,23 @@ impl<'d, N: Name, D> HandleOf<'d, N, D> {
         self.caller.asker.learn(ticket)
     }
 
-    /// A termination names a process and no identifier.
+    /// Refuses to end a child by an identifier: a termination names a process (OTP's manual of `supervisor`,
+    /// `terminate_child/2`).
     pub fn terminate_id(&self, _id: &Text) -> Refusal
         ensures { result ≡ Refusal.SimpleOneForOne }
     {
         Refusal::SimpleOneForOne
     }
 
-    /// Children of one template have no specifications of their own to delete.
+    /// Refuses to delete a child specification: children of one template have none of their own (OTP's manual of
+    /// `supervisor`, `delete_child/2`).
     pub fn delete_child(&self, _id: &Text) -> Refusal
         ensures { result ≡ Refusal.SimpleOneForOne }
     {
         Refusal::SimpleOneForOne
     }
 
-    /// Children of one template are not restarted by an identifier.
+    /// Refuses to restart a child by an identifier (OTP's manual of `supervisor`, `restart_child/2`).
     pub fn restart_child(&self, _id: &Text) -> Refusal
         ensures { result ≡ Refusal.SimpleOneForOne }
     {

@@ -6,7 +6,7 @@ ghost use Rattle.sup_desk.specs.Journals.{HoldsOneMore, HoldsAsBefore, HasAll, I
 use sup_types::{Entry, OutOfMemory};
 use thiserror::Error;
 
-/// Why a journal records nothing more.
+/// Says why a journal records nothing more.
 #[derive(Clone, Copy, Debug, PartialEq, Eq, Error)]
 pub enum JournalFault {
     /// Its writer answered an error.
@@ -21,7 +21,7 @@ pub enum JournalFault {
 }
 
 impl JournalFault {
-    /// The number of this fault.
+    /// Returns the number of this fault.
     pub fn number(self) -> u8
         ensures { result ≡ journal_fault_number }
     {
@@ -29,38 +29,44 @@ impl JournalFault {
     }
 }
 
-/// What keeps a record of a supervisor's history: a file, say, to which the text of each entry is written. A desk makes each
-/// entry ready before the supervisor takes it, and has it recorded before it is published.
+/// Keeps a record of a supervisor's history: in a file, say, to which the text of each entry is written. A desk makes
+/// each entry ready before the supervisor takes it, and has it recorded before it is published.
 pub trait Journal {
     ghost use Rattle.std.specs.Prelude.{List};
     ghost use Rattle.sup_types.specs.declared.template.Template.{Template};
     ghost use Rattle.sup_types.specs.declared.history.Entry.{Entry};
     ghost use Rattle.sup_desk.specs.declared.journal.JournalFault.{JournalFault};
 
-    /// Whether the journal has recorded this history of a supervisor of this template, and holds these further entries ready.
+    /// Says whether the journal has recorded this history of a supervisor of this template, and holds these further
+    /// entries ready.
     ghost has: { Self → Template → List Entry → List Entry → Type 0 };
 
-    /// Whether a record of these further entries broke off: the journal has recorded this history, and then a part of these, or all
-    /// of them where a flush failed.
+    /// Says whether a record of these further entries broke off: the journal has recorded this history, and then a part
+    /// of these, or all of them if a flush failed.
     ghost is_torn: { Self → Template → List Entry → List Entry → Type 0 };
 
-    /// Whether a record may fail so.
+    /// Says whether a record may have this fault.
     ghost may_fail: { JournalFault → Type 0 };
 
-    /// Makes an entry ready to be recorded, behind those that are. It records nothing. After a refusal the same entries are ready
-    /// as before.
+    /// Makes an entry ready to be recorded, after those that are. It records nothing.
+    ///
+    /// # Errors
+    /// `OutOfMemory`: the same entries are ready as before.
     fn prepare(&mut self, entry: &Entry) -> Result<(), OutOfMemory>
         ensures ok { OnOk result (HoldsOneMore has self.old self.new entry.now) }
         ensures err { OnErr result (HoldsAsBefore has self.old self.new) };
 
-    /// Records what is ready, in one write. It may then flush its writer, too.
+    /// Records what is ready, in one write. It may then flush its writer.
+    ///
+    /// # Errors
+    /// The journal has broken off: of what was ready it has recorded a part, or all if the flush failed.
     fn record(&mut self) -> Result<(), JournalFault>
         ensures ok { OnOk result (HasAll has self.old self.new) }
         ensures err { OnErr result (IsTornOff has is_torn self.old self.new) }
         ensures cause { IfErr result (λ fault. may_fail fault) };
 }
 
-/// No journal: nothing is recorded, and nothing can fail.
+/// Records nothing, so nothing can fail.
 #[derive(Clone, Copy, Debug, Default, PartialEq, Eq)]
 pub struct NoJournal;
 

@@ -27,14 +27,14 @@ use std::sync::Wait;
 use sup_log::{NoPlace, Ticket};
 use sup_types::{Operation, Reply, Starter};
 
-/// An update that was entered: its reply, and a ticket for the history up to and with it.
+/// Holds what came of an update that was entered: its reply, and a ticket for the history up to and with it.
 #[derive(Drop)]
 pub struct Done {
     pub reply: Reply,
     pub ticket: Ticket,
 }
 
-/// Gives the handle a ticket for all of the history, in which its calls are all that stand under its number.
+/// Gives the handle a ticket for all of the history, in which its calls are all the entries under its number.
 pub fn give_ticket<N: Name, R: Wait + Drop, J: Journal + Drop>(
     book: &mut Book<N, R, J>,
     handle: &mut Caller<N>,
@@ -53,7 +53,8 @@ pub fn give_ticket<N: Name, R: Wait + Drop, J: Journal + Drop>(
     book.transaction.show(handle)
 }
 
-/// Enters an update of a caller whose calls are all that stand under its number. What the caller has seen stays as it was.
+/// Enters an update of a caller whose calls are all the entries under its number. What the caller has seen stays as it
+/// was.
 fn enter_one<N: Name, S: Starter, R: Wait + Drop, J: Journal + Drop>(
     book: &mut Book<N, R, J>,
     starter: &S,
@@ -158,8 +159,9 @@ fn drop_first(operations: &mut VecDeque<Operation>, count: usize)
     }
 }
 
-/// Enters the operations of a queue for a caller whose calls are all that stand under its number, and returns the fault that ended it.
-/// Each that is entered leaves the queue. If the journal breaks off, none is entered. What the caller has seen stays as it was.
+/// Enters the operations of a queue for a caller whose calls are all the entries under its number, and returns the
+/// fault that ended it. Each that is entered leaves the queue. If the journal breaks off, none is entered. What the
+/// caller has seen stays as it was.
 fn enter_queue<N: Name, S: Starter, R: Wait + Drop, J: Journal + Drop, A: Allocator>(
     book: &mut Book<N, R, J>,
     starter: &S,
@@ -208,7 +210,7 @@ fn enter_queue<N: Name, S: Starter, R: Wait + Drop, J: Journal + Drop, A: Alloca
     fault
 }
 
-/// Why operations were left in a queue, and a ticket for those that were entered, if there are any.
+/// Says why operations remained in a queue, with a ticket for those that were entered, if there are any.
 #[derive(Drop)]
 pub struct Rest {
     pub ticket: Option<Ticket>,
@@ -296,7 +298,10 @@ pub fn add_asker<N: Name, R: Wait + Drop, J: Journal + Drop>(
 }
 
 /// Lets the handles see all of the history, and shows that it is their calls and nothing else: they are as many as were
-/// made, in the order of making. Split where they are not; then nothing has changed.
+/// made, in the order of making.
+///
+/// # Errors
+/// `Split` if they are not. Nothing changes.
 pub fn audit<N: Name, S: Starter + Drop, R: Wait + Drop, J: Journal + Drop>(
     book: &mut Book<N, R, J>,
     handles: &mut [HandleOf<'_, N, Desk<N, S, R, J>>],

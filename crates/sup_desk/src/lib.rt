@@ -11,15 +11,15 @@
 //! handles and nothing else.
 //!
 //! A start function says by a relation what it may answer, so that it may depend on the world; the answer that it gave
-//! stands in the entry.
+//! is kept in the entry.
 //!
-//! A desk may have a [`Journal`], which records each update before anyone sees it: [`Desk::with_journal`]. Whenever the lock is
-//! free, the journal has recorded just what is published. Once it breaks off, updates are refused, and queries go on.
-//! [`Desk::recover`] goes on from what a journal has recorded, and a [`Recovery`] does so entry by entry.
+//! A desk may have a [`Journal`], which records each update before anyone sees it: [`Desk::with_journal`]. Whenever the
+//! lock is free, the journal has recorded just what is published. Once it breaks off, updates are refused, and queries
+//! continue. [`Desk::recover`] continues what a journal has recorded, and a [`Recovery`] does so entry by entry.
 //!
-//! A value behind a lock is known by its type alone. So the desk and its handles carry a type parameter `N: Name`, whose
-//! members are the press and the template. [`on_desk`] makes a desk, picks its name and runs a [`Program`] on it, so that
-//! its caller writes no proof:
+//! A value behind a lock is known by its type alone. So the desk and its handles carry a type parameter `N: Name`,
+//! whose members are the press, the template and the roll. [`on_desk`] makes a desk, picks its name and runs a
+//! [`Program`] on it, so that its caller writes no proof:
 //!
 //! ```text
 //! impl<R: Wait> Program<AlwaysRunning, R> for Sessions {

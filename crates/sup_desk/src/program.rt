@@ -16,7 +16,7 @@ use std::marker::Brand;
 use std::sync::Wait;
 use sup_types::{Entry, Starter, Template};
 
-/// What is done with a desk. `run` is generic in the desk's name, so its author need not pick one.
+/// Says what is done with a desk. `run` is generic in the desk's name, so its author need not pick one.
 pub trait Program<S: Starter + Drop, R: Wait> {
     /// What comes of it.
     type Outcome: Drop;
@@ -26,13 +26,13 @@ pub trait Program<S: Starter + Drop, R: Wait> {
     fn run<N: Name + Send + Sync>(self, rt: &R, desk: &Desk<N, S, &R>) -> Self::Outcome;
 }
 
-/// What is done with a desk that has a journal.
+/// Says what is done with a desk that has a journal.
 pub trait JournaledProgram<S: Starter + Drop, R: Wait, J: Journal + Drop> {
     /// What comes of it.
     type Outcome: Drop;
 
-    /// Uses the desk, as a [`Program`] does. `before` are the callers of the history that the desk goes on from, in the order of
-    /// their numbers: none on a new desk.
+    /// Uses the desk, as a [`Program`] does. `before` are the callers of the history that the desk continues, in the
+    /// order of their numbers: none on a new desk.
     fn run<N: Name + Send + Sync>(
         self,
         rt: &R,
@@ -41,9 +41,11 @@ pub trait JournaledProgram<S: Starter + Drop, R: Wait, J: Journal + Drop> {
     ) -> Self::Outcome;
 }
 
-/// Makes a desk for a supervisor of this template and 1 to 1,024 handles, each of which costs each update (see [`Ground::new`]), and runs
-/// the program on it. If a desk is refused, the program is not run: BadTemplate for another number of handles, and OutOfMemory if
-/// memory runs out. Its caller writes no proof.
+/// Makes a desk for a supervisor of this template and 1 to 1,024 handles, each of which costs each update (see
+/// [`Ground::new`]), and runs the program on it. Its caller writes no proof.
+///
+/// # Errors
+/// `BadTemplate` for another number of handles, `OutOfMemory` if memory runs out. The program is not run then.
 pub fn on_desk<S: Starter + Drop, R: Wait, P: Program<S, R> + Drop>(
     rt: &R,
     alloc: Global,
@@ -71,10 +73,13 @@ fn run_named<N: Name + Send + Sync, S: Starter + Drop, R: Wait, P: Program<S, R>
     program.run(rt, &desk)
 }
 
-/// Makes a desk with a journal, runs the program on it and closes it: what came of the program, and the journal with a ticket
-/// for all of the history. The desk goes on from the history that the journal has recorded, which is empty for a new one. At the
-/// end the journal has recorded just the history of the ticket, unless it broke off (see `Desk::close`). It has
-/// 1 to 1,024 handles, those of the history included. If a desk is refused, the program is not run. Its caller writes no proof.
+/// Makes a desk with a journal, runs the program on it and closes it. Returns what came of the program, and the journal
+/// with a ticket for all of the history. The desk continues the history that the journal has recorded, which is empty
+/// for a new one. At the end the journal has recorded just the history of the ticket, unless it broke off (see
+/// `Desk::close`). The desk has 1 to 1,024 handles, those of the history included. Its caller writes no proof.
+///
+/// # Errors
+/// Those of [`Desk::recover`], and `BadTemplate` for another number of handles. The program is not run then.
 pub fn on_journaled_desk<
     S: Starter + Drop,
     R: Wait,

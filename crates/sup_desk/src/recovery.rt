@@ -19,7 +19,7 @@ use std::sync::{Mutex, Wait};
 use sup_types::{Entry, Starter};
 use thiserror::Error;
 
-/// Why a desk was not recovered.
+/// Says why a desk was not recovered.
 #[derive(Clone, Copy, Debug, PartialEq, Eq, Error)]
 pub enum RecoverFault {
     /// A growth was refused.
@@ -37,7 +37,7 @@ pub enum RecoverFault {
 }
 
 impl RecoverFault {
-    /// The number of this fault.
+    /// Returns the number of this fault.
     pub fn number(&self) -> u8
         ensures { result ≡ recover_fault_number self.now }
     {
@@ -61,8 +61,8 @@ impl From<DeskFault> for RecoverFault {
     }
 }
 
-/// A history of before that is entered again, entry by entry, as updates were: by the callers that its handles were. Beside the ground it
-/// takes memory for the callers, and none that grows with the history.
+/// Enters a recorded history again, entry by entry, as updates were: by the callers that its handles were. Beside the
+/// ground it takes memory for the callers, and none that grows with the history.
 #[derive(Drop)]
 pub struct Recovery<N: Name, R: Wait + Drop> {
     book: Book<N, R, NoJournal>,
@@ -81,7 +81,7 @@ impl<N: Name, R: Wait + Drop> Model for Recovery<N, R> {
     ghost invariant = { λ r. (r.book.fault ≡ None) × (r.book.made ≡ vec_len r.callers) × (r.book.handles ≤ vec_capacity r.callers) × AreNumbered r.callers.items };
 }
 
-/// Enters an entry of before for the caller that has made it.
+/// Enters a recorded entry for the caller that has made it.
 fn enter_again<N: Name, R: Wait + Drop>(
     book: &mut Book<N, R, NoJournal>,
     caller: &mut Caller<N>,
@@ -115,7 +115,10 @@ fn see_all_of<N: Name, R: Wait + Drop>(book: &mut Book<N, R, NoJournal>, callers
 }
 
 impl<N: Name, R: Wait + Drop> Recovery<N, R> {
-    /// Begins a recovery on this ground, which N names. Nothing is entered.
+    /// Begins a recovery on this ground, which `N` names. Nothing is entered.
+    ///
+    /// # Errors
+    /// `OutOfMemory` if there is no memory for the callers.
     pub fn begin(ground: Ground<R>) -> Result<Recovery<N, R>, RecoverFault>
         requires { (ground.press ≡ N.press) × (ground.template ≡ N.template) × (ground.roll ≡ N.roll) }
         ensures ok { IfOk result (λ r. r ≡ record { history = []; made = 0; handles = ground.handles }) }
@@ -153,11 +156,12 @@ impl<N: Name, R: Wait + Drop> Recovery<N, R> {
         Ok(())
     }
 
-    /// Enters an entry of before, behind those that were entered. A handle is made where its number is first seen, and those of the lower
-    /// numbers before it.
+    /// Enters a recorded entry, after those that were entered. A handle is made when its number is first seen, and
+    /// those of the lower numbers before it.
     ///
-    /// It is refused with NoHandle if no handle of the ground can have its number, with HistoryFull if there are as many entries as the
-    /// template allows, and with OutOfMemory if memory runs out. Then the history is as it was.
+    /// # Errors
+    /// `NoHandle` if no handle of the ground can have its number, `HistoryFull` if there are as many entries as the
+    /// template allows, and `OutOfMemory` if memory runs out. The history is as it was.
     pub fn enter(&mut self, entry: Entry) -> Result<(), RecoverFault>
         ensures ok { OnOk result (self.new.history ≡ self.old.history ++ entry ∷ []) }
         ensures kept { OnErr result (self.new.history ≡ self.old.history) }

@@ -1,7 +1,8 @@
 //! The roll: which handles were made, and what each of them entered. No two claims have one number.
 //!
-//! Both stand in the proofs alone. There they are the views of the seats of an `atomic_table`, under the rule in `specs/Rolls`; the
-//! steps load its one word and do nothing else. The roll lies under the desk's lock, and each handle has its claim.
+//! Both exist in the proofs alone. There they are the views of the seats of an `atomic_table`, under the rule in
+//! `specs/Rolls`; the steps load its one word and do nothing else. The roll lies under the desk's lock, and each handle
+//! has its claim.
 ghost use Rattle.std.specs.Prelude.{◌≡◌, ◌+◌, ◌++◌, ◌<◌, ◌^◌, [], length, IfOk};
 ghost use Rattle.sup_desk.specs.Books.{IsMade};
 ghost use Rattle.sup_desk.specs.Knowledge.{entries_of};
@@ -53,7 +54,7 @@ impl Split<Known> for Opens {
     ghost right = { newcomer };
 }
 
-/// A seat that knows nothing is made, to stand where a claim's was.
+/// A seat that knows nothing is made, to take a claim's place.
 struct Spares;
 
 impl Split<Known> for Spares {
@@ -161,14 +162,14 @@ impl Model for Claim {
 }
 
 impl Claim {
-    /// The number that it claims.
+    /// Returns the number that it claims.
     pub fn number(&self) -> u64
         ensures { result ≡ self.now.number }
     {
         self.number
     }
 
-    /// How many entries were made under it.
+    /// Returns how many entries were made under it.
     pub fn count(&self) -> u64
         ensures { result ≡ length self.now.calls }
     {
@@ -177,7 +178,7 @@ impl Claim {
 }
 
 impl Roll {
-    /// A roll of no handle, on which nothing was entered.
+    /// Makes a roll of no handle, on which nothing was entered.
     pub fn new(alloc: Global) -> Result<Roll, AllocError>
         ensures { IfOk result (λ r. (r.history ≡ []) × (r.made ≡ 0)) }
     {

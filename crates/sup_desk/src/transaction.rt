@@ -78,7 +78,8 @@ impl<N: Name, R: Wait + Drop> Transaction<N, R, NoJournal> {
     }
 }
 
-/// What is left of a desk that was closed: a ticket for all of its history, and its journal with the fault, if it broke off.
+/// Holds what remains of a desk that was closed: a ticket for all of its history, and its journal with the fault, if it
+/// broke off.
 #[derive(Drop)]
 pub struct Closed<J> {
     pub ticket: Ticket,
@@ -179,9 +180,9 @@ impl<N: Name, R: Wait + Drop, J: Journal + Drop> Transaction<N, R, J> {
         self.fault
     }
 
-    /// Shows that what the caller has seen begins what is published, and that its calls are all of this under its number. It changes
-    /// nothing, and stands for the proofs alone: what a ticket and a claim tell is evidence, which is compared with the press's and the
-    /// roll's by a step on their words.
+    /// Shows that what the caller has seen begins what is published, and that its calls are all of this under its
+    /// number. It changes nothing, and serves the proofs alone: what a ticket and a claim say is evidence, which is
+    /// compared with the press's and the roll's by a step on their words.
     pub fn meet(&mut self, caller: &mut Caller<N>)
         ensures met { entries_of self.old.published caller.old.number ≡ caller.old.calls }
         ensures made { IsMade self.old.made caller.old.number }
@@ -245,7 +246,8 @@ impl<N: Name, R: Wait + Drop, J: Journal + Drop> Transaction<N, R, J> {
         }
     }
 
-    /// Writes an entry of before as it was, behind what is pending: no start function is asked. After a refusal nothing has changed.
+    /// Writes a recorded entry as it was, after what is pending: no start function is asked. After a refusal nothing
+    /// has changed.
     pub fn write_again(&mut self, entry: Entry) -> Result<(), RecoverFault>
         requires going { self.old.fault ≡ None }
         ensures ok { OnOk result (self.new ≡ with_pending self.old (entry ∷ [])) }

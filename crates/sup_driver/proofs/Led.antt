@@ -1,5 +1,10 @@
--- What a driver entered, and one call or one drain more.
-use Rattle.std.proofs.Common.{◌≡◌, ℕ, ◌+◌, ◌<◌, ◌&&◌, Bool, true, false, List, [], ◌∷◌, ◌++◌, length, take, get_or, subst, refl, ap, sym, ◌∙◌, append-nil, append_assoc, suc, arith, length-append, Option, Some, None}
+-- What a driver entered, and one call, one batch or one payment more.
+use Rattle.std.proofs.Common.{◌≡◌, ℕ, zero, suc, ◌+◌, get_or, ◌<◌, ◌≤◌, ◌&&◌, Bool, true, false, true≢false, List, [], ◌∷◌, ◌++◌, length, take, subst, refl, ap, sym, ◌∙◌, append-nil, append_assoc, arith, Option, Some, None}
+use Rattle.std.specs.Prelude.{Result, Ok, Err, IfSome, IfNone, OnOk, is_err}
+use Rattle.std.proofs.lemmas.List.Elements.{All-push}
+use mathlib.Core.List.{IsPrefix}
+use Rattle.logbook.specs.Pages.{Book}
+use Rattle.sup_types.specs.declared.reason.Reason.{Reason}
 use Rattle.sup_types.specs.declared.text.Text.{Text}
 use Rattle.sup_types.specs.declared.template.Template.{Template}
 use Rattle.sup_types.specs.declared.history.Answer.{Answer}
@@ -7,30 +12,33 @@ use Rattle.sup_types.specs.declared.history.Operation.{Operation}
 use Rattle.sup_types.specs.declared.history.Operation.TheVariants.{Exit}
 use Rattle.sup_types.specs.declared.history.Entry.{Entry}
 use Rattle.sup_types.specs.declared.history.Reply.{Reply}
-use Rattle.logbook.specs.Pages.{Book}
 use Rattle.sup_log.specs.Tokens.{Told}
 use Rattle.sup_desk.specs.Knowledge.{Knowledge}
-use Rattle.sup_desk.specs.Batches.{AreEntered}
-use Rattle.sup_desk.specs.BatchLaws.{next_of}
-use Rattle.sup_inbox.specs.declared.note.Note.{Note}
-use Rattle.sup_crew.specs.Exits.{exit_of, exits}
-use Rattle.sup_crew.specs.Drains.{notes_of, replies_of, IsEntered}
-use Rattle.std.specs.Prelude.{Result, Ok, Err, IfOk, IfErr, MatchResult}
+use Rattle.sup_desk.specs.Batches.{AreEntered, IsApplied}
+use Rattle.sup_desk.specs.BatchLaws.{entered-replies, next_of}
 use Rattle.sup_desk.specs.declared.faults.UpdateFault.{UpdateFault}
 use Rattle.sup_desk.specs.declared.laws.Done.{Done}
 use Rattle.sup_desk.specs.Results.{IsUpdateResult}
-use Rattle.sup_crew.specs.declared.drain.Drained.{Drained}
-use Rattle.sup_crew.specs.declared.drain.DrainFault.{DrainFault}
-use mathlib.Core.List.{IsPrefix}
 use Rattle.sup_ledger.specs.declared.child.Child.{Child}
+use Rattle.sup_ledger.specs.declared.exit.Exit.{Exit as Exited}
+use Rattle.sup_ledger.specs.Endings.{is_ending, AreEndings}
+use Rattle.sup_ledger.specs.Exits.{children_of, operations_of}
 use Rattle.sup_yard.specs.Starts.{HasReplies}
 use Rattle.sup_yard.specs.ReplyLaws.{each_of, seen_more, applied}
 use Rattle.sup_driver.specs.Restarts.{restarted_as, number_restarted, restarted_among, numbers_of}
-use Rattle.sup_driver.specs.Leads.{exits_among, is_driven, are_driven}
+use Rattle.sup_driver.specs.Leads.{exit_of, exits_among, is_driven, are_driven, told_by, HasTold, IsLed, HasEntered}
 
-pub exits-append : (xs ys : List Note) → exits (xs ++ ys) ≡ exits xs ++ exits ys
-exits-append [] ys = refl
-exits-append (x ∷ xs) ys = ap (λ l. Exit x.number x.reason ∷ l) (exits-append xs ys)
+operations_of-append : (xs ys : List Exited) → operations_of (xs ++ ys) ≡ operations_of xs ++ operations_of ys
+operations_of-append [] ys = refl
+operations_of-append (x ∷ xs) ys = ap (λ l. Exit x.child.number x.reason ∷ l) (operations_of-append xs ys)
+
+children_of-append : (xs ys : List Exited) → children_of (xs ++ ys) ≡ children_of xs ++ children_of ys
+children_of-append [] ys = refl
+children_of-append (x ∷ xs) ys = ap (λ l. x.child ∷ l) (children_of-append xs ys)
+
+pub operations-length : (xs : List Exited) → length (operations_of xs) ≡ length xs
+operations-length [] = refl
+operations-length (x ∷ xs) = ap suc (operations-length xs)
 
 pub among-append : (xs ys : List Entry) → exits_among (xs ++ ys) ≡ exits_among xs ++ exits_among ys
 among-append [] ys = refl
@@ -47,64 +55,121 @@ driven-append (x ∷ xs) ys = ap (λ b. is_driven x.operation && b) (driven-appe
 both : (a b : Bool) → a ≡ true → b ≡ true → (a && b) ≡ true
 both a b p q = ap (λ x. x && b) p ∙ q
 
+-- one exit more is listed
+pub listed_more : (xs : List Exited) (k : ℕ) (x : Exited) → k < length xs → x ≡ get_or xs k x → operations_of (take k xs) ++ Exit x.child.number x.reason ∷ [] ≡ operations_of (take (k + 1) xs)
+listed_more xs k x low is = sym (operations_of-append (take k xs) (x ∷ [])) ∙ ap operations_of (sym (next_of k xs x low is))
+
 module _ (may : Text → ℕ → Answer → Type 0) (template : Template) (number moment : ℕ) where
   -- exits that were entered together are exits
-  pub entered-among : (front : List Entry) (serial : ℕ) (notes : List Note) (es : List Entry) (rs : List Reply)
-      → AreEntered may template number moment front serial (exits notes) es rs → exits_among es ≡ exits notes
+  entered-among : (front : List Entry) (serial : ℕ) (exits : List Exited) (es : List Entry) (rs : List Reply)
+      → AreEntered may template number moment front serial (operations_of exits) es rs → exits_among es ≡ operations_of exits
   entered-among front serial [] es rs done = ap exits_among done.0
   entered-among front serial (n ∷ ns) es rs (x, xs, ys, entries, replies, first, rest) =
       ap exits_among entries ∙ ap (λ p. exit_of p ++ exits_among xs) first.operation_is
-      ∙ ap (λ l. Exit n.number n.reason ∷ l) (entered-among (front ++ x ∷ []) (serial + 1) ns xs ys rest)
+      ∙ ap (λ l. Exit n.child.number n.reason ∷ l) (entered-among (front ++ x ∷ []) (serial + 1) ns xs ys rest)
 
-  pub entered-driven : (front : List Entry) (serial : ℕ) (notes : List Note) (es : List Entry) (rs : List Reply)
-      → AreEntered may template number moment front serial (exits notes) es rs → are_driven es ≡ true
+  entered-driven : (front : List Entry) (serial : ℕ) (exits : List Exited) (es : List Entry) (rs : List Reply)
+      → AreEntered may template number moment front serial (operations_of exits) es rs → are_driven es ≡ true
   entered-driven front serial [] es rs done = ap are_driven done.0
   entered-driven front serial (n ∷ ns) es rs (x, xs, ys, entries, replies, first, rest) =
       ap are_driven entries ∙ ap (λ p. is_driven p && are_driven xs) first.operation_is
       ∙ entered-driven (front ++ x ∷ []) (serial + 1) ns xs ys rest
 
--- a drain entered the exits of its notes
-pub entered_more : (may : Text → ℕ → Answer → Type 0) (template : Template) (press : Book) (before after : Knowledge) (moment : ℕ) (pairs : List (Note × Reply)) (ticket : Option Told) (was now : List Note)
-    → IsEntered may template press before after moment pairs ticket → now ≡ was ++ notes_of pairs
-    → exits_among before.calls ≡ exits was → exits_among after.calls ≡ exits now
-entered_more may template press before after moment pairs None was now e n h =
-    ap exits_among e.1 ∙ h ∙ ap exits (sym (append-nil was)) ∙ ap (λ l. exits (was ++ notes_of l)) (sym e.0) ∙ ap exits (sym n)
-entered_more may template press before after moment pairs (Some told) was now e n h =
-    ap (λ (k : Knowledge). exits_among k.calls) e.after_is
-    ∙ among-append before.calls e.entries
-    ∙ ap (λ l. l ++ exits_among e.entries) h
-    ∙ ap (λ l. exits was ++ l) (entered-among may template before.number moment e.front (length before.calls) (notes_of pairs) e.entries (replies_of pairs) e.entered)
-    ∙ sym (exits-append was (notes_of pairs))
-    ∙ ap exits (sym n)
+each_restarted : (exits : List Exited) (replies : List Reply) → length replies ≡ length exits → each_of number_restarted (operations_of exits) replies ≡ restarted_among replies
+each_restarted [] [] e = refl
+each_restarted [] (r ∷ rs) e = absurd (omega (arith, e))
+each_restarted (x ∷ xs) [] e = refl
+each_restarted (x ∷ xs) (r ∷ rs) e = ap (λ l. restarted_as r ++ l) (each_restarted xs rs (omega (arith, e)))
 
-pub driven_more : (may : Text → ℕ → Answer → Type 0) (template : Template) (press : Book) (before after : Knowledge) (moment : ℕ) (pairs : List (Note × Reply)) (ticket : Option Told)
-    → IsEntered may template press before after moment pairs ticket
-    → are_driven before.calls ≡ true → are_driven after.calls ≡ true
-driven_more may template press before after moment pairs None e h = ap are_driven e.1 ∙ h
-driven_more may template press before after moment pairs (Some told) e h =
-    ap (λ (k : Knowledge). are_driven k.calls) e.after_is
-    ∙ driven-append before.calls e.entries
-    ∙ both (are_driven before.calls) (are_driven e.entries) h
-    (entered-driven may template before.number moment e.front (length before.calls) (notes_of pairs) e.entries (replies_of pairs) e.entered)
+operations-take : (k : ℕ) (xs : List Exited) → take k (operations_of xs) ≡ operations_of (take k xs)
+operations-take zero xs = refl
+operations-take (suc k) [] = refl
+operations-take (suc k) (x ∷ xs) = ap (λ l. Exit x.child.number x.reason ∷ l) (operations-take k xs)
 
--- whatever a drain answered
+pub take-length : {A : Type 0} (k : ℕ) (xs : List A) → k ≤ length xs → length (take k xs) ≡ k
+take-length zero xs h = refl
+take-length (suc k) [] h = absurd (omega (arith, h))
+take-length (suc k) (x ∷ xs) h = ap suc (take-length k xs (omega (arith, h)))
+
+-- a result that is no error
+pub not_err : {A B : Type 0} (r : Result A B) (P : Type 0) → is_err r ≡ false → OnOk r P → P
+not_err (Ok a) P e h = h
+not_err (Err b) P e h = absurd (true≢false e)
+
+take-le : {A : Type 0} (k : ℕ) (xs : List A) → length (take k xs) ≤ length xs
+take-le zero xs = omega arith
+take-le (suc k) [] = omega arith
+take-le (suc k) (x ∷ xs) = let h = take-le k xs in omega (arith, h)
+
+take-within : (j k : ℕ) (xs : List Exited) → j ≤ k → take j (take k xs) ≡ take j xs
+take-within zero k xs h = refl
+take-within (suc j) zero xs h = absurd (omega (arith, h))
+take-within (suc j) (suc k) [] h = refl
+take-within (suc j) (suc k) (x ∷ xs) h = ap (λ l. x ∷ l) (take-within j k xs (omega (arith, h)))
+
+-- ---- one batch more
+
+-- nothing was entered
+pub entered_none : (template : Template) (before after : Knowledge) (held : List Exited) (k : ℕ) (replies : List Reply) → IsPrefix before.front after.front → k ≡ 0 → replies ≡ [] → after.calls ≡ before.calls → after.number ≡ before.number
+    → HasEntered template before after (take k held) replies
+entered_none template before after held k replies more n r calls number =
+    record {
+      front = more;
+      exits_are = ap exits_among calls ∙ sym (append-nil (exits_among before.calls)) ∙ ap (λ j. exits_among before.calls ++ operations_of (take j held)) (sym n);
+      driven = λ h. ap are_driven calls ∙ h;
+      restarted = λ numbers h. subst (HasReplies number_restarted template after) (sym (append-nil numbers) ∙ ap (λ l. numbers ++ restarted_among l) (sym r)) (seen_more number_restarted template before after numbers h more calls number);
+    }
+
 module _ (may : Text → ℕ → Answer → Type 0) (template : Template) (press : Book) (before after : Knowledge) (moment : ℕ) where
-  pub exits_drained : (was now : List Note) (r : Result Drained DrainFault)
-      → IfOk r (λ d. IsEntered may template press before after moment d.pairs.items d.ticket)
-      → IfErr r (λ e. IsEntered may template press before after moment e.done.pairs.items e.done.ticket)
-      → IfOk r (λ d. now ≡ was ++ notes_of d.pairs.items) → IfErr r (λ e. now ≡ was ++ notes_of e.done.pairs.items)
-      → exits_among before.calls ≡ exits was → exits_among after.calls ≡ exits now
-  exits_drained was now (Ok d) ok err all part h = entered_more may template press before after moment d.pairs.items d.ticket was now ok all h
-  exits_drained was now (Err e) ok err all part h = entered_more may template press before after moment e.done.pairs.items e.done.ticket was now err part h
+  -- these exits, each with its reply
+  entered_all : (exits : List Exited) (operations : List Operation) (replies : List Reply) (told : Told) → IsPrefix before.front after.front → operations ≡ operations_of exits
+      → IsApplied may template press before operations moment after replies told → HasEntered template before after exits replies
+  entered_all exits operations replies told more are e =
+      let entered = subst (λ o. AreEntered may template before.number moment e.front (length before.calls) o e.entries replies) are e.entered in
+      let n = entered-replies may template before.number moment e.front (length before.calls) (operations_of exits) e.entries replies entered ∙ operations-length exits in
+      record {
+        front = more;
+        exits_are =
+            ap (λ (k : Knowledge). exits_among k.calls) e.after_is ∙ among-append before.calls e.entries
+            ∙ ap (λ l. exits_among before.calls ++ l) (entered-among may template before.number moment e.front (length before.calls) exits e.entries replies entered);
+        driven = λ h.
+            ap (λ (k : Knowledge). are_driven k.calls) e.after_is ∙ driven-append before.calls e.entries
+            ∙ both (are_driven before.calls) (are_driven e.entries) h (entered-driven may template before.number moment e.front (length before.calls) exits e.entries replies entered);
+        restarted = λ numbers h.
+            subst (λ l. HasReplies number_restarted template after (numbers ++ l)) (ap (λ o. each_of number_restarted o replies) are ∙ each_restarted exits replies n)
+            (applied number_restarted may template press before numbers operations moment after replies told h e);
+      }
 
-  pub driven_drained : (r : Result Drained DrainFault)
-      → IfOk r (λ d. IsEntered may template press before after moment d.pairs.items d.ticket)
-      → IfErr r (λ e. IsEntered may template press before after moment e.done.pairs.items e.done.ticket)
-      → are_driven before.calls ≡ true → are_driven after.calls ≡ true
-  driven_drained (Ok d) ok err h = driven_more may template press before after moment d.pairs.items d.ticket ok h
-  driven_drained (Err e) ok err h = driven_more may template press before after moment e.done.pairs.items e.done.ticket err h
+  pub applied-length : (operations : List Operation) (replies : List Reply) (told : Told) → IsApplied may template press before operations moment after replies told → length replies ≡ length operations
+  applied-length operations replies told e = entered-replies may template before.number moment e.front (length before.calls) operations e.entries replies e.entered
 
--- one call more, which is no exit
+  -- all of the first exits
+  pub entered_ok : (held : List Exited) (count k : ℕ) (operations : List Operation) (replies : List Reply) (told : Told) → IsPrefix before.front after.front → operations ≡ operations_of (take count held) → k ≡ count
+      → IsApplied may template press before operations moment after replies told → HasEntered template before after (take k held) replies
+  entered_ok held count k operations replies told more are n e = entered_all (take k held) operations replies told more (are ∙ ap (λ j. operations_of (take j held)) (sym n)) e
+
+  -- some of them, or none
+  pub entered_part : (held : List Exited) (count k : ℕ) (operations : List Operation) (replies : List Reply) (ticket : Option Told) → IsPrefix before.front after.front → operations ≡ operations_of (take count held) → k ≡ length replies
+      → k ≤ count → IfSome ticket (λ t. IsApplied may template press before (take (length replies) operations) moment after replies t × (0 < length replies))
+      → IfNone ticket ((replies ≡ []) × (after.calls ≡ before.calls) × (after.number ≡ before.number)) → HasEntered template before after (take k held) replies
+  entered_part held count k operations replies None more are n low some none = entered_none template before after held k replies more (n ∙ ap length none.0) none.0 none.1 none.2
+  entered_part held count k operations replies (Some t) more are n low some none =
+      let first : take (length replies) operations ≡ operations_of (take k held) =
+      ap (λ j. take j operations) (sym n) ∙ ap (take k) are ∙ operations-take k (take count held) ∙ ap operations_of (take-within k count held low) in
+      entered_all (take k held) (take (length replies) operations) replies t more first some.0
+
+  -- no more replies than operations
+  pub part-length : (operations : List Operation) (replies : List Reply) (ticket : Option Told)
+      → IfSome ticket (λ t. IsApplied may template press before (take (length replies) operations) moment after replies t × (0 < length replies))
+      → IfNone ticket ((replies ≡ []) × (after.calls ≡ before.calls) × (after.number ≡ before.number)) → length replies ≤ length operations
+  part-length operations replies None some none = let e = ap (λ (l : List Reply). length l) none.0 in omega (arith, e)
+  part-length operations replies (Some t) some none =
+      let n = applied-length (take (length replies) operations) replies t some.0 in
+      let le = take-le (length replies) operations in
+      omega (arith, n, le)
+
+-- ---- one call more, which is no exit
+
 pub same_exits : (before after : List Entry) (e : Entry) (was : List Operation) → after ≡ before ++ e ∷ [] → exit_of e.operation ≡ [] → exits_among before ≡ was → exits_among after ≡ was
 same_exits before after e was a x h =
     ap exits_among a ∙ among-append before (e ∷ []) ∙ ap (λ l. exits_among before ++ (l ++ [])) x ∙ append-nil (exits_among before) ∙ h
@@ -127,27 +192,43 @@ module _ (may : Text → ℕ → Answer → Type 0) (template : Template) (press
       driven_one before.calls after.calls is.ok.entry (ap (λ (k : Knowledge). k.calls) is.ok.after_is) (ap is_driven is.ok.entered.operation_is ∙ x) h
   driven_called (Err e) x is h = ap are_driven is.calls.0 ∙ h
 
-notes-length : (pairs : List (Note × Reply)) → length (notes_of pairs) ≡ length pairs
-notes-length [] = refl
-notes-length (p ∷ ps) = ap suc (notes-length ps)
+-- ---- what was paid
 
-exits-length : (notes : List Note) → length (exits notes) ≡ length notes
-exits-length [] = refl
-exits-length (n ∷ ns) = ap suc (exits-length ns)
+told-again : (told rest : List Exited) → told_by (operations_of (told ++ rest)) (children_of told) ≡ told
+told-again [] [] = refl
+told-again [] (x ∷ xs) = refl
+told-again (t ∷ ts) rest = ap (λ l. t ∷ l) (told-again ts rest)
 
--- the count grows by what a drain entered
-pub counted_drained : (was now : List Note) (r : Result Drained DrainFault) (count more next : ℕ)
-    → IfOk r (λ d. now ≡ was ++ notes_of d.pairs.items) → IfErr r (λ e. now ≡ was ++ notes_of e.done.pairs.items)
-    → MatchResult r (λ d. more ≡ length d.pairs.items) (λ e. more ≡ length e.done.pairs.items)
-    → count ≡ length was → next ≡ count + more → next ≡ length now
-counted_drained was now (Ok d) count more next all part m h n =
-    let a = length-append was (notes_of d.pairs.items) in let b = notes-length d.pairs.items in let e = ap (λ l. length l) all in omega (arith, m, h, n, a, b, e)
-counted_drained was now (Err f) count more next all part m h n =
-    let a = length-append was (notes_of f.done.pairs.items) in let b = notes-length f.done.pairs.items in let e = ap (λ l. length l) part in omega (arith, m, h, n, a, b, e)
+-- whichever exits are told
+led_by : (may_end : Reason → Bool) (calls : List Entry) (paid : List Child) (unpaid told : List Exited) → HasTold may_end calls paid unpaid told → IsLed may_end calls paid unpaid
+led_by may_end calls paid unpaid told h =
+    let same : told_by (exits_among calls) paid ≡ told = (λ i. told_by (h.0 i) (h.1 i)) ∙ told-again told unpaid in
+    subst (HasTold may_end calls paid unpaid) (sym same) h
 
--- the count is that of the exits
-pub counts_exits : (calls : List Entry) (entered : List Note) (count : ℕ) → exits_among calls ≡ exits entered → count ≡ length entered → count ≡ length (exits_among calls)
-counts_exits calls entered count e h = h ∙ sym (exits-length entered) ∙ ap (λ l. length l) (sym e)
+-- a batch was entered, and is to be paid
+pub led_entered : (may_end : Reason → Bool) (before after : List Entry) (paid : List Child) (exits : List Exited) → exits_among after ≡ exits_among before ++ operations_of exits → IsLed may_end before paid [] → IsLed may_end after paid exits
+led_entered may_end before after paid exits e h =
+    let told = told_by (exits_among before) paid in
+    led_by may_end after paid exits told (e ∙ ap (λ l. l ++ operations_of exits) (h.0 ∙ ap operations_of (append-nil told)) ∙ sym (operations_of-append told exits), h.1, h.2)
+
+-- the first of these is paid
+pub led_paid : (may_end : Reason → Bool) (before calls : List Entry) (was paid : List Child) (held rest : List Exited) (exit : Exited) (k j : ℕ) → calls ≡ before → held ≡ exit ∷ rest → k ≡ j + 1 → paid ≡ was ++ exit.child ∷ []
+    → is_ending may_end exit.reason ≡ true → IsLed may_end before was (take k held) → IsLed may_end calls paid (take j rest)
+led_paid may_end before calls was paid held rest exit k j same f n p ending h =
+    let told = told_by (exits_among before) was in
+    let next : k ≡ suc j = omega (arith, n) in
+    let first : take k held ≡ exit ∷ take j rest = (λ i. take (next i) (f i)) in
+    led_by may_end calls paid (take j rest) (told ++ exit ∷ []) (
+      ap exits_among same ∙ h.0 ∙ ap (λ l. operations_of (told ++ l)) first ∙ ap operations_of (sym (append_assoc told (exit ∷ []) (take j rest))),
+      p ∙ ap (λ l. l ++ exit.child ∷ []) h.1 ∙ sym (children_of-append told (exit ∷ [])),
+      All-push (λ (e : Exited). is_ending may_end e.reason ≡ true) told exit h.2 ending,
+    )
+
+pub led_same : (may_end : Reason → Bool) (before after : List Entry) (paid : List Child) → exits_among after ≡ exits_among before → IsLed may_end before paid [] → IsLed may_end after paid []
+led_same may_end before after paid e h = led_by may_end after paid [] (told_by (exits_among before) paid) (e ∙ h.0, h.1, h.2)
+
+pub led_none : (may_end : Reason → Bool) (calls : List Entry) (paid : List Child) → calls ≡ [] → paid ≡ [] → IsLed may_end calls paid []
+led_none may_end calls paid c p = led_by may_end calls paid [] [] (ap exits_among c, p, λ k d low. absurd (omega (arith, low)))
 
 -- ---- the children that were restarted
 
@@ -159,44 +240,9 @@ numbers_of-append (x ∷ xs) ys = ap (λ l. x.number ∷ l) (numbers_of-append x
 pub numbers_shown : (now was : List Child) (c : Child) → now ≡ was ++ c ∷ [] → numbers_of now ≡ numbers_of was ++ c.number ∷ []
 numbers_shown now was c n = ap numbers_of n ∙ numbers_of-append was (c ∷ [])
 
-restarted_snoc : (ps : List (Note × Reply)) (p : Note × Reply) → restarted_among (ps ++ p ∷ []) ≡ restarted_among ps ++ restarted_as p.1
-restarted_snoc [] p = append-nil (restarted_as p.1)
-restarted_snoc (q ∷ ps) p = ap (λ l. restarted_as q.1 ++ l) (restarted_snoc ps p) ∙ sym (append_assoc (restarted_as q.1) (restarted_among ps) (restarted_as p.1))
-
--- the child of one exit more
-restarted_more : (pairs : List (Note × Reply)) (k : ℕ) (p : Note × Reply) → k < length pairs → p ≡ get_or pairs k p → restarted_among (take (k + 1) pairs) ≡ restarted_among (take k pairs) ++ restarted_as p.1
-restarted_more pairs k p low is = ap restarted_among (next_of k pairs p low is) ∙ restarted_snoc (take k pairs) p
-
-pub restarted_one_more : (pairs : List (Note × Reply)) (k : ℕ) (p : Note × Reply) (now then was : List ℕ) → k < length pairs → p ≡ get_or pairs k p → then ≡ was ++ restarted_among (take k pairs) → now ≡ then ++ restarted_as p.1
-    → now ≡ was ++ restarted_among (take (k + 1) pairs)
-restarted_one_more pairs k p now then was low is t n =
-    n ∙ ap (λ l. l ++ restarted_as p.1) t ∙ append_assoc was (restarted_among (take k pairs)) (restarted_as p.1) ∙ ap (λ l. was ++ l) (sym (restarted_more pairs k p low is))
-
-each_restarted : (pairs : List (Note × Reply)) → each_of number_restarted (exits (notes_of pairs)) (replies_of pairs) ≡ restarted_among pairs
-each_restarted [] = refl
-each_restarted (p ∷ ps) = ap (λ l. restarted_as p.1 ++ l) (each_restarted ps)
-
-module _ (may : Text → ℕ → Answer → Type 0) (template : Template) (press : Book) (before after : Knowledge) (moment : ℕ) where
-  restarted_entered : (pairs : List (Note × Reply)) (ticket : Option Told) (was : List ℕ) → IsEntered may template press before after moment pairs ticket → IsPrefix before.front after.front
-      → HasReplies number_restarted template before was → HasReplies number_restarted template after (was ++ restarted_among pairs)
-  restarted_entered pairs None was e more h =
-      subst (HasReplies number_restarted template after) (sym (append-nil was) ∙ ap (λ l. was ++ restarted_among l) (sym e.0)) (seen_more number_restarted template before after was h more e.1 e.2)
-  restarted_entered pairs (Some told) was e more h =
-      subst (λ l. HasReplies number_restarted template after (was ++ l)) (each_restarted pairs)
-      (applied number_restarted may template press before was (exits (notes_of pairs)) moment after (replies_of pairs) told h e)
-
-  -- whatever a drain answered
-  pub restarted_drained : (pairs : List (Note × Reply)) (was : List ℕ) (r : Result Drained DrainFault) → MatchResult r (λ d. pairs ≡ d.pairs.items) (λ e. pairs ≡ e.done.pairs.items)
-      → IfOk r (λ d. IsEntered may template press before after moment d.pairs.items d.ticket) → IfErr r (λ e. IsEntered may template press before after moment e.done.pairs.items e.done.ticket) → IsPrefix before.front after.front
-      → HasReplies number_restarted template before was → HasReplies number_restarted template after (was ++ restarted_among pairs)
-  restarted_drained pairs was (Ok d) is ok err more h = subst (λ l. HasReplies number_restarted template after (was ++ restarted_among l)) (sym is) (restarted_entered d.pairs.items d.ticket was ok more h)
-  restarted_drained pairs was (Err e) is ok err more h = subst (λ l. HasReplies number_restarted template after (was ++ restarted_among l)) (sym is) (restarted_entered e.done.pairs.items e.done.ticket was err more h)
-
--- how many notes a drain entered
-pub counted_pairs : (pairs : List (Note × Reply)) (r : Result Drained DrainFault) (count : ℕ) → MatchResult r (λ d. pairs ≡ d.pairs.items) (λ e. pairs ≡ e.done.pairs.items) → count ≡ length pairs
-    → MatchResult r (λ d. count ≡ length d.pairs.items) (λ e. count ≡ length e.done.pairs.items)
-counted_pairs pairs (Ok d) count is n = n ∙ ap length is
-counted_pairs pairs (Err e) count is n = n ∙ ap length is
+-- the reply to one exit more
+pub shown_more : (now was all : List ℕ) (replies rest : List Reply) (reply : Reply) → replies ≡ reply ∷ rest → now ≡ was ++ restarted_as reply → was ++ restarted_among replies ≡ all → now ++ restarted_among rest ≡ all
+shown_more now was all replies rest reply r n e = ap (λ l. l ++ restarted_among rest) n ∙ append_assoc was (restarted_as reply) (restarted_among rest) ∙ ap (λ l. was ++ restarted_among l) (sym r) ∙ e
 
 -- and the numbers that a witness shows
 pub restarted_shown : (template : Template) (before after : Knowledge) (was now : List ℕ) → HasReplies number_restarted template before was → IsPrefix before.front after.front → after.calls ≡ before.calls → after.number ≡ before.number → now ≡ was

@@ -1,11 +1,24 @@
 -- What the driver of a crew enters.
-use Rattle.std.specs.Prelude.{◌≡◌, All, Bool, true, false, ◌&&◌, List, [], ◌∷◌, ◌++◌}
+use Rattle.std.specs.Prelude.{◌≡◌, ℕ, All, Bool, true, false, ◌&&◌, List, [], ◌∷◌, ◌++◌}
 use Rattle.sup_types.specs.declared.reason.Reason.{Reason}
 use Rattle.sup_types.specs.declared.history.Operation.{Operation}
 use Rattle.sup_types.specs.declared.history.Operation.TheVariants.{Start, Terminate, Exit}
 use Rattle.sup_types.specs.declared.history.Entry.{Entry}
-use Rattle.sup_crew.specs.Exits.{exit_of}
-use Rattle.sup_yard.specs.Endings.{is_ending}
+use Rattle.sup_types.specs.declared.history.Reply.{Reply}
+use Rattle.sup_types.specs.declared.template.Template.{Template}
+use Rattle.sup_desk.specs.Knowledge.{Knowledge}
+use mathlib.Core.List.{IsPrefix}
+use Rattle.sup_ledger.specs.declared.child.Child.{Child}
+use Rattle.sup_ledger.specs.declared.exit.Exit.{Exit as Exited}
+use Rattle.sup_ledger.specs.Endings.{is_ending, AreEndings}
+use Rattle.sup_ledger.specs.Exits.{children_of, operations_of}
+use Rattle.sup_yard.specs.Starts.{HasReplies}
+use Rattle.sup_driver.specs.Restarts.{number_restarted, restarted_among}
+
+-- the operation, if it is an exit
+abbrev pub exit_of : Operation → List Operation
+exit_of (Exit number reason) = Exit number reason ∷ []
+exit_of _ = []
 
 -- the exits among the entries
 abbrev pub exits_among : List Entry → List Operation
@@ -30,3 +43,29 @@ IsExitEnding may_end _ = ⊥
 -- each of these is
 abbrev pub AreExitsEnding : (Reason → Bool) → List Operation → Type 0
 AreExitsEnding may_end operations = All (IsExitEnding may_end) operations
+
+-- the exit of a child, as this operation enters it
+abbrev pub told_as : Child → Operation → List Exited → List Exited
+told_as child (Exit number reason) rest = record { child = child; reason = reason } ∷ rest
+told_as child _ rest = rest
+
+-- the exits of these children, as these operations enter them
+abbrev pub told_by : List Operation → List Child → List Exited
+told_by operations [] = []
+told_by [] (c ∷ cs) = []
+told_by (o ∷ os) (c ∷ cs) = told_as c o (told_by os cs)
+
+-- the exits among these calls are those that are told, whose children were paid, and then those that are to be paid; and each that is
+-- told has a reason that a crew may tell
+abbrev pub HasTold : (Reason → Bool) → List Entry → List Child → List Exited → List Exited → Type 0
+HasTold may_end calls paid unpaid told = (exits_among calls ≡ operations_of (told ++ unpaid)) × (paid ≡ children_of told) × AreEndings may_end told
+
+abbrev pub IsLed : (Reason → Bool) → List Entry → List Child → List Exited → Type 0
+IsLed may_end calls paid unpaid = HasTold may_end calls paid unpaid (told_by (exits_among calls) paid)
+
+-- These exits were entered: they are the only ones among the calls that were made, and so are the restarts by the replies
+pub record HasEntered (template : Template) (before after : Knowledge) (exits : List Exited) (replies : List Reply) : Type 0 where
+  pub front : IsPrefix before.front after.front
+  pub exits_are : exits_among after.calls ≡ exits_among before.calls ++ operations_of exits
+  pub driven : are_driven before.calls ≡ true → are_driven after.calls ≡ true
+  pub restarted : (numbers : List ℕ) → HasReplies number_restarted template before numbers → HasReplies number_restarted template after (numbers ++ restarted_among replies)

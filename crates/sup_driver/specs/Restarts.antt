@@ -4,7 +4,6 @@ use Rattle.sup_types.specs.declared.history.Operation.{Operation}
 use Rattle.sup_types.specs.declared.history.Operation.TheVariants.{Stop}
 use Rattle.sup_types.specs.declared.history.Reply.{Reply}
 use Rattle.sup_types.specs.declared.history.Reply.TheVariants.{Restarted}
-use Rattle.sup_inbox.specs.declared.note.Note.{Note}
 use Rattle.sup_ledger.specs.declared.child.Child.{Child}
 
 -- the number of the child that was made by a restart, if one was
@@ -18,9 +17,9 @@ number_restarted Stop reply = []
 number_restarted _ reply = restarted_as reply
 
 -- the numbers of those that were made by these replies
-abbrev pub restarted_among : List (Note × Reply) → List ℕ
+abbrev pub restarted_among : List Reply → List ℕ
 restarted_among [] = []
-restarted_among (p ∷ ps) = restarted_as p.1 ++ restarted_among ps
+restarted_among (r ∷ rs) = restarted_as r ++ restarted_among rs
 
 abbrev pub numbers_of : List Child → List ℕ
 numbers_of [] = []

@@ -12,3 +12,4 @@ pub mod OneCommand
 pub mod Firsts
 pub mod WholeLines
 pub mod ReadAgain
+pub mod Streams

@@ -21,7 +21,7 @@ IsTextFault fault.ReadFault = ⊥
 IsTextFault fault.WriteFault = ⊥
 IsTextFault fault.TooLong = ⊥
 
--- what the answering of lines can have: a fault of writing only where the writer refused
+-- what the answering of lines can have: a fault of writing only if the writer refused
 abbrev pub HasLineCause : Bool → Fault → Type 0
 HasLineCause has_refused fault.OutOfMemory = Unit {0}
 HasLineCause has_refused fault.BadTemplate = Unit {0}
@@ -39,8 +39,8 @@ HasReadCause has_failed given fault.ReadFault = has_failed ≡ true
 HasReadCause has_failed given fault.WriteFault = ⊥
 HasReadCause has_failed given fault.TooLong = 16777216 < given
 
--- what a run can have: a fault of reading only where the reader failed, one of writing only where the writer refused, and
--- too long a text only where more than 2^24 bytes came
+-- what a run can have: a fault of reading only if the reader failed, one of writing only if the writer refused, and
+-- too long a text only if more than 2^24 bytes came
 abbrev pub HasCause : Bool → ℕ → Bool → Fault → Type 0
 HasCause has_failed given has_refused fault.OutOfMemory = Unit {0}
 HasCause has_failed given has_refused fault.BadTemplate = Unit {0}

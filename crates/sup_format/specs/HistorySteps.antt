@@ -1,4 +1,4 @@
--- How the reading of a history text goes on, line after line.
+-- How the reading of a history text continues, line after line.
 use Rattle.std.proofs.Common.{◌≡◌, ℕ, ◌+◌, ◌<◌, ◌≤◌, List, [], ◌∷◌, ◌++◌, length, refl, sym, ap, subst, ◌∙◌, append_assoc, append-nil, arith}
 use Rattle.std.proofs.lemmas.List.{length-append}
 use Rattle.sup_types.specs.declared.template.Template.{Template}
@@ -70,11 +70,11 @@ module _ (text rest : List ℕ) (template : Template) (entries : List Entry) (nu
         record { first = r.first; body = r.body; lines = ap lines_of same ∙ r.lines; ended = subst IsFull (sym same) r.full; first_is = r.first_is; entries_are = r.entries_are }
     whole (x ∷ xs) n e = absurd (omega arith)
 
-  -- the lines of the text are those that were read, and those that are left
+  -- the lines of the text are those that were read, and the remaining ones
   pub lines_left : lines_of text ≡ (r.first ∷ r.body) ++ lines_of rest
   lines_left = ap lines_of r.parts ∙ lines-append r.done rest r.full ∙ ap (λ (l : List (List ℕ)). l ++ lines_of rest) r.lines
 
-  -- no more is left than there was
+  -- no more remains than there was
   pub rest_short : length rest ≤ length text
   rest_short = let whole = ap length r.parts in omega (arith, whole, length-append r.done rest)
 

@@ -6,3 +6,4 @@ pub mod LineLaws
 pub mod ReadingLaws
 pub mod HistoryLaws
 pub mod HistorySteps
+pub mod StreamLaws

@@ -27,7 +27,7 @@ pub lines-none : (text : List ℕ) → length text ≡ 0 → lines_of text ≡ [
 lines-none [] none = refl
 lines-none (x ∷ xs) none = absurd (omega arith)
 
--- ---- lines of a text that goes on
+-- ---- lines of a text that continues
 
 onto_more : (b : ℕ) (xs ys : List (List ℕ)) → 0 < length xs → onto_first b (xs ++ ys) ≡ onto_first b xs ++ ys
 onto_more b [] ys some = absurd (omega arith)
@@ -64,7 +64,7 @@ full_is xs some full =
 lines_full : (xs ys : List ℕ) → 0 < length xs → IsFull xs → lines_of (xs ++ ys) ≡ lines_of xs ++ lines_of ys
 lines_full xs ys some full = let e = full_is xs some full in rw (ap (λ (l : List ℕ). lines_of (l ++ ys)) e, ap lines_of e) (lines_snoc (take (length xs - 1) xs) ys)
 
--- behind a text that is empty or ends with a line feed the lines go on
+-- after a text that is empty or ends with a line feed the lines continue
 pub lines-append : (xs ys : List ℕ) → IsFull xs → lines_of (xs ++ ys) ≡ lines_of xs ++ lines_of ys
 lines-append [] ys full = refl
 lines-append (x ∷ xs) ys full = lines_full (x ∷ xs) ys (omega arith) full
@@ -83,7 +83,7 @@ full_on xs (y ∷ ys) f g = full-append xs (y ∷ ys) (omega arith) g
 pub full-both : (xs ys : List ℕ) → IsFull xs → IsFull ys → IsFull (xs ++ ys)
 full-both xs ys f g = full_on xs ys f g
 
--- what ends such a text is one, too
+-- what ends such a text is one as well
 pub full-right : (xs ys : List ℕ) → IsFull (xs ++ ys) → IsFull ys
 full-right xs ys full = λ some.
     let len = length-append xs ys in

@@ -6,3 +6,4 @@ pub mod Headers
 pub mod Texts
 pub mod History
 pub mod HistoryReading
+pub mod Streams

@@ -7,7 +7,7 @@ use std::alloc::AllocError;
 use sup_types::{BadTemplate, OutOfMemory};
 use thiserror::Error;
 
-/// What is wrong.
+/// Says what is wrong with a text, or what failed while it was answered.
 #[derive(Clone, Copy, Debug, PartialEq, Eq, Error)]
 pub enum Fault {
     #[error("out of memory")]
@@ -18,20 +18,20 @@ pub enum Fault {
     #[error("a line that the format does not have")]
     BadLine,
     /// The reader answered an error.
-    #[error("the reader failed")]
+    #[error("the input could not be read")]
     ReadFault,
     /// The writer answered an error, or took nothing of bytes that were not empty.
-    #[error("the writer failed")]
+    #[error("the output could not be written")]
     WriteFault,
     /// More than 16,777,216 bytes came.
-    #[error("the text is too long")]
+    #[error("the input is too long")]
     TooLong,
 }
 
 impl Fault {
     ghost use Rattle.sup_format.specs.Faults.{fault_number};
 
-    /// The number of the fault: 1, 7, 9, 10, 11 or 12, in the order of the variants.
+    /// Returns the number of the fault: 1, 7, 9, 10, 11 or 12, in the order of the variants.
     pub fn number(self) -> u8
         ensures { result ≡ fault_number self }
     {
@@ -70,7 +70,7 @@ impl From<BadTemplate> for Fault {
     }
 }
 
-/// What stopped the answering of a text, and the number of the line in which it stands, from 1 on.
+/// Says what stopped the answering of a text, and in which line, from 1 on.
 #[derive(Clone, Copy, Debug, PartialEq, Eq, Error)]
 #[error("fault {} line {}", .fault.number(), .line)]
 pub struct ScriptFault {
@@ -81,7 +81,7 @@ pub struct ScriptFault {
 impl ScriptFault {
     ghost use Rattle.sup_format.specs.Faults.{fault_number};
 
-    /// The number of the fault.
+    /// Returns the number of the fault.
     pub fn number(&self) -> u8
         ensures { result ≡ fault_number self.now.fault }
     {

@@ -1,15 +1,15 @@
 //! The formats of scripts and histories: bytes to values and back, and no supervisor.
 //!
-//! A script is a header, which gives the template, and a line for each command: `read_header` and `read_line` read them. A
-//! history text is a template and the entries of a history, with what the start function answered to each. `read_history`
-//! reads one, and `write_history` writes one. One is read line after line by `begin_history` and `next_entry`, where its entries
-//! need not be kept, and written by `append_header` and `append_entry`. `write_reply` writes the text of a reply. `sup_script`
-//! runs whole texts by these, and passes on what its callers need.
+//! A script is a header, which gives the template, and a line for each command: `read_header` and `read_line` read them. A history
+//! text is a template and the entries of a history, with what the start function answered to each. `read_history` reads a whole
+//! one, and `begin_history` and `next_entry` read one line by line; `write_history`, or `append_header` and `append_entry`, write
+//! one. An [`EntryReader`] reads one of any length from a stream. `write_reply` writes the text of a reply. `sup_script` runs whole
+//! texts by these.
 //!
-//! What the layer above may rely on are what lines mean (`LineMeans`, `Spells`) and the text of each reply
-//! (`Writing.Replies`). The reader and the writer are watched ones, which know what they refused; an [`Outbox`] tells which
-//! reply a failed write tore. `laws` has laws of the definitions alone: no header gives two templates and no line means two
-//! commands, and no history text spells two values, so what was written is read again.
+//! Callers may rely on what lines mean (`LineMeans`, `Spells`) and on the text of each reply (`Writing.Replies`). The reader and
+//! the writer are watched ones, which note what they refused; an [`Outbox`] says which reply a failed write tore. `laws` has laws
+//! of the definitions alone: no header gives two templates, no line means two commands, and no history text spells two values, so
+//! what was written is read again.
 //!
 //! ```text
 //! let command = read_line(b"start 0 a").unwrap();
@@ -27,6 +27,7 @@ mod write;
 
 pub use fault::{Fault, ScriptFault};
 pub use read::command::{Command, read_line};
+pub use read::entries::EntryReader;
 pub use read::header::read_header;
 pub use read::history::{
     History, HistoryFault, begin_history, check_entries, next_entry, read_history,

@@ -1,23 +1,23 @@
 //! A reader and a writer with what they refused, so that a contract can name the cause of a fault.
 //!
-//! The fields are private. So a function that is lent one can't say that it failed: only a read or a write that was
-//! refused says so, of this reader and of this writer.
+//! The fields are private, so no function that is lent one can note a failure: only a read or a write that was refused does.
 
 ghost use Rattle.std.specs.Prelude.{◌≡◌, ◌+◌, ◌<◌, ◌≤◌, ◌^◌, true, false, take, length, MatchOption, OnErr};
 ghost use Rattle.std.specs.Io.KnownBytes.{Appends, Consumes, IsAtEnd, Keeps};
 ghost use Rattle.sup_format.specs.Writing.Sent.{IsSent};
 
-use std::io::{Read, Write};
+use std::io::{ErrorKind, Read, Write};
 
-/// A writer, and whether it answered an error or took nothing of bytes that were not empty.
+/// Notes whether a writer answered an error, or took nothing of bytes that were not empty.
 #[derive(Debug, Drop)]
 pub struct WatchedWriter<W> {
     writer: W,
     has_refused: bool,
+    error: Option<ErrorKind>,
 }
 
 impl<W: Write> WatchedWriter<W> {
-    /// This writer, which refused nothing so far.
+    /// Returns this writer, which has refused nothing.
     pub fn new(writer: W) -> WatchedWriter<W>
         ensures writer { result.writer ≡ writer }
         ensures unrefused { result.has_refused ≡ false }
@@ -25,10 +25,11 @@ impl<W: Write> WatchedWriter<W> {
         WatchedWriter {
             writer,
             has_refused: false,
+            error: None,
         }
     }
 
-    /// Writes all of the bytes, or says how many of them the writer took before it refused.
+    /// Writes all of the bytes. The error is how many of them the writer took before it refused.
     pub fn send(&mut self, bytes: &[u8]) -> Result<(), usize>
         ensures sent { IsSent (W.contents self.old.writer) (W.contents self.new.writer) bytes.now result }
         ensures cause { OnErr result (self.new.has_refused ≡ true) }
@@ -43,7 +44,7 @@ impl<W: Write> WatchedWriter<W> {
         Ok(())
     }
 
-    /// Writes once: how many of the bytes the writer took, at least one, or None where it refused.
+    /// Writes once. Returns how many bytes the writer took, at least one, or None if it refused.
     fn write(&mut self, bytes: &[u8]) -> Option<usize>
         requires { 0 < length bytes.now }
         ensures { MatchOption result
@@ -53,22 +54,34 @@ impl<W: Write> WatchedWriter<W> {
             × Appends (W.contents self.old.writer) (W.contents self.new.writer) (take n bytes.now)) }
     {
         match self.writer.write(bytes) {
-            Ok(0) | Err(_) => {
+            Ok(0) => {
                 self.has_refused = true;
+                None
+            }
+            Err(error) => {
+                self.has_refused = true;
+                self.error = Some(error.kind());
                 None
             }
             Ok(count) => Some(count),
         }
     }
 
-    /// Whether the writer refused.
+    /// Returns whether the writer refused.
     pub fn has_refused(&self) -> bool
         ensures { result ≡ self.now.has_refused }
     {
         self.has_refused
     }
 
-    /// The writer.
+    /// Returns the kind of the last error that the writer answered.
+    pub fn error(&self) -> Option<ErrorKind>
+        ensures { result ≡ self.now.error }
+    {
+        self.error
+    }
+
+    /// Returns the writer.
     pub fn into_writer(self) -> W
         ensures { result ≡ self.writer }
     {
@@ -76,17 +89,18 @@ impl<W: Write> WatchedWriter<W> {
     }
 }
 
-/// A reader, and what it was asked: how often, how many bytes it gave, and whether it answered an error.
+/// Notes how often a reader was asked, how many bytes it gave, and whether it answered an error.
 #[derive(Debug, Drop)]
 pub struct WatchedReader<R> {
     reader: R,
     calls: u64,
     given: u64,
     has_failed: bool,
+    error: Option<ErrorKind>,
 }
 
 impl<R: Read> WatchedReader<R> {
-    /// This reader, which was asked nothing so far.
+    /// Returns this reader, which was asked nothing.
     pub fn new(reader: R) -> WatchedReader<R>
         ensures reader { result.reader ≡ reader }
         ensures calls { result.calls ≡ 0 }
@@ -98,10 +112,11 @@ impl<R: Read> WatchedReader<R> {
             calls: 0,
             given: 0,
             has_failed: false,
+            error: None,
         }
     }
 
-    /// Reads once: how many bytes the reader gave, none only at its end, or None where it failed.
+    /// Reads once. Returns how many bytes the reader gave, 0 only at its end, or None if it failed.
     pub fn read(&mut self, piece: &mut [u8]) -> Option<usize>
         requires calls { self.old.calls < 2 ^ 62 }
         requires given { self.old.given + length piece.old < 2 ^ 62 }
@@ -122,8 +137,8 @@ impl<R: Read> WatchedReader<R> {
         Some(count)
     }
 
-    /// Reads once more of a stream without an end, and counts neither the call nor the bytes: how many bytes the reader gave,
-    /// none only at its end, or None where it failed.
+    /// Reads once more of a stream of any length, and counts neither the call nor the bytes. Returns how many bytes the reader
+    /// gave, 0 only at its end, or None if it failed.
     pub fn read_on(&mut self, piece: &mut [u8]) -> Option<usize>
         requires room { 0 < length piece.old }
         ensures calls { (self.new.calls ≡ self.old.calls) × (self.new.given ≡ self.old.given) }
@@ -136,21 +151,36 @@ impl<R: Read> WatchedReader<R> {
     {
         match self.reader.read(piece) {
             Ok(count) => Some(count),
-            Err(_) => {
+            Err(error) => {
                 self.has_failed = true;
+                self.error = Some(error.kind());
                 None
             }
         }
     }
 
-    /// Whether the reader failed.
+    /// Returns whether the reader failed.
     pub fn has_failed(&self) -> bool
         ensures { result ≡ self.now.has_failed }
     {
         self.has_failed
     }
 
-    /// How many bytes the reader gave.
+    /// Returns the kind of the last error that the reader answered.
+    pub fn error(&self) -> Option<ErrorKind>
+        ensures { result ≡ self.now.error }
+    {
+        self.error
+    }
+
+    /// Returns the reader.
+    pub fn into_reader(self) -> R
+        ensures { result ≡ self.reader }
+    {
+        self.reader
+    }
+
+    /// Returns how many bytes the reader gave.
     pub fn given(&self) -> u64
         ensures { result ≡ self.now.given }
     {

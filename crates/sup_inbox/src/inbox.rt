@@ -11,7 +11,7 @@ use std::sync::Wait;
 use sup_types::{OutOfMemory, Reason, Text};
 use thiserror::Error;
 
-/// A bounded inbox of notes, shared by reference among its posters and its taker.
+/// Holds notes until they are taken, up to its capacity. Its posters and its taker share it by reference.
 #[derive(Drop)]
 pub struct Inbox<A: Allocator = Global> {
     pub(crate) queue: Queue<A>,
@@ -23,7 +23,7 @@ impl<A: Allocator> Model for Inbox<A> {
     ghost view = { λ i. record { id = i.queue.table.shared.table_id; capacity = i.queue.cap } };
 }
 
-/// The right to make the posters and the taker of an inbox, once.
+/// Gives the right to make the posters and the taker of an inbox, once.
 #[derive(Drop)]
 pub struct Root {
     pass: Place,
@@ -37,7 +37,7 @@ impl Model for Root {
     ghost invariant = { λ r. (r.pass.me.1 ≡ []) × (known_by r.pass ≡ root) };
 }
 
-/// One poster of an inbox. It may go to another thread.
+/// Posts notes to an inbox. It may go to another thread.
 #[derive(Drop)]
 pub struct Poster {
     pub(crate) pass: Place,
@@ -53,7 +53,7 @@ impl Model for Poster {
     ghost invariant = { λ p. (p.pass.me.1 ≡ []) × (known_by p.pass ≡ poster_view p.number (known_by p.pass).posted) × (p.count ≡ length (known_by p.pass).posted) };
 }
 
-/// The one taker of an inbox.
+/// Takes notes from an inbox, which has one taker.
 #[derive(Drop)]
 pub struct Taker {
     pub(crate) pass: Place,
@@ -67,7 +67,7 @@ impl Model for Taker {
     ghost invariant = { λ t. (t.pass.me.1 ≡ []) × (known_by t.pass ≡ taker_view (known_by t.pass).made (known_by t.pass).taken []) };
 }
 
-/// What was to be posted, where the inbox was full.
+/// Says that the inbox was full, and holds what was to be posted.
 #[derive(Clone, Debug, Drop, PartialEq, Eq, Error)]
 #[error("the inbox is full")]
 pub struct InboxFull {
@@ -80,7 +80,7 @@ pub struct InboxFull {
 }
 
 impl InboxFull {
-    /// The number of this fault, 8.
+    /// Returns the number of this fault, 8.
     pub fn number(&self) -> u8
         ensures { result ≡ 8 }
     {
@@ -89,8 +89,11 @@ impl InboxFull {
 }
 
 impl<A: Allocator + Clone> Inbox<A> {
-    /// An empty inbox for `capacity` notes, 1 to 65,536 of them, and the right to make its posters and its taker. It makes
-    /// room for all notes, and is refused only for want of memory.
+    /// Makes an empty inbox for `capacity` notes, 1 to 65,536 of them, and the right to make its posters and its taker.
+    /// It makes room for all notes.
+    ///
+    /// # Errors
+    /// `OutOfMemory` if there is no memory for that room.
     pub fn new(alloc: A, capacity: usize) -> Result<(Self, Root), OutOfMemory>
         requires { 1 ≤ capacity }
         ensures { IfOk result (λ r. (r.0.capacity ≡ capacity) × (r.1.inbox ≡ r.0.id)) }
@@ -101,22 +104,24 @@ impl<A: Allocator + Clone> Inbox<A> {
 }
 
 impl Poster {
-    /// The poster's number, from 1 on in the order of making.
+    /// Returns the poster's number, from 1 on in the order of making.
     pub fn number(&self) -> u64
         ensures { result ≡ self.now.number }
     {
         self.number
     }
 
-    /// How many notes it posted, which is the next note's serial.
+    /// Returns how many notes it posted, which is the next note's serial.
     pub fn serial(&self) -> u64
         ensures { result ≡ length self.now.posted }
     {
         self.count
     }
 
-    /// Posts the exit of a child, as the note with this poster's number and next serial. It is refused only where the inbox
-    /// was full at one moment of the call; then all comes back, and no serial is used.
+    /// Posts the exit of a child, as the note with this poster's number and next serial. It does not wait for room.
+    ///
+    /// # Errors
+    /// `InboxFull`, with what was to be posted, if the inbox was full at one moment of the call. No serial is used.
     pub fn post<R: Wait, A: Allocator>(
         &mut self,
         rt: &R,
@@ -131,7 +136,7 @@ impl Poster {
         ensures full { IfErr result (λ back. (back ≡ record { number = number; arg = arg; reason = reason }) × (self.new ≡ self.old)) }
     {
         if self.count == u64::MAX {
-            // No inbox takes so many notes: it waits for ever at a push long before.
+            // No inbox takes that many notes: it waits for ever at a push long before.
             for _ in rt.forever() {}
         }
         let note = Note {
@@ -156,7 +161,7 @@ impl Poster {
 }
 
 impl Taker {
-    /// Takes the oldest note. `None` only where the inbox was empty at one moment of the call.
+    /// Takes the oldest note. Returns `None` only if the inbox was empty at one moment of the call.
     pub fn take<R: Wait, A: Allocator>(&mut self, rt: &R, inbox: &Inbox<A>) -> Option<Note>
         requires { self.old.inbox ≡ inbox.now.id }
         ensures same { (self.new.inbox ≡ self.old.inbox) × (self.new.posters ≡ self.old.posters) }
@@ -167,8 +172,10 @@ impl Taker {
 }
 
 impl Root {
-    /// Makes the posters, numbered 1, 2, .., at most 1,024 of them, and the taker. The root is this inbox's. For want of
-    /// memory the root comes back as it was.
+    /// Makes the posters, numbered 1, 2, .., at most 1,024 of them, and the taker. The root is this inbox's.
+    ///
+    /// # Errors
+    /// The root, as it was, if there is no memory for the list of posters.
     pub fn split<A: Allocator, B: Allocator>(
         self,
         alloc: B,

@@ -1,8 +1,8 @@
 //! Exits on their way: a bounded inbox of exit notes, with any number of posters and one taker.
 //!
 //! What the layer above may rely on: nothing is lost, doubled or invented. A poster's notes carry its number and the
-//! serials 0, 1, 2, ..; what the taker took and what is left at the end are, for every poster, what it posted, in its
-//! order, and there is no other note. The queue is the kit's ruled array queue; the rule stands in `specs/Delivery`.
+//! serials 0, 1, 2, ..; what the taker took and what remains at the end are, for every poster, what it posted, in its
+//! order, and there is no other note. The queue is the kit's ruled array queue; the rule is in `specs/Delivery`.
 //!
 //! ```text
 //! let (inbox, root) = Inbox::new(alloc, 64)?;

@@ -2,7 +2,7 @@
 
 use sup_types::{Reason, Text};
 
-/// The exit of a child, told by a poster.
+/// Says that a child ended, and why.
 #[derive(Clone, Copy, Debug, PartialEq, Eq, Hash)]
 pub struct Note {
     /// The number of the poster, from 1 on.
@@ -18,8 +18,8 @@ pub struct Note {
 }
 
 impl Default for Note {
-    /// A note that nobody posts: its numbers are 0, its argument is `x` and its reason Normal. It fills the places of an
-    /// array that holds no note yet.
+    /// Returns a note that nobody posts: its numbers are 0, its argument is `x` and its reason Normal. It fills the
+    /// places of an array that holds no note yet.
     fn default() -> Note {
         Note {
             poster: 0,

@@ -1,4 +1,4 @@
-//! The end of an inbox: what each poster posted was taken or is left.
+//! The end of an inbox: what each poster posted was taken or remains.
 ghost use Rattle.std.specs.Prelude.{◌≡◌, ◌+◌, ◌≤◌, [], ◌++◌, length, map, All, IfOk, IfErr, IsOk, vec_len, vec_capacity};
 ghost use Rattle.sup_inbox.specs.Delivery.{from, known_by, taker_view, IsSettled};
 ghost use Rattle.sup_inbox.specs.Ends.{AreOf, sent_of, IsBy, IsPosted};
@@ -9,23 +9,23 @@ use crate::rule::{Empties, Gathers, Place};
 use std::alloc::{Allocator, Global};
 use std::sync::Wait;
 
-/// The notes that nobody took.
+/// Holds the notes that nobody took.
 #[derive(Drop)]
 pub struct Settled<A: Allocator = Global> {
-    /// By the order in which they were posted.
+    /// In the order in which they were posted.
     pub left: Vec<Note, A>,
 }
 
-/// All that was handed in to be settled, as it was: memory was refused.
+/// Holds all that was handed in to be settled, as it was, since memory was refused.
 #[derive(Drop)]
 pub struct Unsettled<A: Allocator = Global, B: Allocator = Global, C: Allocator = Global> {
-    /// The posters, as they stood.
+    /// The posters, as they were.
     pub posters: Vec<Poster, B>,
     /// The taker.
     pub taker: Taker,
     /// The inbox.
     pub inbox: Inbox<A>,
-    /// The room for the notes that are left.
+    /// The room for the notes that remain.
     pub room: Vec<Note, C>,
 }
 
@@ -51,7 +51,7 @@ fn gather<A: Allocator, B: Allocator>(
     pass
 }
 
-/// Takes what is left, once all posters were gathered in.
+/// Takes what remains, once all posters were gathered in.
 fn empty<R: Wait, A: Allocator, C: Allocator>(
     rt: &R,
     inbox: &Inbox<A>,
@@ -74,11 +74,13 @@ fn empty<R: Wait, A: Allocator, C: Allocator>(
     left
 }
 
-/// Ends an inbox, once all its posters, in any order, and its taker are in one place. No poster can stand there twice, so as
-/// many of the inbox's as were made are all of them. The room, which is empty before, is filled with the notes that are
-/// left: for each poster, its notes among those taken and then those left are what it posted, in its order, and there is no
-/// other note: each is one that a poster posted. For want of memory all comes back as it was, which cannot be where the room
-/// has space for the inbox's capacity.
+/// Ends an inbox, once all its posters, in any order, and its taker are in one place. No poster can be there twice, so
+/// as many of the inbox's as were made are all of them. The room, which is empty before, is filled with the notes that
+/// remain: for each poster, its notes among those taken and then those remaining are what it posted, in its order, and
+/// there is no other note: each is one that a poster posted.
+///
+/// # Errors
+/// All comes back as it was if there is no memory, which cannot be if the room has space for the inbox's capacity.
 pub fn settle<R: Wait, A: Allocator, B: Allocator, C: Allocator>(
     rt: &R,
     posters: Vec<Poster, B>,

@@ -1,3 +1,4 @@
 pub mod Recording
 pub mod Lines
 pub mod Firsts
+pub mod Openings

@@ -6,7 +6,7 @@ use std::io::ErrorKind;
 use sup_desk::JournalFault;
 use thiserror::Error;
 
-/// Why a journal was not begun.
+/// Says why a journal was not begun.
 #[derive(Clone, Copy, Debug, PartialEq, Eq, Error)]
 pub enum BeginFault {
     /// There was no memory for the first line, and the writer took nothing.
@@ -21,7 +21,7 @@ impl BeginFault {
     ghost use Rattle.std.specs.Prelude.{◌≡◌};
     ghost use Rattle.sup_journal.specs.Faults.{begin_fault_number};
 
-    /// The number of the fault: 1 or 13, in the order of the variants.
+    /// Returns the number of the fault: 1 or 13, in the order of the variants.
     pub fn number(self) -> u8
         ensures { result ≡ begin_fault_number self }
     {
@@ -32,7 +32,7 @@ impl BeginFault {
     }
 }
 
-/// A journal that was not begun, and its writer. As an error it is told by its fault.
+/// Says why a journal was not begun, and gives its writer back. As an error it shows its fault.
 #[derive(Debug, Drop)]
 pub struct NotBegun<W> {
     pub fault: BeginFault,
@@ -47,7 +47,7 @@ impl<W> Display for NotBegun<W> {
 
 impl<W: Debug + Drop> std::error::Error for NotBegun<W> {}
 
-/// What ended a journal.
+/// Says what ended a journal.
 #[derive(Clone, Copy, Debug, PartialEq, Eq)]
 pub enum End {
     /// A write answered an error.
@@ -61,7 +61,7 @@ impl End {
     ghost use Rattle.std.specs.Prelude.{◌≡◌};
     ghost use Rattle.sup_journal.specs.Ends.{fault_of};
 
-    /// The fault that a record answers.
+    /// Returns the fault that a record answers.
     pub fn fault(self) -> JournalFault
         ensures { result ≡ fault_of self }
     {

@@ -1,12 +1,12 @@
 //! When a journal flushes its writer.
 
-/// After which records a journal flushes its writer. What is not flushed, a writer with a buffer may hold back.
+/// Says after which records a journal flushes its writer. A writer with a buffer may hold back what is not flushed.
 ///
 /// What a power cut leaves of the recorded history:
-/// - With a file alone a flush does nothing: there is what the operating system had stored by itself.
-/// - With a `BufWriter` over a file a flush hands the buffer to the operating system. After a crash of the program alone,
-///   what was flushed is in the file; a power cut leaves what was stored by itself.
-/// - With [`Synced`](crate::Synced) a flush waits until the file's bytes are stored: what was flushed is there, as far as the
+/// - A file alone: a flush does nothing, and what the operating system had already written to disk is there.
+/// - A `BufWriter` over a file: a flush hands the buffer to the operating system. After a crash of the program alone, what was flushed is
+///   in the file; after a power cut, what the operating system had already written to disk.
+/// - [`Synced`](crate::Synced) over a file: a flush waits until the file's bytes are stored, so what was flushed is there, as far as the
 ///   operating system and the disk keep their word.
 #[derive(Clone, Copy, Debug, Default, PartialEq, Eq)]
 pub enum Flush {
@@ -23,7 +23,7 @@ impl Flush {
     ghost use Rattle.std.specs.Prelude.{◌↔◌, IsTrue};
     ghost use Rattle.sup_journal.specs.Flushes.{IsDue};
 
-    /// Whether a record of so many entries is flushed.
+    /// Returns whether a record of that many entries is flushed.
     pub fn is_due(self, entries: usize) -> bool
         ensures { IsTrue result ↔ IsDue self entries }
     {

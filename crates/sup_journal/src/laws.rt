@@ -14,8 +14,8 @@ ghost use Rattle.sup_journal.specs.declared.fault.End.{End};
 ghost use Rattle.sup_journal.specs.Ends.{IsStopped};
 ghost use Rattle.sup_journal.specs.Records.{IsRecorded, IsCut};
 
-/// What a journal recorded is read as the history, and as nothing else: whatever its text spells is this template, with the
-/// most entries that there may be, and these entries.
+/// Shows that what a journal recorded is read as the history and as nothing else: whatever its text spells is this template, with
+/// the most entries that there may be, and these entries.
 pub fn one_history()
     ensures { (held contents : Option (List ℕ)) (waiting : List ℕ) (template read : Template) (recorded ready entries : List Entry)
         → (it : IsRecorded held contents waiting template recorded ready) → Spells it.text read entries
@@ -24,7 +24,7 @@ pub fn one_history()
     sup_format::laws::one_value();
 }
 
-/// The text of what a journal recorded is read: nothing but want of memory stops its reading.
+/// Shows that the text of what a journal recorded is read, unless memory runs out.
 pub fn recorded_is_read()
     ensures { (held contents : Option (List ℕ)) (waiting : List ℕ) (template : Template) (recorded ready : List Entry)
         → (it : IsRecorded held contents waiting template recorded ready) → (line : ℕ) (f : Fault) → HistoryStops it.text line f
@@ -33,8 +33,8 @@ pub fn recorded_is_read()
     sup_format::laws::spelled_is_read();
 }
 
-/// Where a record broke off, the whole lines of what the journal wrote are the text of the recorded entries and of the first of
-/// the others: but not of all of them, unless all was written and a flush failed.
+/// Shows that if a record broke off, the whole lines of what the journal wrote are the text of the recorded entries and of the
+/// first of the others: but not of all of them, unless all was written and a flush failed.
 pub fn whole_lines()
     ensures firsts { (held contents : Option (List ℕ)) (ended : Option End) (template : Template) (recorded ready : List Entry) (lines : List ℕ)
         → (it : IsCut held contents ended template recorded ready) → IsEndedPart (it.text ++ it.part) lines
@@ -45,7 +45,7 @@ pub fn whole_lines()
     sup_format::laws::whole_lines();
 }
 
-/// Where a record broke off by a flush, what the journal wrote is the text of the recorded entries and of all the others.
+/// Shows that if a record broke off by a flush, what the journal wrote is the text of the recorded entries and of all the others.
 pub fn flush_failed()
     ensures { (held contents : Option (List ℕ)) (ended : End) (template : Template) (recorded ready : List Entry)
         → (it : IsCut held contents (Some ended) template recorded ready) → ¬ IsStopped ended

@@ -1,35 +1,47 @@
 //! A journal in a file that may hold a history already.
 
-ghost use Rattle.std.specs.Prelude.{◌≡◌, ℕ, List, [], IfOk, IfErr, MatchResult};
+ghost use Rattle.std.specs.Prelude.{◌≡◌, ◌<◌, ℕ, List, [], length, Option, IfOk, IfErr};
 ghost use Rattle.std.specs.Io.{StartsWith};
+ghost use Rattle.std.specs.Io.KnownBytes.{IsAtEnd};
+ghost use Rattle.sup_types.specs.declared.template.Template.{Template as ATemplate};
+ghost use Rattle.sup_types.specs.declared.history.Entry.{Entry as AnEntry};
+ghost use Rattle.sup_format.specs.Causes.{IsTextFault};
 ghost use Rattle.sup_format.specs.Reading.History.{SpellsAs};
-ghost use Rattle.sup_format.specs.Reading.Texts.{IsEndedPart};
+ghost use Rattle.sup_format.specs.Reading.Streams.{IsStreamed, IsUnread};
+ghost use Rattle.sup_format.specs.Reading.Texts.{IsFull};
+ghost use Rattle.sup_format.specs.Writing.HistoryTexts.{header_line};
 ghost use Rattle.sup_journal.specs.Faults.{open_fault_number};
-ghost use Rattle.sup_journal.specs.Openings.{GoesOnWith, HasFirstLine, IsCauseOf, IsUnbegun, WantsCut};
+ghost use Rattle.sup_journal.specs.Openings.{EntersAll, IsCauseOf, IsContinued, IsUnbegun, IsWrongIn, StopsIn, WantsCut};
 
 use crate::fault::BeginFault;
 use crate::origin::Unknown;
-use crate::reading::read_journal;
 use crate::synced::Synced;
 use crate::text_journal::TextJournal;
-use std::alloc::Allocator;
+use std::alloc::{Allocator, Global};
 use std::fs::{Files, OpenFile, OpenOptions};
 use std::io::{Error as IoError, ErrorKind, Read, Write};
-use sup_desk::{Journal, JournalFault};
-use sup_format::{Fault, HistoryFault, append_header, ended_part};
-use sup_types::{Entry, Template};
+use std::sync::Wait;
+use sup_desk::{DeskFault, Journal, JournalFault, Name, RecoverFault, Recovery};
+use sup_format::{EntryReader, Fault, HistoryFault, WatchedReader, append_header};
+use sup_types::Template;
 use thiserror::Error;
 
-/// Why no journal was opened. The whole lines of the file stay as they were; [`continue_journal`] says what else does.
+/// Keeps a journal in a file, whose bytes are stored when it is flushed.
+pub type FileJournal<F, A = Global> = TextJournal<Unknown, Synced<F>, A>;
+
+/// Says why no journal was opened. The whole lines of the file stay as they were; [`continue_journal`] says what else does.
 #[derive(Clone, Copy, Debug, PartialEq, Eq, Error)]
 pub enum OpenFault {
     #[error("out of memory")]
     OutOfMemory,
-    /// The file was not opened, read or cut.
-    #[error("the journal's file answered an error")]
+    /// The file was not opened or read.
+    #[error("the journal's file could not be read: {0}")]
     File(ErrorKind),
+    /// The file's torn last line was not cut off.
+    #[error("the journal's file could not be cut: {0}")]
+    Cut(ErrorKind),
     /// A whole line of the file is wrong.
-    #[error("a line of the journal's file is wrong")]
+    #[error("line {} of the journal's file is wrong", .0.line)]
     WrongLine(HistoryFault),
     /// The file's first line is not the one that is written for this template: it is for another, or no journal wrote it.
     #[error("the journal's file has another first line than this template")]
@@ -37,176 +49,273 @@ pub enum OpenFault {
     /// The file refused the first line of a new journal.
     #[error("the journal's file refused its first line")]
     Refused(JournalFault),
+    /// The desk could not be made, or an entry could not be entered again.
+    #[error("{0}")]
+    Desk(RecoverFault),
 }
 
 impl OpenFault {
-    /// The number of the fault: 1, 14, that of the line's fault, 7 or 13, in the order of the variants.
+    /// Returns the number of the fault: 1, 14, 14, that of the line's fault, 7, 13, or that of the desk's, in the variants' order.
     pub fn number(self) -> u8
         ensures { result ≡ open_fault_number self }
     {
         match self {
             OpenFault::OutOfMemory => 1,
-            OpenFault::File(_) => 14,
+            OpenFault::File(_) | OpenFault::Cut(_) => 14,
             OpenFault::WrongLine(fault) => fault.number(),
             OpenFault::OtherTemplate => 7,
             OpenFault::Refused(fault) => fault.number(),
+            OpenFault::Desk(fault) => fault.number(),
         }
     }
 }
 
-/// A journal in a file, and the entries that it has recorded.
-#[derive(Drop)]
-pub struct Opened<F, A: Allocator> {
-    pub journal: TextJournal<Unknown, Synced<F>, A>,
-    pub entries: Vec<Entry, A>,
+impl From<RecoverFault> for OpenFault {
+    ghost use Rattle.sup_journal.specs.declared.opening.OpenFault.TheVariants as opening;
+
+    ghost from_gives = { λ fault f. f ≡ opening.Desk fault };
+
+    fn from(fault: RecoverFault) -> OpenFault {
+        OpenFault::Desk(fault)
+    }
 }
 
-/// Opens the file at a path, or makes it, and goes on at its end, with the history that its whole lines spell: as
-/// [`continue_journal`] does with what the file has. No contract says what that is: the system answers it.
+impl From<DeskFault> for OpenFault {
+    fn from(fault: DeskFault) -> OpenFault {
+        OpenFault::Desk(RecoverFault::from(fault))
+    }
+}
+
+/// Opens the file at a path, or makes it, and then does what [`continue_journal`] does with it. No contract says what the file
+/// holds.
 ///
 /// # Errors
-/// Those of [`continue_journal`], and `File` also where the file was not opened or not read: then it is as it was.
-pub fn open_journal<R: Files, A: Allocator + Copy>(
+/// Those of [`continue_journal`], and `File` also if the file was not opened: then it is as it was.
+pub fn open_journal<N: Name, W: Wait + Drop, R: Files, A: Allocator + Copy>(
     files: &R,
     alloc: A,
     path: &str,
     template: &Template,
-) -> Result<Opened<R::File, A>, OpenFault>
-    ensures { IfOk result (λ opened. ⟦<TextJournal<Unknown, Synced<R::File>, A> as Journal>⟧.has opened.journal template.now opened.entries.items []) }
+    recovery: &mut Recovery<N, W>,
+) -> Result<FileJournal<R::File, A>, OpenFault>
+    requires template { template.now ≡ N.template }
+    requires fresh { recovery.old.history ≡ [] }
+    ensures { IfOk result (λ journal. ⟦<TextJournal<Unknown, Synced<R::File>, A> as Journal>⟧.has journal template.now recovery.new.history []) }
 {
+    match open_file(files, path) {
+        Ok(file) => continue_journal(alloc, file, template, recovery),
+        Err(fault) => Err(fault),
+    }
+}
+
+/// Opens the file at a path to read and to append, or makes it.
+pub(crate) fn open_file<R: Files>(files: &R, path: &str) -> Result<R::File, OpenFault> {
     // In append mode each write goes to the end, wherever the reading stopped.
     let opened = OpenOptions::new()
         .read(true)
         .append(true)
         .create(true)
         .open(files, path);
-    let mut file = opened.map_err(|error| fault_of_file(&error))?;
-    let mut text = Vec::new(alloc);
-    if let Err(error) = file.read_to_end(&mut text) {
-        return Err(fault_of_file(&error));
-    }
-    continue_journal(alloc, file, text.as_slice(), template)
-}
-
-/// The fault of an error that a file answered.
-fn fault_of_file(error: &IoError) -> OpenFault
-    ensures { (text : List ℕ) (template : Template) → WantsCut text template → IsCauseOf result text template }
-{
-    match error.kind() {
-        ErrorKind::OutOfMemory => OpenFault::OutOfMemory,
-        kind => OpenFault::File(kind),
+    match opened {
+        Ok(file) => Ok(file),
+        Err(error) => Err(OpenFault::File(error.kind())),
     }
 }
 
-/// Goes on at the end of a file that has this text, with the history that the text's whole lines spell. The file must have
-/// been opened to append. A torn last line is cut off the file. An empty file, and one with only a part of this template's
-/// first line, begins anew: it is cut to nothing and takes that line.
+/// Reads a file from its beginning, enters the entries of its whole lines in the recovery, and continues at its end. The file must
+/// have been opened to read and to append, and nothing was read of it. A torn last line is cut off. An empty file, and one with only
+/// a part of this template's first line, begins anew: it is cut to nothing and takes that line. The file is read piece by piece, and
+/// each entry is entered as it is read: this takes memory for a piece and for the longest line.
 ///
 /// # Errors
-/// Whichever comes, the whole lines of the file stay as they were.
-/// - `OtherTemplate`: the text begins otherwise than with this template's first line. The file is as it was.
+/// After each of them the whole lines of the file are as they were.
+/// - `OtherTemplate`: the file begins otherwise than with this template's first line. It is as it was.
 /// - `WrongLine`: a whole line is wrong; its number and its fault. The file is as it was.
+/// - `Desk`: an entry was not entered. The file is as it was.
 /// - `OutOfMemory`: at any time. A file that begins anew may be cut to nothing by then.
-/// - `File`: the file was not cut, where it begins anew or its last line is torn.
+/// - `File`: the file was not read. It is as it was.
+/// - `Cut`: the file begins anew or its last line is torn, and it was not cut.
 /// - `Refused`: the first line of a file that begins anew was refused. The file has a part of it, or nothing.
-pub fn continue_journal<F: Write + OpenFile + Drop, A: Allocator + Copy>(
+pub fn continue_journal<
+    N: Name,
+    W: Wait + Drop,
+    F: Read + Write + OpenFile + Drop,
+    A: Allocator + Copy,
+>(
     alloc: A,
     file: F,
-    text: &[u8],
     template: &Template,
-) -> Result<Opened<F, A>, OpenFault>
-    ensures has { IfOk result (λ opened. ⟦<TextJournal<Unknown, Synced<F>, A> as Journal>⟧.has opened.journal template.now opened.entries.items []) }
-    ensures entries { MatchResult result (λ opened. GoesOnWith text.now template.now opened.entries.items) (λ fault. IsCauseOf fault text.now template.now) }
+    recovery: &mut Recovery<N, W>,
+) -> Result<FileJournal<F, A>, OpenFault>
+    requires template { template.now ≡ N.template }
+    requires fresh { recovery.old.history ≡ [] }
+    ensures has { IfOk result (λ journal. ⟦<TextJournal<Unknown, Synced<F>, A> as Journal>⟧.has journal template.now recovery.new.history []) }
+    ensures entries { IsContinued (F.remaining file) template.now recovery.old.handles recovery.new.history result }
+    ensures handles { recovery.new.handles ≡ recovery.old.handles }
 {
     let mut first = Vec::new(alloc);
     if append_header(template, &mut first).is_err() {
         return Err(OpenFault::OutOfMemory);
     }
-    if text.starts_with(first.as_slice()) {
-        return go_on(alloc, file, text, first.as_slice(), template);
+    let mut lines = EntryReader::new(alloc, WatchedReader::new(file));
+    match lines.find_line() {
+        Ok(true) => go_on(alloc, lines, first.as_slice(), template, recovery),
+        Ok(false) => begin(alloc, lines, first.as_slice(), template),
+        Err(fault) => Err(fault_of(&lines, fault)),
     }
-    if !first.as_slice().starts_with(text) {
-        return Err(OpenFault::OtherTemplate);
-    }
-    begin(alloc, file, template)
 }
 
-/// Begins the file anew.
-fn begin<F: Write + OpenFile + Drop, A: Allocator + Copy>(
-    alloc: A,
-    file: F,
-    template: &Template,
-) -> Result<Opened<F, A>, OpenFault>
-    ensures has { IfOk result (λ opened. ⟦<TextJournal<Unknown, Synced<F>, A> as Journal>⟧.has opened.journal template.now opened.entries.items []) }
-    ensures entries { (text : List ℕ) → IsUnbegun text template.now
-        → MatchResult result (λ opened. GoesOnWith text template.now opened.entries.items) (λ fault. IsCauseOf fault text template.now) }
+/// Returns the fault of a file whose reading stopped.
+fn fault_of<F: Read, A: Allocator>(lines: &EntryReader<F, A>, fault: Fault) -> OpenFault
+    ensures { (text : List ℕ) (template : ATemplate) (handles : ℕ) → StopsIn text template lines.now.next lines.now.has_failed fault →
+        IsCauseOf result text template handles }
 {
+    match fault {
+        Fault::OutOfMemory => OpenFault::OutOfMemory,
+        Fault::BadTemplate => wrong_line(lines.line(), Fault::BadTemplate),
+        Fault::BadLine => wrong_line(lines.line(), Fault::BadLine),
+        Fault::ReadFault | Fault::WriteFault | Fault::TooLong => {
+            OpenFault::File(lines.error().unwrap_or(ErrorKind::Other))
+        }
+    }
+}
+
+/// Returns the fault of a whole line.
+fn wrong_line(line: u64, fault: Fault) -> OpenFault
+    requires { IsTextFault fault }
+    ensures { (text : List ℕ) (template : ATemplate) (handles : ℕ) → IsWrongIn text template line fault → IsCauseOf result text template handles }
+{
+    OpenFault::WrongLine(HistoryFault { fault, line })
+}
+
+/// Begins a file anew that has no ended line.
+fn begin<F: Read + Write + OpenFile + Drop, A: Allocator + Copy>(
+    alloc: A,
+    lines: EntryReader<F, A>,
+    first: &[u8],
+    template: &Template,
+) -> Result<FileJournal<F, A>, OpenFault>
+    requires first { first.now ≡ header_line template.now }
+    requires spelled { SpellsAs (header_line template.now) template.now [] }
+    requires none { lines.ready ≡ [] }
+    ensures has { IfOk result (λ journal. ⟦<TextJournal<Unknown, Synced<F>, A> as Journal>⟧.has journal template.now [] []) }
+    ensures entries { (initial : Option (List ℕ)) (handles : ℕ) → IsUnread initial lines → IsAtEnd lines.left → IsContinued initial template.now handles [] result }
+{
+    if !first.starts_with(lines.torn()) {
+        return Err(OpenFault::OtherTemplate);
+    }
+    let file = lines.into_reader().into_reader();
     cut(&file, 0)?;
     match TextJournal::new(alloc, Synced::new(file), template) {
-        Ok(journal) => {
-            let entries = Vec::new(alloc);
-            Ok(Opened { journal, entries })
-        }
-        Err(refused) => Err(match refused.fault {
-            BeginFault::OutOfMemory => OpenFault::OutOfMemory,
-            BeginFault::Refused(fault) => OpenFault::Refused(fault),
-        }),
+        Ok(journal) => Ok(journal),
+        Err(not_begun) => Err(refused(not_begun.fault)),
+    }
+}
+
+/// Returns the fault of a first line that was refused.
+fn refused(fault: BeginFault) -> OpenFault
+    ensures { (text : List ℕ) (template : ATemplate) (handles : ℕ) → IsUnbegun text template → IsCauseOf result text template handles }
+{
+    match fault {
+        BeginFault::OutOfMemory => OpenFault::OutOfMemory,
+        BeginFault::Refused(fault) => OpenFault::Refused(fault),
     }
 }
 
 /// Cuts the file to this length.
 fn cut<F: OpenFile>(file: &F, length: u64) -> Result<(), OpenFault>
-    ensures { (text : List ℕ) (template : Template) → WantsCut text template → IfErr result (λ fault. IsCauseOf fault text template) }
+    ensures { (text : List ℕ) (template : ATemplate) (handles : ℕ) → WantsCut text template → IfErr result (λ fault. IsCauseOf fault text template handles) }
 {
     match file.set_len(length) {
         Ok(()) => Ok(()),
-        Err(error) => Err(fault_of_file(&error)),
+        Err(error) => match error.kind() {
+            ErrorKind::OutOfMemory => Err(OpenFault::OutOfMemory),
+            kind => Err(OpenFault::Cut(kind)),
+        },
     }
 }
 
-/// Goes on at the end of the whole lines.
-fn go_on<F: Write + OpenFile + Drop, A: Allocator + Copy>(
+/// Enters the entries of a file of which a line is ended, and continues at its end.
+fn go_on<N: Name, W: Wait + Drop, F: Read + Write + OpenFile + Drop, A: Allocator + Copy>(
     alloc: A,
-    file: F,
-    text: &[u8],
+    lines: EntryReader<F, A>,
     first: &[u8],
     template: &Template,
-) -> Result<Opened<F, A>, OpenFault>
-    requires first { SpellsAs first.now template.now [] }
-    requires begins { StartsWith text.now first.now }
-    requires has { HasFirstLine text.now template.now }
-    ensures has { IfOk result (λ opened. ⟦<TextJournal<Unknown, Synced<F>, A> as Journal>⟧.has opened.journal template.now opened.entries.items []) }
-    ensures entries { MatchResult result (λ opened. GoesOnWith text.now template.now opened.entries.items) (λ fault. IsCauseOf fault text.now template.now) }
+    recovery: &mut Recovery<N, W>,
+) -> Result<FileJournal<F, A>, OpenFault>
+    requires template { template.now ≡ N.template }
+    requires fresh { recovery.old.history ≡ [] }
+    requires first { first.now ≡ header_line template.now }
+    requires spelled { SpellsAs (header_line template.now) template.now [] }
+    requires ready { 0 < length lines.ready }
+    requires next { lines.next ≡ 1 }
+    ensures has { (initial : Option (List ℕ)) → IsUnread initial lines →
+        IfOk result (λ journal. ⟦<TextJournal<Unknown, Synced<F>, A> as Journal>⟧.has journal template.now recovery.new.history []) }
+    ensures entries { (initial : Option (List ℕ)) → IsUnread initial lines → IsContinued initial template.now recovery.old.handles recovery.new.history result }
+    ensures handles { recovery.new.handles ≡ recovery.old.handles }
 {
-    let entries = entries_of(alloc, text, first, template)?;
-    let whole = ended_part(text).len();
-    if whole < text.len() {
-        cut(&file, whole as u64)?;
+    if !lines.ready().starts_with(first) {
+        return Err(OpenFault::OtherTemplate);
     }
-    let journal = TextJournal::reopen(alloc, Synced::new(file));
-    Ok(Opened { journal, entries })
+    let mut lines = lines;
+    match lines.begin() {
+        Ok(_read) => enter_lines(alloc, lines, recovery),
+        Err(fault) => Err(fault_of(&lines, fault)),
+    }
 }
 
-/// The entries that the whole lines spell, of a text that begins with this template's first line.
-fn entries_of<A: Allocator + Copy>(
+/// Enters the entries of a file whose first line was given, and continues at its end.
+fn enter_lines<N: Name, W: Wait + Drop, F: Read + Write + OpenFile + Drop, A: Allocator + Copy>(
     alloc: A,
-    text: &[u8],
-    first: &[u8],
-    template: &Template,
-) -> Result<Vec<Entry, A>, OpenFault>
-    requires first { SpellsAs first.now template.now [] }
-    requires begins { StartsWith text.now first.now }
-    requires has { HasFirstLine text.now template.now }
-    ensures { MatchResult result (λ entries. (whole : List ℕ) × IsEndedPart text.now whole × SpellsAs whole template.now entries.items) (λ fault. IsCauseOf fault text.now template.now) }
+    lines: EntryReader<F, A>,
+    recovery: &mut Recovery<N, W>,
+) -> Result<FileJournal<F, A>, OpenFault>
+    requires fresh { recovery.old.history ≡ [] }
+    requires spelled { SpellsAs (header_line N.template) N.template [] }
+    ensures has { (initial : Option (List ℕ)) (read : ATemplate) → IsStreamed initial lines (header_line N.template) read [] →
+        IfOk result (λ journal. ⟦<TextJournal<Unknown, Synced<F>, A> as Journal>⟧.has journal N.template recovery.new.history []) }
+    ensures entries { (initial : Option (List ℕ)) (read : ATemplate) → IsStreamed initial lines (header_line N.template) read [] →
+        IsContinued initial N.template recovery.old.handles recovery.new.history result }
+    ensures handles { recovery.new.handles ≡ recovery.old.handles }
 {
-    match read_journal(alloc, text) {
-        Ok(history) => Ok(history.entries),
-        Err(
-            HistoryFault {
-                fault: Fault::OutOfMemory,
-                line: _,
-            },
-        ) => Err(OpenFault::OutOfMemory),
-        Err(wrong) => Err(OpenFault::WrongLine(wrong)),
+    let mut lines = lines;
+    enter_all(&mut lines, recovery)?;
+    reopen(alloc, lines)
+}
+
+/// Enters the entries of the lines that are ended, as they are read.
+fn enter_all<N: Name, W: Wait + Drop, F: Read, A: Allocator>(
+    lines: &mut EntryReader<F, A>,
+    recovery: &mut Recovery<N, W>,
+) -> Result<(), OpenFault>
+    requires { recovery.old.history ≡ [] }
+    ensures entered { (initial : Option (List ℕ)) (read : ATemplate) → IsStreamed initial lines.old (header_line N.template) read [] →
+        EntersAll initial N.template recovery.old.handles lines.new read recovery.new.history result }
+    ensures handles { recovery.new.handles ≡ recovery.old.handles }
+{
+    loop {
+        match lines.next() {
+            Ok(Some(entry)) => recovery.enter(entry)?,
+            Ok(None) => return Ok(()),
+            Err(fault) => return Err(fault_of(lines, fault)),
+        }
     }
+}
+
+/// Continues at the end of the lines that were entered.
+fn reopen<F: Read + Write + OpenFile + Drop, A: Allocator + Copy>(
+    alloc: A,
+    lines: EntryReader<F, A>,
+) -> Result<FileJournal<F, A>, OpenFault>
+    ensures has { (template : ATemplate) (entries : List AnEntry) → ((text : List ℕ) × SpellsAs text template entries) →
+        IfOk result (λ journal. ⟦<TextJournal<Unknown, Synced<F>, A> as Journal>⟧.has journal template entries []) }
+    ensures cut { (text : List ℕ) (template : ATemplate) (handles : ℕ) → (0 < length lines.torn → ¬ IsFull text) → IfErr result (λ fault. IsCauseOf fault text template handles) }
+{
+    let torn = lines.torn().len() as u64;
+    let whole = lines.taken().saturating_sub(torn);
+    let file = lines.into_reader().into_reader();
+    if torn > 0 {
+        cut(&file, whole)?;
+    }
+    Ok(TextJournal::reopen(alloc, Synced::new(file)))
 }

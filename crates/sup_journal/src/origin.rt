@@ -1,8 +1,8 @@
 //! What a writer held at first.
 use std::marker::Brand;
 
-/// What the writer of a journal held when the journal was made, where that is known. The type says it, since a journal
-/// behind a lock is known by its type alone.
+/// Says what the writer of a journal held when the journal was made, if that is known. The type says it, since a journal behind a
+/// lock is known by its type alone.
 pub trait Origin {
     ghost use Rattle.std.specs.Prelude.{ℕ, List, Option};
 
@@ -16,7 +16,7 @@ impl Origin for Brand {
     ghost held = { Some [] };
 }
 
-/// The origin of a writer that has no clause for what it holds, like a file: nothing is claimed of its bytes.
+/// Marks a writer that has no clause for what it holds, such as a file: nothing is claimed of its bytes.
 pub struct Unknown;
 
 impl Origin for Unknown {

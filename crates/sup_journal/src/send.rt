@@ -45,7 +45,7 @@ pub fn send<W: Write>(writer: &mut W, bytes: &[u8]) -> Result<(), End>
     Ok(())
 }
 
-/// Writes once: how many of the bytes the writer took, at least one, or why it took none.
+/// Writes once. Returns how many bytes the writer took, at least one, or why it took none.
 fn write<W: Write>(writer: &mut W, bytes: &[u8]) -> Result<usize, End>
     requires { 0 < length bytes.now }
     ensures { MatchResult result

@@ -4,10 +4,10 @@ use std::fs::OpenFile;
 use std::io;
 use std::io::Write;
 
-/// A writer over a file, whose flush waits until the bytes of the file are stored (`sync_data`). A journal with
-/// `Flush::EachUpdate` in it has each update stored before anyone sees it.
+/// Writes to a file, and waits at a flush until the bytes of the file are stored (`sync_data`). A journal with `Flush::EachUpdate`
+/// in it has each update stored before anyone sees it.
 ///
-/// The name of a new file stands in its folder, which no flush stores: that is the maker's to do.
+/// The name of a new file is in its folder, which no flush stores: whoever makes the file does that.
 #[derive(Debug, Drop)]
 pub struct Synced<F> {
     pub file: F,
@@ -16,7 +16,7 @@ pub struct Synced<F> {
 impl<F> Synced<F> {
     ghost use Rattle.std.specs.Prelude.{◌≡◌};
 
-    /// A writer over this file.
+    /// Returns a writer over this file.
     pub fn new(file: F) -> Synced<F>
         ensures { result.file ≡ file }
     {

@@ -19,7 +19,7 @@ use sup_desk::{Journal, JournalFault};
 use sup_format::{append_entry, append_header, write_history};
 use sup_types::{Entry, OutOfMemory, Template};
 
-/// A journal that writes the text of a history, in version 2, to this writer: behind what it held, which the origin says.
+/// Writes the text of a history, in version 2, to its writer: after what that held, which the origin says.
 ///
 /// It writes each batch as it is recorded. It never flushes its writer unless [`TextJournal::with_flush`] says when. The first
 /// error ends it.
@@ -34,8 +34,8 @@ pub struct TextJournal<O, W, A: Allocator> {
 }
 
 impl<O: Origin, W: Write, A: Allocator> TextJournal<O, W, A> {
-    /// A journal of a supervisor of this template, whose history is empty: the writer takes the first line. After a refusal
-    /// the writer comes back. It took nothing where memory was refused, and else a part of the first line.
+    /// Makes a journal of a supervisor of this template with an empty history: the writer takes the first line. After a refusal the
+    /// writer comes back: it took nothing if memory was refused, and else a part of the first line.
     pub fn new(
         alloc: A,
         writer: W,
@@ -66,8 +66,8 @@ impl<O: Origin, W: Write, A: Allocator> TextJournal<O, W, A> {
         })
     }
 
-    /// A journal that goes on behind a history of before: the writer takes the text of that history. After a refusal the writer
-    /// comes back. It took nothing where memory was refused, and else a part of that text.
+    /// Makes a journal that continues a recorded history: the writer takes the text of that history. After a refusal the writer
+    /// comes back: it took nothing if memory was refused, and else a part of that text.
     pub fn resume(
         alloc: A,
         writer: W,
@@ -100,8 +100,8 @@ impl<O: Origin, W: Write, A: Allocator> TextJournal<O, W, A> {
         })
     }
 
-    /// A journal that goes on in a writer which holds the text of a history: that is what it has recorded. The writer must take
-    /// what is written at its end. Nothing is written, and no memory is taken.
+    /// Makes a journal that continues in a writer which holds the text of a history: that is what it has recorded. The writer must
+    /// take what is written at its end. Nothing is written, and no memory is taken.
     pub fn reopen(alloc: A, writer: W) -> TextJournal<O, W, A>
         ensures has { (template : Template) (entries : List Entry) → HasText O.held (W.contents writer) template entries
             → ⟦<TextJournal<O, W, A> as Journal>⟧.has result template entries [] }
@@ -117,7 +117,7 @@ impl<O: Origin, W: Write, A: Allocator> TextJournal<O, W, A> {
         }
     }
 
-    /// The same journal, which flushes its writer after these records from now on. A new one never does.
+    /// Returns the same journal, which flushes its writer after these records from now on. A new one never does.
     pub fn with_flush(self, flush: Flush) -> TextJournal<O, W, A>
         ensures has { (template : Template) (recorded ready : List Entry) → ⟦<TextJournal<O, W, A> as Journal>⟧.has self template recorded ready
             → ⟦<TextJournal<O, W, A> as Journal>⟧.has result template recorded ready }
@@ -130,7 +130,7 @@ impl<O: Origin, W: Write, A: Allocator> TextJournal<O, W, A> {
         journal
     }
 
-    /// The kind of the error that ended it, if an error did.
+    /// Returns the kind of the error that ended it, if an error did.
     pub fn error(&self) -> Option<ErrorKind>
         ensures { result ≡ error_of self.now.end }
     {
@@ -140,7 +140,7 @@ impl<O: Origin, W: Write, A: Allocator> TextJournal<O, W, A> {
         }
     }
 
-    /// The writer. What is ready and not recorded is dropped.
+    /// Returns the writer. What is ready and not recorded is dropped.
     pub fn into_writer(self) -> W
         ensures { result ≡ self.writer }
     {

@@ -1,5 +1,5 @@
 -- What a clause sees of a ledger, its accounts, its debts and its witnesses.
-use Rattle.std.specs.Prelude.{◌≡◌, ℕ, List, length}
+use Rattle.std.specs.Prelude.{◌≡◌, ℕ, List, [], length}
 use Rattle.atomic_table.specs.Seated.{TableId}
 use Rattle.sup_ledger.specs.declared.child.Child.{Child}
 use Rattle.sup_ledger.specs.Holdings.{AddUp, AreAmong, AreAllNumbers}
@@ -15,6 +15,10 @@ pub record Accounted : Type 0 where
   pub places : List ℕ
   pub made : List Child
   pub paid : List Child
+
+-- an account with this number of places, at which no child was made and no exit paid
+abbrev pub IsNew : TableId → ℕ → Accounted → Type 0
+IsNew ledger count account = (account.ledger ≡ ledger) × (length account.places ≡ count) × (account.made ≡ []) × (account.paid ≡ [])
 
 -- a debt: of which ledger, and the child that owes its exit
 pub record Owed : Type 0 where

@@ -107,8 +107,17 @@ fn sum<R: Wait>(rt: &R, count: u64, more: u64) -> u64
     unreachable!()
 }
 
+impl Account {
+    /// Returns how many exits were paid at its places.
+    pub fn paid(&self) -> u64
+        ensures { result ≡ length self.now.paid }
+    {
+        self.paid
+    }
+}
+
 impl Debt {
-    /// The child that owes its exit.
+    /// Returns the child that owes its exit.
     pub fn child(&self) -> Child
         ensures { result ≡ self.now.child }
     {
@@ -122,7 +131,7 @@ impl Debt {
 }
 
 impl Ledger {
-    /// A ledger of so many places, and the account of all of them, at which no child was made.
+    /// Makes a ledger of so many places, and the account of all of them, at which no child was made.
     pub fn new(alloc: Global, places: u64) -> Result<(Ledger, Account), AllocError>
         ensures ledger { IfOk result (λ r. r.0.places ≡ places) }
         ensures account { IfOk result (λ r. r.1 ≡ record { ledger = r.0.id; places = numbers_from 1 places; made = []; paid = [] }) }
@@ -138,7 +147,7 @@ impl Ledger {
         ))
     }
 
-    /// The account of the first of the places. The other places stay.
+    /// Returns the account of the first of the places. The other places stay.
     pub fn open(&self, root: &mut Account) -> Account
         requires ledger { root.old.ledger ≡ self.now.id }
         requires empty { (root.old.made ≡ []) × (root.old.paid ≡ []) }
@@ -153,19 +162,7 @@ impl Ledger {
         }
     }
 
-    /// An account of no place.
-    pub fn account(&self) -> Account
-        ensures { result ≡ record { ledger = self.now.id; places = []; made = []; paid = [] } }
-    {
-        let (_, seat) = self.table.shared.load_new_seat::<Beginning>(0);
-        Account {
-            seat,
-            made: 0,
-            paid: 0,
-        }
-    }
-
-    /// A witness that shows no child.
+    /// Returns a witness that shows no child.
     pub fn witness(&self) -> Witness
         ensures { result ≡ record { ledger = self.now.id; shown = [] } }
     {
@@ -240,18 +237,15 @@ impl Ledger {
             .join_seat::<Joining>(&mut witness.seat, seat);
     }
 
-    /// How many children were made, and how many of them owe an exit, by an account of as many places as there are.
+    /// Returns how many children were made, and how many of them owe an exit, by an account of as many places as there are.
     pub fn settle(&self, account: Account, witness: Witness) -> Totals
         requires ledger { (account.ledger ≡ self.now.id) × (witness.ledger ≡ self.now.id) }
         requires all { length account.places ≡ self.now.places }
         ensures { IsSettled account witness.shown result.made result.owed }
     {
-        let Account {
-            mut seat,
-            made,
-            paid,
-        } = account;
+        let Account { seat, made, paid } = account;
         let Witness { seat: shown } = witness;
+        let mut seat = seat;
         self.table.shared.join_seat::<Joining>(&mut seat, shown);
         self.table.shared.load::<Learning>(&mut seat, 0);
         Totals {

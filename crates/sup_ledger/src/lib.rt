@@ -20,8 +20,14 @@
 #![tactic(auto)]
 
 mod child;
+mod exit;
 mod ledger;
+mod office;
+mod queue;
 mod rule;
 
 pub use child::Child;
+pub use exit::{Due, Exit, OwedExit};
 pub use ledger::{Account, Debt, Ledger, Totals, Witness};
+pub use office::Office;
+pub use queue::ExitQueue;

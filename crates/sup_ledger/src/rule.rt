@@ -10,15 +10,10 @@ use std::marker::{Brand, PhantomData};
 /// What a seat holds: the places that it stands for, the children that were made there, and those whose exit was paid there;
 /// the children whose exit it owes, and those of which it shows that they were made. No value of it is made.
 pub struct Holding {
-    /// The places that it stands for, by their numbers.
     pub places: LinkedList<u64>,
-    /// The children that were made there.
     pub made: LinkedList<Child>,
-    /// The children whose exit was paid there.
     pub paid: LinkedList<Child>,
-    /// The children whose exit it owes.
     pub owes: LinkedList<Child>,
-    /// The children that were made, as it shows.
     pub shown: LinkedList<Child>,
 }
 

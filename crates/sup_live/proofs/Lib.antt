@@ -1,2 +1,2 @@
 pub mod Added
-pub mod Told
+pub mod Joining

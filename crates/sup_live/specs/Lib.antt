@@ -1,1 +1,5 @@
 pub mod Accounts
+pub mod Clients
+pub mod Faults
+pub mod Peers
+pub mod Wholes

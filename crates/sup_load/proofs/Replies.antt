@@ -1,15 +1,18 @@
 -- What the program answers to words, from what they lead to.
 use Rattle.std.proofs.Common.{◌≡◌, ℕ, Bool, List, Option, sym, subst, inl, inr}
+use Rattle.std.specs.Borrow.{Bor}
 use Rattle.std.specs.Prelude.{Ok, Err}
 use Rattle.clap.specs.Kinds.{Kinds}
 use Rattle.clap.specs.Values.{kind_of}
+use Rattle.clap.specs.Walk.{Text}
 use Rattle.clap.specs.declared.error.Error.{Error}
-use Rattle.sup_load.specs.Answered.{IsDone, IsReply, IsServed, IsServing, IsShownAs}
+use Rattle.sup_load.specs.Answered.{IsDone, IsReply, IsServed, IsServing}
 use Rattle.sup_words.specs.Orders.{Command, IsOrder, LeadsTo}
 use Rattle.sup_script.specs.declared.runs.answer.Status.{Status}
 use Rattle.sup_words.specs.declared.words.Order.{Order}
 use Rattle.sup_words.specs.declared.words.Order.TheVariants as order
-use Rattle.sup_serve.specs.declared.server.Notices.{Notices}
+use Rattle.sup_words.specs.Shown.{IsShownAs}
+use Rattle.sup_words.specs.declared.words.Notices.{Notices}
 
 module _ (kinds : Kinds) (command : Command) (remaining left contents held : Option (List ℕ)) (has_failed : Bool) (given : ℕ) (has_refused : Bool) (s : Status) where
   -- the order was done
@@ -24,6 +27,6 @@ module _ (kinds : Kinds) (command : Command) (remaining left contents held : Opt
   error_as e led same shown = inr (kind_of e, led, same, shown)
 
 -- the server served
-pub serving_as : (kinds : Kinds) (command : Command) (has_failed has_refused : Bool) (s : Status) (o : Order) (n : Notices) → o ≡ order.Serve n
+pub serving_as : (kinds : Kinds) (command : Command) (has_failed has_refused : Bool) (s : Status) (o : Order) (n : Notices) (p : Option (Bor Text)) → o ≡ order.Serve n p
     → LeadsTo kinds command (Ok o) → IsServed has_failed has_refused s → IsServing kinds command has_failed has_refused s
-serving_as kinds command has_failed has_refused s o n same led served = (n, led.0, subst (IsOrder command) same led.1, served)
+serving_as kinds command has_failed has_refused s o n p same led served = (n, p, led.0, subst (IsOrder command) same led.1, served)

@@ -10,4 +10,6 @@ named name number = name ++ decimal number
 abbrev pub load_lines : Sums → List ℕ
 load_lines s = named (codes "made ") s.made ++ (named (codes " exits ") s.exits ++ (named (codes " strays ") s.strays
     ++ (named (codes " restarts ") s.restarts ++ (named (codes " gave_up ") s.given_up
-    ++ (named (codes " left ") s.left ++ (named (codes " held ") s.held ++ (named (codes "\nreads ") s.reads ++ codes "\n")))))))
+    ++ (named (codes " left ") s.left ++ (named (codes " held ") s.held
+    ++ (named (codes " waiting ") s.waiting ++ (named (codes " unposted ") s.unposted ++ (named (codes " unstarted ") s.unstarted
+    ++ (named (codes "\nreads ") s.reads ++ codes "\n"))))))))))

@@ -17,7 +17,7 @@ abbrev pub of_update : UpdateFault → StopFault
 of_update update.OutOfMemory = stop.OutOfMemory
 of_update update.HistoryFull = stop.HistoryFull
 of_update update.Gone = stop.Gone
-of_update (update.Journal fault) = stop.Journal
+of_update (update.Journal fault) = stop.Journal fault
 
 -- the fault that stopped the run, else Gone where a reader was refused
 abbrev pub fault_behind : Option UpdateFault → Result (Unit {0}) Gone → Option StopFault

@@ -17,8 +17,8 @@ stop_fault_number stop.Gone = 4
 stop_fault_number stop.NoHandle = 5
 stop_fault_number stop.NoPlace = 6
 stop_fault_number stop.BadTemplate = 7
-stop_fault_number stop.Journal = 13
-stop_fault_number stop.NoJournal = 14
+stop_fault_number (stop.Journal fault) = 13
+stop_fault_number (stop.NoJournal kind) = 14
 
 abbrev pub load_fault_number : LoadFault → ℕ
 load_fault_number (load.Stopped fault) = stop_fault_number fault
@@ -31,8 +31,8 @@ status_of_stop_fault stop.Gone = status.OtherFault
 status_of_stop_fault stop.NoHandle = status.OtherFault
 status_of_stop_fault stop.NoPlace = status.OtherFault
 status_of_stop_fault stop.BadTemplate = status.BadInput
-status_of_stop_fault stop.Journal = status.OtherFault
-status_of_stop_fault stop.NoJournal = status.OtherFault
+status_of_stop_fault (stop.Journal fault) = status.OtherFault
+status_of_stop_fault (stop.NoJournal kind) = status.OtherFault
 
 abbrev pub status_of_load_fault : LoadFault → Status
 status_of_load_fault (load.Stopped fault) = status_of_stop_fault fault
@@ -44,6 +44,8 @@ status_of_serve_fault serve.OutOfMemory = status.OtherFault
 status_of_serve_fault (serve.Crew fault) = status.OtherFault
 status_of_serve_fault serve.Read = status.Failed
 status_of_serve_fault serve.Write = status.Failed
+status_of_serve_fault (serve.Journal fault) = status.OtherFault
+status_of_serve_fault (serve.NoJournal fault) = status.OtherFault
 
 -- how a load ended
 abbrev pub status_of_load : Result (Unit {0}) LoadFault → Status

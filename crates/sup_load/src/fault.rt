@@ -6,8 +6,9 @@ ghost use Rattle.sup_load.specs.declared.fault.LoadFault.TheVariants.{Stopped};
 ghost use Rattle.sup_load.specs.declared.fault.StopFault.TheVariants as stop;
 
 use std::alloc::AllocError;
+use std::io::ErrorKind;
 use sup_crew::CrewFault;
-use sup_desk::{DeskFault, HandleFault, UpdateFault};
+use sup_desk::{DeskFault, HandleFault, JournalFault, UpdateFault};
 use sup_journal::BeginFault;
 use sup_types::BadTemplate;
 use thiserror::Error;
@@ -34,17 +35,31 @@ pub enum StopFault {
     #[error("a number is out of the range of the template or the desk")]
     BadTemplate,
     /// The journal broke off.
-    #[error("the journal broke off")]
-    Journal,
+    #[error("the journal broke off: {0}")]
+    Journal(JournalFault),
     /// The journal's file was there already, or could not be made.
-    #[error("the journal's file was there already, or could not be made")]
-    NoJournal,
+    #[error("{}", why_no_journal(*.0))]
+    NoJournal(ErrorKind),
+}
+
+/// Says why the file of a journal could not be made.
+fn why_no_journal(kind: ErrorKind) -> &'static str {
+    match kind {
+        ErrorKind::AlreadyExists => "the journal is there already",
+        ErrorKind::NotFound => "there is no such folder for the journal",
+        ErrorKind::NotADirectory => "the journal's folder is no folder",
+        ErrorKind::IsADirectory => "the journal is a folder",
+        ErrorKind::PermissionDenied => "there is no permission to make the journal",
+        ErrorKind::ReadOnlyFilesystem => "the journal's disk can't be written",
+        ErrorKind::StorageFull => "there is no space for the journal",
+        _ => "the journal could not be made",
+    }
 }
 
 impl StopFault {
     ghost use Rattle.sup_load.specs.Loads.{of_update};
 
-    /// The number of the fault: 1, 2, 4 to 7, in the order of the variants, and 13 and 14.
+    /// Returns the number of the fault: 1, 2, 4 to 7, in the order of the variants, and 13 and 14.
     pub fn number(self) -> u8
         ensures { result ≡ stop_fault_number self }
     {
@@ -55,12 +70,12 @@ impl StopFault {
             StopFault::NoHandle => 5,
             StopFault::NoPlace => 6,
             StopFault::BadTemplate => 7,
-            StopFault::Journal => 13,
-            StopFault::NoJournal => 14,
+            StopFault::Journal(_) => 13,
+            StopFault::NoJournal(_) => 14,
         }
     }
 
-    /// The fault of an update that was refused.
+    /// Returns the fault of an update that was refused.
     pub fn of_update(fault: UpdateFault) -> StopFault
         ensures { result ≡ of_update fault }
     {
@@ -68,7 +83,7 @@ impl StopFault {
             UpdateFault::OutOfMemory => StopFault::OutOfMemory,
             UpdateFault::HistoryFull => StopFault::HistoryFull,
             UpdateFault::Gone => StopFault::Gone,
-            UpdateFault::Journal(_) => StopFault::Journal,
+            UpdateFault::Journal(fault) => StopFault::Journal(fault),
         }
     }
 }
@@ -77,17 +92,17 @@ impl StopFault {
 #[derive(Clone, Copy, Debug, PartialEq, Eq, Error)]
 pub enum LoadFault {
     /// It was stopped.
-    #[error("fault {}", .0.number())]
+    #[error("{0}")]
     Stopped(StopFault),
     /// The writer answered an error, or took nothing of bytes that were not empty.
-    #[error("fault 11")]
+    #[error("the output could not be written")]
     WriteFault,
 }
 
 impl LoadFault {
     ghost use Rattle.sup_load.specs.Statuses.{load_fault_number};
 
-    /// The number of the fault: that of what stopped it, or 11.
+    /// Returns the number of the fault: that of what stopped it, or 11.
     pub fn number(self) -> u8
         ensures { result ≡ load_fault_number self }
     {
@@ -143,7 +158,7 @@ impl From<BeginFault> for StopFault {
     fn from(fault: BeginFault) -> StopFault {
         match fault {
             BeginFault::OutOfMemory => StopFault::OutOfMemory,
-            BeginFault::Refused(_) => StopFault::Journal,
+            BeginFault::Refused(fault) => StopFault::Journal(fault),
         }
     }
 }

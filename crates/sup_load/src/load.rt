@@ -12,6 +12,7 @@ ghost use Rattle.sup_types.specs.declared.text.Text.{Text as AText};
 ghost use Rattle.sup_load.specs.declared.fault.LoadFault.TheVariants.{WriteFault};
 
 use crate::fault::{LoadFault, StopFault};
+use crate::progress::Progress;
 use itoa::Buffer;
 use std::alloc::{AllocError, Global};
 use std::fs::{File, Files};
@@ -44,6 +45,9 @@ pub struct Sums {
     given_up: u64,
     left: usize,
     held: usize,
+    waiting: usize,
+    unposted: usize,
+    unstarted: usize,
     reads: u64,
     fault: Option<StopFault>,
 }
@@ -62,26 +66,23 @@ impl Body for EndsAtOnce {
 }
 
 /// Runs the load, and writes what it came to in two lines. With a path the history is written to a new
-/// file there, each update before it takes effect. The fault is one that comes before there is a report, and then nothing is
-/// written; or that of a refused write, else of the run, else of a reader.
+/// file there, each update before it takes effect. Meanwhile a line on standard error says to a person how far the load is. The fault is
+/// one that comes before there is a report, and then nothing is written; or that of a refused write, else of the run, else of a reader.
 pub fn run_load<R, W: Write>(
     rt: &R,
     alloc: Global,
     load: Load,
     journal: Option<&str>,
     out: &mut WatchedWriter<W>,
+    is_person: bool,
 ) -> Result<(), LoadFault>
 where
-    R: Threads + Wait + Files + Sync,
+    R: Threads + Wait + Files + Eprint + Sync,
     R::File: Send,
     ensures loaded { IsLoaded (W.contents out.old.writer) (W.contents out.new.writer) out.new.has_refused result }
     ensures cause { result ≡ Err WriteFault → out.new.has_refused ≡ true }
 {
-    let outcome = match journal {
-        None => measure_bare(rt, alloc, load),
-        Some(path) => measure_recorded(rt, alloc, load, path),
-    };
-    tell(outcome, out)
+    tell(measure(rt, alloc, load, journal, is_person), out)
 }
 
 /// Writes what a load came to, if there is a report. WriteFault: the writer refused, and a front of the lines is written.
@@ -115,6 +116,9 @@ fn write_lines<W: Write>(sums: &Sums, out: &mut WatchedWriter<W>) -> Result<(), 
     write_number(out, " gave_up ", sums.given_up)?;
     write_number(out, " left ", sums.left as u64)?;
     write_number(out, " held ", sums.held as u64)?;
+    write_number(out, " waiting ", sums.waiting as u64)?;
+    write_number(out, " unposted ", sums.unposted as u64)?;
+    write_number(out, " unstarted ", sums.unstarted as u64)?;
     write_number(out, "\nreads ", sums.reads)?;
     write_text(out, "\n")?;
     Ok(())
@@ -157,54 +161,55 @@ fn template_of(load: &Load) -> Result<Template, StopFault> {
     )?)
 }
 
-/// Returns how many handles the load takes: one for each thread that runs bodies, asks or drives.
-fn handles_of(load: &Load) -> u64 {
-    (load.workers + 1 + load.readers) as u64
+/// Returns how many places the load takes: one for each thread that runs bodies, asks or drives, or tells a person how far it is.
+fn places_of(load: &Load, is_person: bool) -> u64 {
+    (load.workers + 1 + load.readers + usize::from(is_person)) as u64
 }
 
-/// Runs the load without a journal.
-fn measure_bare<R>(rt: &R, alloc: Global, load: Load) -> Result<Sums, StopFault>
+/// Runs the load, with a journal on a new file at this path, if there is one.
+fn measure<R>(
+    rt: &R,
+    alloc: Global,
+    load: Load,
+    journal: Option<&str>,
+    is_person: bool,
+) -> Result<Sums, StopFault>
 where
-    R: Threads + Wait + Sync,
-    ensures { IfOk result (λ s. (template : ATemplate) × AreCounts template s) }
-{
-    let template = template_of(&load)?;
-    measure(rt, alloc, load, template, NoJournal)
-}
-
-/// Runs the load with a journal on a new file at this path.
-fn measure_recorded<R>(rt: &R, alloc: Global, load: Load, path: &str) -> Result<Sums, StopFault>
-where
-    R: Threads + Wait + Files + Sync,
+    R: Threads + Wait + Files + Eprint + Sync,
     R::File: Send,
     ensures { IfOk result (λ s. (template : ATemplate) × AreCounts template s) }
 {
     let template = template_of(&load)?;
-    let Ok(file) = File::create_new(rt, path) else {
-        return Err(StopFault::NoJournal);
+    let Some(path) = journal else {
+        return measure_with(rt, alloc, load, template, NoJournal, is_person);
+    };
+    let file = match File::create_new(rt, path) {
+        Ok(file) => file,
+        Err(error) => return Err(StopFault::NoJournal(error.kind())),
     };
     match TextJournal::<Unknown, R::File, Global>::new(alloc, file, &template) {
-        Ok(journal) => measure(rt, alloc, load, template, journal),
+        Ok(journal) => measure_with(rt, alloc, load, template, journal, is_person),
         Err(not_begun) => Err(StopFault::from(not_begun.fault)),
     }
 }
 
 /// Runs the load with this journal.
-fn measure<R, J>(
+fn measure_with<R, J>(
     rt: &R,
     alloc: Global,
     load: Load,
     template: Template,
     journal: J,
+    is_person: bool,
 ) -> Result<Sums, StopFault>
 where
-    R: Threads + Wait + Sync,
+    R: Threads + Wait + Eprint + Sync,
     J: Journal + Drop + Send,
     requires { J.has journal template [] [] }
     ensures { IfOk result (λ s. (template : ATemplate) × AreCounts template s) }
 {
-    let ground = Ground::new(alloc, rt, template, handles_of(&load))?;
-    on_ground::<Brand, R, J>(rt, alloc, ground, load, journal)
+    let ground = Ground::new(alloc, rt, template, places_of(&load, is_person))?;
+    on_ground::<Brand, R, J>(rt, alloc, ground, load, journal, is_person)
 }
 
 /// Runs the load on a desk of this ground, which N names, with this journal.
@@ -214,26 +219,32 @@ fn on_ground<N, R, J>(
     ground: Ground<&R>,
     load: Load,
     journal: J,
+    is_person: bool,
 ) -> Result<Sums, StopFault>
 where
     N: Name + Send + Sync,
-    R: Threads + Wait + Sync,
+    R: Threads + Wait + Eprint + Sync,
     J: Journal + Drop + Send,
     requires name { (ground.press ≡ N.press) × (ground.template ≡ N.template) × (ground.roll ≡ N.roll) }
     requires journal { J.has journal N.template [] [] }
     ensures { IfOk result (λ s. AreCounts N.template s) }
 {
     let desk: Desk<N, ScriptStarter, &R, J> = Desk::with_journal(ground, ScriptStarter, journal);
-    on_desk(rt, alloc, &desk, load)
+    on_desk(rt, alloc, &desk, load, is_person)
 }
 
 /// Runs the load on this desk, with a handle for each reader.
-fn on_desk<N: Name + Send + Sync, R: Threads + Wait + Sync, J: Journal + Drop + Send>(
+fn on_desk<N, R, J>(
     rt: &R,
     alloc: Global,
     desk: &Desk<N, ScriptStarter, &R, J>,
     load: Load,
+    is_person: bool,
 ) -> Result<Sums, StopFault>
+where
+    N: Name + Send + Sync,
+    R: Threads + Wait + Eprint + Sync,
+    J: Journal + Drop + Send,
     ensures { IfOk result (λ s. AreCounts N.template s) }
 {
     let mut handles = Vec::with_capacity(alloc, load.readers)?;
@@ -243,7 +254,8 @@ fn on_desk<N: Name + Send + Sync, R: Threads + Wait + Sync, J: Journal + Drop + 
         }
     }
     let plan = plan(alloc, load)?;
-    beside_readers(rt, alloc, desk, handles, plan, load.turns)
+    let asker = if is_person { desk.asker(rt).ok() } else { None };
+    beside_readers(rt, alloc, desk, handles, plan, load, asker)
 }
 
 /// The children `c1`, `c2` and so on, as many as the load says.
@@ -266,20 +278,28 @@ fn plan(alloc: Global, load: Load) -> Result<Plan, AllocError>
     })
 }
 
-/// Runs the crew while each of these handles asks in a thread of its own.
-fn beside_readers<'d, N: Name + Send + Sync, R: Threads + Wait + Sync, J: Journal + Drop + Send>(
+/// Runs the crew while each of these handles asks in a thread of its own, and the asker in another, which says to a person how far
+/// the load is.
+fn beside_readers<'d, N, R, J>(
     rt: &R,
     alloc: Global,
     desk: &'d Desk<N, ScriptStarter, &R, J>,
     handles: Vec<Handle<'d, N, ScriptStarter, &R, J>>,
     plan: Plan,
-    turns: u64,
+    load: Load,
+    asker: Option<Asker<N>>,
 ) -> Result<Sums, StopFault>
+where
+    N: Name + Send + Sync,
+    R: Threads + Wait + Eprint + Sync,
+    J: Journal + Drop + Send,
     requires workers { (1 ≤ plan.workers) × (plan.workers ≤ 64) }
     requires inbox { plan.inbox ≡ 1024 }
     requires turns { plan.turns ≡ 1000000000 }
     ensures { IfOk result (λ s. AreCounts N.template s) }
 {
+    let progress = Progress::new();
+    let told = &progress;
     thread::scope(
         thread::scope_env(),
         rt,
@@ -292,15 +312,20 @@ fn beside_readers<'d, N: Name + Send + Sync, R: Threads + Wait + Sync, J: Journa
             let mut readers = Vec::with_capacity(alloc, handles.len())?;
             for handle in handles {
                 let mut handle = handle;
-                let Ok(reader) = scope.spawn(move || read_turns(&mut handle, turns)) else {
+                let Ok(reader) = scope.spawn(move || read_turns(&mut handle, load.turns)) else {
                     return Err(StopFault::OutOfMemory);
                 };
                 if readers.push(reader).is_err() {
                     return Err(StopFault::OutOfMemory);
                 }
             }
+            // (if that can't be written, the load still runs)
+            if let Some(mut asker) = asker {
+                let _ = scope.spawn(move || told.tell(rt, &mut asker, load.children));
+            }
             let report = run_crew(rt, alloc, desk, &EndsAtOnce, plan);
             let asked = join_readers(rt, readers);
+            told.end();
             Ok(sums_of(&report?, asked))
         },
     )
@@ -331,6 +356,7 @@ fn sums_of<N: Name>(report: &Report<N>, asked: (u64, Result<(), Gone>)) -> Sums
         AreCounts N.template result }
     ensures fault { result.fault ≡ fault_behind report.now.fault asked.1 }
     ensures kept { (result.left ≡ vec_len report.now.left) × (result.held ≡ vec_len report.now.held) × (result.reads ≡ asked.0) }
+    ensures posted { (result.waiting ≡ vec_len report.now.inbox) × (result.unposted ≡ vec_len report.now.unposted) × (result.unstarted ≡ vec_len report.now.unstarted) }
 {
     let (reads, outcome) = asked;
     let fault = match (report.fault, outcome) {
@@ -346,6 +372,9 @@ fn sums_of<N: Name>(report: &Report<N>, asked: (u64, Result<(), Gone>)) -> Sums
         given_up: report.tally.given_up,
         left: report.left.len(),
         held: report.held.len(),
+        waiting: report.inbox.len(),
+        unposted: report.unposted.len(),
+        unstarted: report.unstarted.len(),
         reads,
         fault,
     }

@@ -1,5 +1,5 @@
-//! `supload`: a supervisor at the command line. It answers a script or replays a history on standard input, or runs a
-//! crew beside readers.
+//! `supload`: a supervisor at the command line. It answers a script, a history text or a journal, runs a crew beside readers, or
+//! serves sessions.
 //!
 //! The whole program is [`program::run_words`], over any reader and writers; `main` only collects the words and the
 //! three streams.
@@ -8,21 +8,25 @@
 mod fault;
 mod load;
 mod program;
+mod progress;
 
-use program::{refuse_words, run_words};
+use program::run_words;
+use std::io::IsTerminal;
 use std::process::ExitCode;
 use std::rt::Env;
 use std::{env, io};
 use sup_script::{WatchedReader, WatchedWriter};
+use sup_words::refuse_words;
 
 fn main(rt: HostRuntime) -> ExitCode {
     let mut err = rt.stderr();
     let words = match words_given(&rt) {
         Ok(words) => words,
-        Err(error) => return ExitCode::from(refuse_words(&error, &mut err)),
+        Err(error) => return ExitCode::from(refuse_words(&error, &mut err).number()),
     };
     let mut input = WatchedReader::new(rt.stdin());
     let mut out = WatchedWriter::new(rt.stdout());
+    let is_person = err.is_terminal();
     let status = run_words(
         &rt,
         rt.alloc(),
@@ -30,6 +34,7 @@ fn main(rt: HostRuntime) -> ExitCode {
         &mut input,
         &mut out,
         &mut err,
+        is_person,
     );
     ExitCode::from(status)
 }

@@ -2,19 +2,18 @@
 
 ghost use Rattle.std.specs.Prelude.{◌≡◌, ◌⊎◌, ℕ, List, [], ◌∷◌, codes, false, map, true};
 ghost use Rattle.sup_script.specs.Running.Answers.{IsScriptAnswered, IsReplayAnswered, status_number};
-ghost use Rattle.sup_load.specs.Answered.{IsLoadAnswered, IsShown, IsShownAs, IsWritten, IsAnswered, IsLoadReply, IsReplyTo, IsServed, IsServing};
+ghost use Rattle.sup_load.specs.Answered.{IsLoadAnswered, IsAnswered, IsLoadReply, IsReplyTo, IsServed, IsServing};
 ghost use Rattle.sup_words.specs.Settings.{Given, IsWhole, words_of};
-ghost use Rattle.clap.specs.Values.{kind_of};
-ghost use Rattle.sup_words.specs.Orders.{command_at, kinds_at};
+ghost use Rattle.sup_words.specs.Orders.{HasFile, command_at, kinds_at};
 ghost use Rattle.sup_load.specs.Statuses.{status_of_load, status_of_load_fault, status_of_serve_fault};
 ghost use Rattle.sup_script.specs.declared.runs.answer.Status.{Status as AStatus};
 ghost use Rattle.sup_script.specs.declared.runs.answer.Status.TheVariants.{Failed};
 
 use crate::fault::{LoadFault, StopFault};
-use crate::load::{run_load, write_text};
-use clap::error::{Error, ErrorKind};
-use std::alloc::{AllocError, AllocGlobal, Global};
+use crate::load::run_load;
+use std::alloc::{AllocGlobal, Global};
 use std::convert::AsStr;
+use std::fmt::Display;
 use std::fs::Files;
 use std::io;
 use std::io::{Read, Write};
@@ -22,9 +21,9 @@ use std::random::RandomSource;
 use std::sync::Wait;
 use std::thread::Threads;
 use std::time::Clock;
-use sup_script::{Format, Status, WatchedReader, WatchedWriter, answer_text};
-use sup_serve::{Notices, ServeFault, serve};
-use sup_words::{Load, Order, read_words};
+use sup_script::{Status, WatchedReader, WatchedWriter, answer_input};
+use sup_serve::{ServeFault, serve};
+use sup_words::{Load, Notices, Order, read_words, show};
 
 /// The status of a load that stopped with this fault.
 fn load_status(fault: LoadFault) -> Status
@@ -43,13 +42,16 @@ fn server_status(fault: ServeFault) -> Status
 {
     match fault {
         ServeFault::Read | ServeFault::Write => Status::Failed,
-        ServeFault::OutOfMemory | ServeFault::Crew(_) => Status::OtherFault,
+        ServeFault::OutOfMemory
+        | ServeFault::Crew(_)
+        | ServeFault::Journal(_)
+        | ServeFault::NoJournal(_) => Status::OtherFault,
     }
 }
 
 /// Does what the words ask for, of which the first is the program's name, and answers the exit status. The replies, or
 /// a help text, go to `out`; the line of a fault, and words that are refused, go to `err`. A failed write to `err`
-/// changes nothing.
+/// changes nothing. To a person, who reads `err`, a fault in a text is explained without being asked.
 ///
 /// It waits, for the threads and locks of a load or a server alone.
 pub fn run_words<T, S, R, W, E>(
@@ -59,9 +61,10 @@ pub fn run_words<T, S, R, W, E>(
     reader: &mut WatchedReader<R>,
     out: &mut WatchedWriter<W>,
     err: &mut E,
+    is_person: bool,
 ) -> u8
 where
-    T: Threads + Wait + Clock + RandomSource + AllocGlobal + Files + Sync,
+    T: Threads + Wait + Clock + RandomSource + AllocGlobal + Files + Eprint + Sync,
     T::File: Send,
     S: AsStr,
     R: Read,
@@ -85,14 +88,14 @@ where
     ensures words { (status : AStatus) × (result ≡ status_number status)
         × IsReplyTo (map S.text words.now) (R.remaining reader.old.reader) (R.remaining reader.new.reader) (W.contents out.old.writer)
         (W.contents out.new.writer) reader.new.has_failed reader.new.given out.new.has_refused status }
-    // Whatever the words, it does one of four things, or they are those of a server.
+    // Whatever the words, it answers a text, runs a load or shows something, or they are those of a server.
     ensures one { (status : AStatus) × (result ≡ status_number status)
         × (IsAnswered (R.remaining reader.old.reader) (R.remaining reader.new.reader) (W.contents out.old.writer) (W.contents out.new.writer)
         reader.new.has_failed reader.new.given out.new.has_refused status
         ⊎ IsServing (kinds_at (map S.text words.now)) (command_at (map S.text words.now)) reader.new.has_failed out.new.has_refused status) }
-    ensures cause { result ≡ 3 → (reader.new.has_failed ≡ true) ⊎ (out.new.has_refused ≡ true) }
+    ensures cause { result ≡ 3 → (reader.new.has_failed ≡ true) ⊎ ((out.new.has_refused ≡ true) ⊎ HasFile (command_at (map S.text words.now))) }
 {
-    answer_words(rt, alloc, words, reader, out, err).number()
+    answer_words(rt, alloc, words, reader, out, err, is_person).number()
 }
 
 /// Does what the words ask for, as [`run_words`].
@@ -103,9 +106,10 @@ fn answer_words<T, S, R, W, E>(
     reader: &mut WatchedReader<R>,
     out: &mut WatchedWriter<W>,
     err: &mut E,
+    is_person: bool,
 ) -> Status
 where
-    T: Threads + Wait + Clock + RandomSource + AllocGlobal + Files + Sync,
+    T: Threads + Wait + Clock + RandomSource + AllocGlobal + Files + Eprint + Sync,
     T::File: Send,
     S: AsStr,
     R: Read,
@@ -129,29 +133,25 @@ where
     ensures one { IsAnswered (R.remaining reader.old.reader) (R.remaining reader.new.reader) (W.contents out.old.writer) (W.contents out.new.writer)
         reader.new.has_failed reader.new.given out.new.has_refused result
         ⊎ IsServing (kinds_at (map S.text words.now)) (command_at (map S.text words.now)) reader.new.has_failed out.new.has_refused result }
-    ensures cause { result ≡ Failed → (reader.new.has_failed ≡ true) ⊎ (out.new.has_refused ≡ true) }
+    ensures cause { result ≡ Failed → (reader.new.has_failed ≡ true) ⊎ ((out.new.has_refused ≡ true) ⊎ HasFile (command_at (map S.text words.now))) }
 {
     match read_words(alloc, words) {
-        Ok(Order::Script(detail)) => answer_text(alloc, Format::Script, detail, reader, out, err),
-        Ok(Order::Replay(detail)) => answer_text(alloc, Format::History, detail, reader, out, err),
-        Ok(Order::Load(load, journal)) => answer_load(rt, alloc, load, journal, out, err),
-        Ok(Order::Serve(notices)) => answer_serve(rt, alloc, notices, reader, out, err),
+        Ok(Order::Text(input, detail)) => {
+            let detail = detail.said_to(is_person);
+            answer_input(rt, alloc, input, detail, reader, out, err)
+        }
+        Ok(Order::Load(load, journal)) => {
+            answer_load(rt, alloc, load, journal, out, err, is_person)
+        }
+        Ok(Order::Serve(notices, journal)) => {
+            answer_serve(rt, alloc, notices, journal, reader, out, err)
+        }
         Err(error) => show(alloc, &error, out, err),
     }
 }
 
-/// Tells why the words of the command line could not be had, and answers the exit status: one is not UTF-8, or there was
-/// no memory.
-pub fn refuse_words<E: Write>(error: &io::Error, err: &mut E) -> u8 {
-    if error.kind() == io::ErrorKind::InvalidData {
-        let _ = writeln!(err, "error: a word of the command line is not UTF-8");
-        return Status::BadInput.number();
-    }
-    told_load(Err(LoadFault::from(AllocError)), err).number()
-}
-
-/// Runs a load, with a journal at this path, if there is one. The fault that stopped it, if there is one, is a line on standard
-/// error.
+/// Runs a load, with a journal at this path, if there is one. It says to a person how far it is. The fault that stopped it, if there is
+/// one, is a line on standard error.
 fn answer_load<T, W: Write, E: Write>(
     rt: &T,
     alloc: Global,
@@ -159,84 +159,108 @@ fn answer_load<T, W: Write, E: Write>(
     journal: Option<&str>,
     out: &mut WatchedWriter<W>,
     err: &mut E,
+    is_person: bool,
 ) -> Status
 where
-    T: Threads + Wait + Files + Sync,
+    T: Threads + Wait + Files + Eprint + Sync,
     T::File: Send,
     ensures loaded { IsLoadAnswered (W.contents out.old.writer) (W.contents out.new.writer) out.new.has_refused result }
     ensures cause { result ≡ Failed → out.new.has_refused ≡ true }
 {
-    told_load(run_load(rt, alloc, load, journal, out), err)
+    let outcome = run_load(rt, alloc, load, journal, out, is_person);
+    told_load(outcome, cause_of(outcome, journal, out), err)
 }
 
-/// Serves sessions. The fault that stopped the server, if there is one, is a line on standard error.
+/// Serves sessions, with a journal at this path, if there is one. The fault that stopped the server, if there is one, is a line on
+/// standard error.
 fn answer_serve<T, R, W, E>(
     rt: &T,
     alloc: Global,
     notices: Notices,
+    journal: Option<&str>,
     reader: &mut WatchedReader<R>,
     out: &mut WatchedWriter<W>,
     err: &mut E,
 ) -> Status
 where
-    T: Threads + Wait + Clock + RandomSource + AllocGlobal + Sync,
+    T: Threads + Wait + Clock + RandomSource + AllocGlobal + Files + Sync,
+    T::File: Send,
     R: Read,
     W: Write,
     E: Write,
     ensures { IsServed reader.new.has_failed out.new.has_refused result }
 {
-    match serve(rt, alloc, reader, out, notices) {
+    let notices = match notices {
+        Notices::On => sup_serve::Notices::On,
+        Notices::Off => sup_serve::Notices::Off,
+    };
+    match serve(rt, alloc, journal, reader, out, notices) {
         Ok(()) => Status::Done,
         Err(fault) => {
-            let _ = writeln!(err, "fault {}", fault.number());
+            let cause = cause_of_server(fault, journal, reader, out);
+            say_fault(fault.number(), fault, cause, err);
             server_status(fault)
         }
     }
 }
 
-/// Tells the fault of a load, if there is one, by a line on standard error.
-fn told_load<E: Write>(outcome: Result<(), LoadFault>, err: &mut E) -> Status
+/// What the line of a fault says after its name.
+#[derive(Clone, Copy)]
+enum Cause<'a> {
+    /// The file that it is of.
+    File(&'a str),
+    /// What the writer answered.
+    Kind(io::ErrorKind),
+}
+
+/// Returns what the line of a load's fault says after its name: the path of a journal that can't be written, or what the output answered.
+fn cause_of<'a, W: Write>(
+    outcome: Result<(), LoadFault>,
+    journal: Option<&'a str>,
+    out: &WatchedWriter<W>,
+) -> Option<Cause<'a>> {
+    match outcome {
+        Err(LoadFault::WriteFault) => Some(Cause::Kind(out.error()?)),
+        Err(LoadFault::Stopped(StopFault::Journal(_) | StopFault::NoJournal(_))) => {
+            Some(Cause::File(journal?))
+        }
+        _ => None,
+    }
+}
+
+/// Returns what the line of a server's fault says after its name: the path of its journal, or what the input or the output answered.
+fn cause_of_server<'a, R: Read, W: Write>(
+    fault: ServeFault,
+    journal: Option<&'a str>,
+    reader: &WatchedReader<R>,
+    out: &WatchedWriter<W>,
+) -> Option<Cause<'a>> {
+    match fault {
+        ServeFault::Read => Some(Cause::Kind(reader.error()?)),
+        ServeFault::Write => Some(Cause::Kind(out.error()?)),
+        ServeFault::Journal(_) | ServeFault::NoJournal(_) => Some(Cause::File(journal?)),
+        _ => None,
+    }
+}
+
+/// Writes the line of a fault: its number, its name, and its cause.
+fn say_fault<E: Write>(number: u8, fault: impl Display + Drop, cause: Option<Cause>, err: &mut E) {
+    let _ = match cause {
+        Some(Cause::File(path)) => writeln!(err, "fault {number}: {fault}: {path}"),
+        Some(Cause::Kind(kind)) => writeln!(err, "fault {number}: {fault}: {kind}"),
+        None => writeln!(err, "fault {number}: {fault}"),
+    };
+}
+
+/// Tells the fault of a load, if there is one, by a line on standard error: its number, its name, and its cause.
+fn told_load<E: Write>(outcome: Result<(), LoadFault>, cause: Option<Cause>, err: &mut E) -> Status
     ensures { result ≡ status_of_load outcome }
 {
     match outcome {
         Ok(()) => Status::Done,
         Err(fault) => {
-            let _ = writeln!(err, "{fault}");
+            say_fault(fault.number(), fault, cause, err);
             load_status(fault)
         }
     }
-}
-
-/// Writes the text of words that are no order: a help text, the version, or why they are refused.
-fn show<W: Write, E: Write>(
-    alloc: Global,
-    error: &Error,
-    out: &mut WatchedWriter<W>,
-    err: &mut E,
-) -> Status
-    ensures kind { IsShownAs (kind_of error.now) (W.contents out.old.writer) (W.contents out.new.writer) out.new.has_refused result }
-    ensures shown { IsShown (W.contents out.old.writer) (W.contents out.new.writer) out.new.has_refused result }
-    ensures cause { result ≡ Failed → out.new.has_refused ≡ true }
-{
-    if !error.use_stderr() {
-        return told_load(write_help(alloc, error, out), err);
-    }
-    let _ = write!(err, "{error}");
-    if error.kind() == ErrorKind::OutOfMemory {
-        Status::OtherFault
-    } else {
-        Status::BadInput
-    }
-}
-
-/// Writes a help text or the version. OutOfMemory leaves nothing written; at WriteFault the writer refused.
-fn write_help<W: Write>(
-    alloc: Global,
-    text: &Error,
-    out: &mut WatchedWriter<W>,
-) -> Result<(), LoadFault>
-    ensures { IsWritten (W.contents out.old.writer) (W.contents out.new.writer) out.new.has_refused result }
-{
-    let text = format!(in alloc; "{text}")?;
-    write_text(out, text.as_str())
 }

@@ -1,11 +1,8 @@
 //! The two copies, of which lenses look at one: a writer of `left_right`.
 //!
 //! An update is decided and stepped on the copy that is not shown. So that copy is taken out of the reach of lenses first, which waits
-//! for the looks that still use it, and a publication shows it.
-//!
-//! The copy that a publication stops showing lacks the entries of that publication. They are kept until it takes them. The queue of
-//! operations that `left_right`'s writer has stays empty: each publication would be an operation with a list of its own, for which
-//! memory would be taken and given back.
+//! for the looks that still use it, and a publication shows it. The other copy lacks the entries of that publication: they are kept
+//! until it takes them. The queue of operations of `left_right`'s writer stays empty, since it takes memory for each publication.
 ghost use Rattle.std.specs.Prelude.{◌≡◌, ◌==◌, ◌<◌, ◌≤◌, List, [], fold, true, false, IfOk};
 ghost use Rattle.left_right.specs.Sides.{view};
 ghost use Rattle.sup_types.specs.declared.history.Entry.{Entry};
@@ -213,8 +210,7 @@ impl Copies {
         seat_of(&mut self.writer)
     }
 
-    /// Takes the copy that is not shown out of the reach of lenses, and has it step what it lacks. It waits for the looks that still use
-    /// that copy.
+    /// Takes the copy that is not shown in hand, once no look uses it, and has it step what it lacks.
     pub fn ready<R: Wait>(&mut self, rt: &R)
         ensures { self.new ≡ record self.old { is_out = true } }
     {
@@ -241,7 +237,7 @@ impl Copies {
         }
     }
 
-    /// Tells whether the copy in hand has taken as many entries as a history may have.
+    /// Returns whether the copy in hand has taken as many entries as a history may have.
     pub fn is_spent(&self) -> bool
         requires { self.now.is_out ≡ true }
         ensures { result ≡ (self.now.next.steps == self.now.next.template.entries) }
@@ -287,8 +283,7 @@ impl Copies {
         }
     }
 
-    /// Shows the copy in hand, which has taken just these entries more than the other one, and empties the list of them. It takes no
-    /// memory: the list becomes that of the entries which the other copy lacks.
+    /// Shows the copy in hand, which has taken these entries more than the other one, and empties their list. It takes no memory.
     pub fn show<R: Wait>(&mut self, rt: &R, entries: &mut Vec<Entry>, front: &Ticket)
         requires out { self.old.is_out ≡ true }
         requires stepped { self.old.next ≡ fold taken self.old.shown.standing entries.old.items }

@@ -91,7 +91,7 @@ impl Lens {
         }
     }
 
-    /// Lets each later front begin with the ticket's. It enters nothing and always succeeds.
+    /// Makes each later front begin with the ticket's. It enters nothing and always succeeds.
     pub fn learn(&mut self, ticket: &Ticket) -> Result<(), Gone>
         requires { ticket.now.press ≡ self.old.press }
         ensures answered { IsOk result }

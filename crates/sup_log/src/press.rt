@@ -54,10 +54,13 @@ fn extended(history: &mut History, entries: &[Entry]) -> Ticket
 }
 
 impl<R: Wait + Drop> Press<R> {
-    /// Makes a press with nothing published and nothing pending, and with this many places for lenses.
+    /// Makes a press with nothing published and nothing pending, and with this many places for lenses, 1 to 1024.
     ///
-    /// Each publication visits each place, taken or not, at a price of some forty instructions. So ask for as many places as there are
-    /// threads that look at the same time.
+    /// Each publication visits each place, taken or not, at a price of some forty instructions. So ask for as many
+    /// places as there are threads that look at the same time.
+    ///
+    /// # Errors
+    /// `OutOfMemory` if there is no memory for the two copies.
     pub fn new(
         alloc: Global,
         rt: R,
@@ -78,8 +81,11 @@ impl<R: Wait + Drop> Press<R> {
         })
     }
 
-    /// Returns a lens that has seen all that was published. It waits for nothing, and is refused only if all places are taken as the call
-    /// begins. A lens that is dropped gives its place back.
+    /// Returns a lens that has seen all that was published. It waits for nothing. A lens that is dropped gives its
+    /// place back.
+    ///
+    /// # Errors
+    /// `NoPlace` only if all places are taken as the call begins. Nothing changes.
     pub fn lens(&mut self) -> Result<Lens, NoPlace>
         ensures kept { self.new ≡ self.old }
         ensures lens { IfOk result (λ l. l ≡ record { press = self.old.press; template = self.old.template; editions = self.old.editions; front = self.old.published }) }
@@ -92,7 +98,10 @@ impl<R: Wait + Drop> Press<R> {
         })
     }
 
-    /// Adds an entry to the pending ones. After a refusal nothing has changed.
+    /// Adds an entry to the pending ones.
+    ///
+    /// # Errors
+    /// `OutOfMemory` if there is no memory for it. Nothing changes.
     pub fn append(&mut self, entry: Entry) -> Result<(), OutOfMemory>
         requires { length self.old.published + length self.old.pending < self.old.template.entries }
         ensures { MatchResult result (λ _. self.new ≡ record self.old { pending = self.old.pending ++ entry ∷ [] }) (λ _. self.new ≡ self.old) }
@@ -127,7 +136,7 @@ impl<R: Wait + Drop> Press<R> {
         self.copies.ready(&self.rt);
     }
 
-    /// Tells whether the entries that were published or stepped are as many as the template allows.
+    /// Returns whether the entries that were published or stepped are as many as the template allows.
     pub fn is_full(&self) -> bool
         requires ready { self.now.is_out ≡ true }
         ensures value { result ≡ (length (so_far self.now) == self.now.template.entries) }

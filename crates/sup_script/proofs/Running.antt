@@ -5,4 +5,6 @@ pub mod LineByLine
 pub mod Pieces
 pub mod WholeRuns
 pub mod Replaying
+pub mod Journaling
+pub mod Filing
 pub mod WholeReplays

@@ -7,3 +7,4 @@ pub mod Answering
 pub mod Pieces
 pub mod Replays
 pub mod Answers
+pub mod Journals

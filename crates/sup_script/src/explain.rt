@@ -1,7 +1,7 @@
 //! Why a line has a fault, in words that a person can act on.
 //!
-//! A fault names its line by a number. An [`Explanation`] shows the line, marks the place in it, and says what may stand
-//! there. It reads the line word by word: numbers, texts and reasons with the functions that read them in commands and entries.
+//! A fault names its line by a number. An [`Explanation`] shows the line, marks the place in it, and says what is allowed there. It
+//! reads the line word by word, numbers, texts and reasons with the functions that read them in commands and entries.
 pub mod faulty;
 mod place;
 mod shape;
@@ -16,7 +16,7 @@ use std::{fmt, str};
 use strsim::osa_distance;
 use sup_format::{Fault, ScriptFault, read_number};
 
-/// What is wrong at a place of a line.
+/// Says what is wrong at a place of a line.
 #[derive(Clone, Copy)]
 enum Wrong {
     /// What these words say.
@@ -50,10 +50,18 @@ const SIGNIFICANT_STAYS_UP: Wrong = Wrong::Said(
     "a significant child needs the automatic shutdown `any` or `all`",
 );
 
+const WINDOWS_LINE_END: Wrong = Wrong::Said(
+    "this line has a Windows line end (0x0D 0x0A), and a line ends with 0x0A alone",
+);
+
+const BYTE_ORDER_MARK: Wrong = Wrong::Said(
+    "the input begins with a byte order mark (0xEF 0xBB 0xBF), and it begins with the first word",
+);
+
 const UNENDED: Wrong = Wrong::Said("the line lacks its line feed");
 
-/// What is wrong with a line of a script or of a history text, where, and what may stand there. It is shown by three
-/// lines: the line itself, a mark under the place with what is wrong, and what was expected.
+/// Says what is wrong with a line of a script or of a history text, where, and what is allowed there. It is shown as three lines:
+/// the line itself, a mark under the place with what is wrong, and what was expected.
 #[derive(Clone, Copy)]
 pub struct Explanation<'a> {
     line: &'a FaultyLine,
@@ -64,8 +72,8 @@ pub struct Explanation<'a> {
 }
 
 impl<'a> Explanation<'a> {
-    /// Explains the fault of a line, where it is one that a line can have of itself: BadLine or BadTemplate. A word
-    /// that is likely meant is named, where there is memory to look for it.
+    /// Explains a BadLine or a BadTemplate, and returns None for another fault. A word that is likely meant is named, if there is
+    /// memory to look for it.
     pub fn new<A: Allocator + Copy>(
         alloc: A,
         format: Format,
@@ -132,7 +140,7 @@ fn explain_at<'a>(line: &'a FaultyLine, misfit: &Misfit, wrong: Wrong) -> Explan
     }
 }
 
-/// What is wrong with the word at a place of a line, which may be cut behind it.
+/// Says what is wrong with the word at a place of a line, which may be cut after it.
 fn wrong_at<A: Allocator + Copy>(alloc: A, misfit: &Misfit, is_cut: bool) -> Wrong {
     let Some(word) = misfit.word else {
         return LINE_ENDS;
@@ -144,7 +152,7 @@ fn wrong_at<A: Allocator + Copy>(alloc: A, misfit: &Misfit, is_cut: bool) -> Wro
         return EMPTY_WORD;
     }
     if let Some(byte) = word.iter().copied().find(|byte| !byte.is_ascii_graphic()) {
-        return Wrong::OddByte(byte);
+        return wrong_byte(word, byte, misfit.left);
     }
     match misfit.place.form {
         Form::OneOf(choices) => nearest(alloc, word, choices).map_or(UNKNOWN, Wrong::Near),
@@ -154,7 +162,18 @@ fn wrong_at<A: Allocator + Copy>(alloc: A, misfit: &Misfit, is_cut: bool) -> Wro
     }
 }
 
-/// The text that a reason consists of, or ends with.
+/// Says what is wrong with a word that has this byte. `left` counts the bytes from the word to the end of its line.
+fn wrong_byte(word: &[u8], byte: u8, left: usize) -> Wrong {
+    if byte == b'\r' && left == word.len() && word.ends_with(b"\r") {
+        return WINDOWS_LINE_END;
+    }
+    if word.starts_with(b"\xEF\xBB\xBF") {
+        return BYTE_ORDER_MARK;
+    }
+    Wrong::OddByte(byte)
+}
+
+/// Returns the text that a reason consists of, or ends with.
 fn term_of(word: &[u8]) -> &[u8] {
     word.strip_prefix(b"shutdown:".as_slice()).unwrap_or(word)
 }
@@ -179,7 +198,7 @@ fn wrong_number(word: &[u8]) -> Wrong {
 /// The most changes of a character by which a word is taken for another one.
 const MOST_CHANGES: usize = 2;
 
-/// The choice that is likely meant: one that is few changes away, and fewer than it has characters.
+/// Returns the choice that is likely meant: one that is few changes away, and fewer than it has characters.
 fn nearest<A: Allocator + Copy>(
     alloc: A,
     word: &[u8],
@@ -235,7 +254,7 @@ impl fmt::Display for Explanation<'_> {
     }
 }
 
-/// The character by which a byte of a line is shown.
+/// Returns the character by which a byte of a line is shown.
 fn shown(byte: u8) -> char {
     if byte == b' ' || byte.is_ascii_graphic() {
         char::from(byte)

@@ -6,10 +6,10 @@ ghost use Rattle.sup_script.specs.Starter.{script_answer, is_gap_at, is_within};
 use sup_format::{read_number, split_once};
 use sup_types::{Answer, FixedStarter, Starter, Text};
 
-/// The start function of scripts: it answers by the child's argument and the moment alone.
+/// Answers by the child's argument and the moment alone.
 ///
-/// `ignore` is answered by Ignore, and `fail` by Failed(1). An argument `gap:A:B` with two numbers A and B is answered
-/// by Failed(1) at the moments from A on that are before B. Everything else runs.
+/// `ignore` is answered by Ignore, and `fail` by Failed(1). An argument `gap:A:B` with two numbers A and B is answered by Failed(1)
+/// at the moments from A on that are before B. Everything else runs.
 #[derive(Clone, Copy, Debug)]
 pub struct ScriptStarter;
 
@@ -39,7 +39,7 @@ impl Starter for ScriptStarter {
     }
 }
 
-/// Whether an argument is `gap:A:B` of two numbers between which the moment is.
+/// Returns whether an argument is `gap:A:B` of two numbers between which the moment is.
 fn is_gap_at(bytes: &[u8], moment: u64) -> bool
     ensures { result ≡ is_gap_at bytes.now moment }
 {
@@ -52,7 +52,7 @@ fn is_gap_at(bytes: &[u8], moment: u64) -> bool
     is_within(from, to, moment)
 }
 
-/// Whether both words are numbers, between which the moment is.
+/// Returns whether both words are numbers, between which the moment is.
 fn is_within(from: &[u8], to: &[u8], moment: u64) -> bool
     ensures { result ≡ is_within from.now to.now moment }
 {

@@ -4,7 +4,7 @@ use crate::session::Heard;
 use std::alloc::Global;
 use std::fmt::Display;
 use std::io::Write;
-use sup_desk::{Done, QueryFault, UpdateFault};
+use sup_desk::{QueryFault, UpdateFault};
 use sup_log::Gone;
 use sup_script::WatchedWriter;
 use sup_types::{Counts, Reply, Row, Seen};
@@ -47,30 +47,18 @@ impl<'o, W: Write> Answers<'o, W> {
         }
     }
 
-    /// Says what came of an opening.
-    pub fn say_opened(&mut self, done: Result<Done, UpdateFault>) -> Result<(), ServeFault> {
-        match done {
-            Ok(done) => match done.reply {
-                Reply::Started(number) => self.say(format_args!("opened {number}")),
-                Reply::Full => self.say("error full"),
-                _ => self.say("error down"),
-            },
-            Err(fault) => self.say(format_args!("error {fault}")),
-        }
-    }
-
-    /// Says what came of a closing.
-    pub fn say_closing(
+    /// Says the reply to an opening, or to closing the session with this number, or why there is none.
+    pub fn say_done(
         &mut self,
         number: u64,
-        done: Result<Done, UpdateFault>,
+        reply: Result<Reply, UpdateFault>,
     ) -> Result<(), ServeFault> {
-        match done {
-            Ok(done) => match done.reply {
-                Reply::Ended => self.say(format_args!("closing {number}")),
-                Reply::NotFound => self.say_nobody(number),
-                _ => self.say("error down"),
-            },
+        match reply {
+            Ok(Reply::Started(number)) => self.say(format_args!("opened {number}")),
+            Ok(Reply::Full) => self.say("error full"),
+            Ok(Reply::Ended) => self.say(format_args!("closing {number}")),
+            Ok(Reply::NotFound) => self.say_nobody(number),
+            Ok(_) => self.say("error down"),
             Err(fault) => self.say(format_args!("error {fault}")),
         }
     }

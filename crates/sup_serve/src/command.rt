@@ -33,8 +33,14 @@ const A_CRASH: &str = "`crash NUMBER`, with the number of a session";
 
 const A_CLOSE: &str = "`close NUMBER`, with the number of a session";
 
-/// The command that a line spells, or what was expected of it.
+const A_LINE_END: &str =
+    "a line that ends with 0x0A alone, and this one has a Windows line end (0x0D 0x0A)";
+
+/// Returns the command that a line spells, or what was expected of it.
 pub fn read_command(line: &[u8]) -> Result<Command, &'static str> {
+    if let Some(b'\r') = line.last() {
+        return Err(A_LINE_END);
+    }
     let (word, rest) = split(line);
     match word {
         b"open" => Text::new(rest).map(Command::Open).ok_or(A_NAME),

@@ -1,8 +1,8 @@
 //! Why a server ended before its input did.
 use std::alloc::AllocError;
-use sup_desk::DeskFault;
+use sup_desk::JournalFault;
+use sup_journal::OpenFault;
 use sup_live::LiveFault;
-use sup_types::OutOfMemory;
 use thiserror::Error;
 
 /// Why a server did not run, or ended before its input did.
@@ -20,6 +20,12 @@ pub enum ServeFault {
     /// The output answered an error.
     #[error("the answers could not be written")]
     Write,
+    /// The journal broke off, and refused the updates from then on.
+    #[error("the journal broke off: {0}")]
+    Journal(JournalFault),
+    /// The journal's file could not be continued. Its whole lines are as they were.
+    #[error("{0}")]
+    NoJournal(OpenFault),
 }
 
 impl ServeFault {
@@ -35,13 +41,9 @@ impl ServeFault {
             ServeFault::Crew(fault) => fault.number(),
             ServeFault::Read => 10,
             ServeFault::Write => 11,
+            ServeFault::Journal(_) => 13,
+            ServeFault::NoJournal(fault) => fault.number(),
         }
-    }
-}
-
-impl From<OutOfMemory> for ServeFault {
-    fn from(_fault: OutOfMemory) -> Self {
-        ServeFault::OutOfMemory
     }
 }
 
@@ -51,14 +53,14 @@ impl From<AllocError> for ServeFault {
     }
 }
 
-impl From<DeskFault> for ServeFault {
-    fn from(_fault: DeskFault) -> Self {
-        ServeFault::OutOfMemory
-    }
-}
-
 impl From<LiveFault> for ServeFault {
     fn from(fault: LiveFault) -> Self {
         ServeFault::Crew(fault)
+    }
+}
+
+impl From<OpenFault> for ServeFault {
+    fn from(fault: OpenFault) -> Self {
+        ServeFault::NoJournal(fault)
     }
 }

@@ -1,6 +1,7 @@
 //! The lines of an input.
 ghost use Rattle.std.specs.Prelude.{◌≤◌};
 
+use arrayvec::ArrayVec;
 use std::io::Read;
 use std::sync::Wait;
 use sup_script::WatchedReader;
@@ -9,33 +10,7 @@ use sup_script::WatchedReader;
 const MOST_KEPT: usize = 128;
 
 /// A line without its line feed: at most its first 128 bytes.
-#[derive(Clone, Copy)]
-pub struct Line {
-    bytes: [u8; 128],
-    len: usize,
-    ghost few: { len ≤ 128 },
-}
-
-impl Line {
-    fn new() -> Line {
-        Line {
-            bytes: [0; 128],
-            len: 0,
-        }
-    }
-
-    fn push(&mut self, byte: u8) {
-        if self.len < MOST_KEPT {
-            self.bytes[self.len] = byte;
-            self.len += 1;
-        }
-    }
-
-    /// The bytes that are kept.
-    pub fn bytes(&self) -> &[u8] {
-        &self.bytes[..self.len]
-    }
-}
+pub type Line = ArrayVec<u8, MOST_KEPT>;
 
 /// The lines of an input, which is read in pieces.
 #[derive(Drop)]
@@ -49,7 +24,7 @@ pub struct Lines<'a, I> {
 }
 
 impl<'a, I: Read> Lines<'a, I> {
-    /// The lines of an input of which nothing was read.
+    /// Makes the lines of an input of which nothing was read.
     pub fn new(input: &'a mut WatchedReader<I>) -> Lines<'a, I> {
         Lines {
             input,
@@ -59,8 +34,8 @@ impl<'a, I: Read> Lines<'a, I> {
         }
     }
 
-    /// The next line, which the input's end ends, too. None where the input has ended or failed: a line in which it fails is
-    /// none.
+    /// Returns the next line, which the input's end ends as well. None if the input has ended or failed: a line in which it fails
+    /// is none.
     pub fn next<R: Wait>(&mut self, rt: &R) -> Option<Line> {
         let mut line = Line::new();
         let mut is_begun = false;
@@ -68,7 +43,8 @@ impl<'a, I: Read> Lines<'a, I> {
             match self.next_byte() {
                 Some(b'\n') => return Some(line),
                 Some(byte) => {
-                    line.push(byte);
+                    // (of a line that is too long only the beginning is kept)
+                    let _ = line.try_push(byte);
                     is_begun = true;
                 }
                 None => return (is_begun && !self.input.has_failed()).then_some(line),

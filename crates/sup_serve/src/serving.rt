@@ -2,58 +2,58 @@
 ghost use Rattle.std.specs.Prelude.{◌≡◌, true, false, IfErr, OnOk};
 ghost use Rattle.sup_serve.specs.declared.fault.ServeFault.TheVariants as fault;
 
+use crate::account::Account;
 use crate::fault::ServeFault;
+use crate::recorded::serve_recorded;
 use crate::server::{Notices, Server};
 use crate::session::Sessions;
+use futures::channel::mpsc::unbounded;
 use std::alloc::{AllocGlobal, Global};
+use std::fs::Files;
 use std::io::{Read, Write};
-use std::marker::Brand;
 use std::random::RandomSource;
 use std::sync::Wait;
 use std::thread::Threads;
-use std::time::Clock;
-use sup_desk::{Caller, Desk, Ground, Handle, Name};
-use sup_live::{Moments, Plan, run_live};
+use std::time::{Clock, Duration};
+use sup_live::{Plan, on_crew};
 use sup_script::{WatchedReader, WatchedWriter};
-use sup_types::{AlwaysRunning, Kind, Restart, Template};
+use sup_types::{Kind, Restart, Template};
 
 /// The most sessions at a time.
 const MOST_SESSIONS: u64 = 65_536;
 
-/// How many sessions there were, once all have ended.
-#[derive(Clone, Copy)]
-struct Account {
-    opened: u64,
-    restarted: u64,
-    ended: u64,
-    adds_up: bool,
-}
-
 /// Answers the lines of the input until it ends, or asks to quit. Then the sessions are told to end, and the account is
-/// written: how many were opened, restarted and ended. It waits.
+/// written. It waits.
 ///
-/// Read and Write: the input or the output failed; the sessions were told to end, too, and what was answered before is
-/// written. OutOfMemory: the same, for want of memory, or nothing was read. Crew: the crew could not run, and nothing was read.
+/// With the path of a journal the sessions outlive the server. Their history is in that file, which is made if there is none: the
+/// sessions that it lists run again, each under its number, and a line says how many, before anything is read.
+///
+/// # Errors
+/// `Read` and `Write`: the input or the output failed; the sessions were told to end, and what was answered before is written.
+/// `Journal`: it broke off, and no account is written. `OutOfMemory`: memory ran out, before or after the first line was read.
+/// `Crew`: the crew could not run, and `NoJournal`: the file could not be continued; nothing was read.
 pub fn serve<R, I, W>(
     rt: &R,
     alloc: Global,
+    journal: Option<&str>,
     input: &mut WatchedReader<I>,
     out: &mut WatchedWriter<W>,
     notices: Notices,
 ) -> Result<(), ServeFault>
 where
-    R: Threads + Wait + Clock + RandomSource + AllocGlobal + Sync,
+    R: Threads + Wait + Clock + RandomSource + AllocGlobal + Files + Sync,
+    R::File: Send,
     I: Read,
     W: Write,
     ensures ok { OnOk result (input.new.has_failed ≡ false) }
     ensures read { IfErr result (λ e. e ≡ fault.Read → input.new.has_failed ≡ true) }
     ensures write { IfErr result (λ e. e ≡ fault.Write → out.new.has_refused ≡ true) }
 {
-    let account = serve_lines(rt, alloc, input, out, notices);
+    let account = serve_lines(rt, alloc, journal, input, out, notices);
     conclude(alloc, input, out, account)
 }
 
-/// How serving ended, by what failed meanwhile: where nothing did, the account is written. It stands apart from what serves,
+/// Returns how serving ended, by what failed meanwhile: where nothing did, the account is written. It stands apart from what serves,
 /// so that its contract is proved, and its mutants are refused, without that.
 fn conclude<I: Read, W: Write>(
     alloc: Global,
@@ -72,25 +72,16 @@ fn conclude<I: Read, W: Write>(
         return Err(ServeFault::Write);
     }
     match account {
-        Ok(account) => tell_account(alloc, out, account),
+        Ok(account) => account.tell(alloc, out),
         Err(ServeFault::Crew(fault)) => Err(ServeFault::Crew(fault)),
+        Err(ServeFault::Journal(fault)) => Err(ServeFault::Journal(fault)),
+        Err(ServeFault::NoJournal(fault)) => Err(ServeFault::NoJournal(fault)),
         Err(_) => Err(ServeFault::OutOfMemory),
     }
 }
 
-/// Makes the desk's ground, and serves on it.
-fn serve_lines<R, I, W>(
-    rt: &R,
-    alloc: Global,
-    input: &mut WatchedReader<I>,
-    out: &mut WatchedWriter<W>,
-    notices: Notices,
-) -> Result<Account, ServeFault>
-where
-    R: Threads + Wait + Clock + RandomSource + AllocGlobal + Sync,
-    I: Read,
-    W: Write,
-{
+/// Returns the template of the sessions.
+fn template() -> Template {
     let made = Template::new(
         Restart::Transient,
         Kind::Worker,
@@ -99,97 +90,49 @@ where
         MOST_SESSIONS,
         1 << 62,
     );
-    let Ok(template) = made else {
-        unreachable!();
-    };
-    let ground = Ground::new(alloc, rt, template, 2)?;
-    serve_on::<Brand, R, I, W>(rt, alloc, ground, input, out, notices)
+    match made {
+        Ok(template) => template,
+        Err(_) => unreachable!(),
+    }
 }
 
-/// Serves on a desk of this ground, which N names.
-fn serve_on<N, R, I, W>(
+/// Runs the crew of the sessions, with the server as its program.
+fn serve_lines<R, I, W>(
     rt: &R,
     alloc: Global,
-    ground: Ground<&R>,
+    journal: Option<&str>,
     input: &mut WatchedReader<I>,
     out: &mut WatchedWriter<W>,
     notices: Notices,
 ) -> Result<Account, ServeFault>
 where
-    N: Name + Send + Sync,
-    R: Threads + Wait + Clock + RandomSource + AllocGlobal + Sync,
+    R: Threads + Wait + Clock + RandomSource + AllocGlobal + Files + Sync,
+    R::File: Send,
     I: Read,
     W: Write,
-    requires { (ground.press ≡ N.press) × (ground.template ≡ N.template) × (ground.roll ≡ N.roll) }
 {
-    let desk: Desk<N, AlwaysRunning, &R> = Desk::new(ground, AlwaysRunning);
+    let (sender, restarted) = unbounded(alloc)?;
+    let sessions = Sessions { restarted: sender };
     let plan = Plan {
         workers: 4,
-        inbox: 4096,
-        retry_after: 1,
-        grace: 5,
+        retry_after: Duration::from_secs(1),
+        grace: Duration::from_secs(5),
+        places: 0,
     };
     let server = Server {
         host: rt,
         alloc,
         input,
         out,
+        restarted,
+        is_recorded: journal.is_some(),
         notices,
     };
-    let report = run_live(
-        rt,
-        alloc,
-        &desk,
-        &Sessions,
-        Moments::Monotonic,
-        plan,
-        server,
-    )?;
-    report.outcome?;
-    let adds_up = report.adds_up();
-    let (made, ended, restarted) = (report.made, report.exits, report.tally.restarts);
-    let is_audited = are_all(rt, &desk, report.driver, report.door);
-    Ok(Account {
-        opened: made.saturating_sub(restarted),
-        restarted,
-        ended,
-        adds_up: adds_up && is_audited,
-    })
-}
-
-/// Whether the history is the calls of these two and nothing else.
-fn are_all<N: Name, R: Wait>(
-    rt: &R,
-    desk: &Desk<N, AlwaysRunning, &R>,
-    driver: Caller<N>,
-    door: Caller<N>,
-) -> bool {
-    let mut handles = [desk.bind(driver), desk.bind(door)];
-    Handle::are_in_order(&handles) && desk.audit(rt, &mut handles).is_ok()
-}
-
-/// Writes the account.
-fn tell_account<W: Write>(
-    alloc: Global,
-    out: &mut WatchedWriter<W>,
-    account: Account,
-) -> Result<(), ServeFault>
-    ensures read { IfErr result (λ e. e ≡ fault.Read → ⊥) }
-    ensures write { IfErr result (λ e. e ≡ fault.Write → out.new.has_refused ≡ true) }
-{
-    let Account {
-        opened,
-        restarted,
-        ended,
-        adds_up,
-    } = account;
-    let told = if adds_up { "all told" } else { "not all told" };
-    let line = format!(in alloc; "opened {opened} restarted {restarted} ended {ended}, {told}\n");
-    let Ok(line) = line else {
-        return Err(ServeFault::OutOfMemory);
+    let template = template();
+    let Some(path) = journal else {
+        let report = on_crew(rt, template, plan, &sessions, server)?;
+        return Account::of(report, 0);
     };
-    match out.send(line.as_bytes()) {
-        Ok(()) => Ok(()),
-        Err(_) => Err(ServeFault::Write),
-    }
+    let (report, kept) = serve_recorded(rt, path, template, plan, &sessions, server)?;
+    Account::of(report, kept)
 }

@@ -2,10 +2,11 @@
 ghost use Rattle.std.specs.Prelude.{◌≡◌, ⊤, true, IfSome};
 ghost use Rattle.sup_serve.specs.Sessions.{ends_session};
 
+use futures::channel::mpsc::UnboundedSender;
 use futures::channel::oneshot::Sender;
 use futures::task::{Context, Poll};
 use futures::{Future, Stream};
-use sup_live::{Behaviour, Mailbox};
+use sup_live::{Behaviour, End, Mailbox};
 use sup_types::{Reason, Text};
 
 /// What a session answers to a text.
@@ -26,18 +27,39 @@ pub enum Message {
     Crash,
 }
 
+/// A session that was restarted.
+#[derive(Clone, Copy, Debug)]
+pub struct Restarted {
+    /// The number that it had.
+    pub number: u64,
+    /// The number under which it runs.
+    pub new: u64,
+    pub name: Text,
+}
+
 /// Makes sessions. One ends because it was told to, or it crashes.
 #[derive(Drop)]
-pub struct Sessions;
+pub struct Sessions {
+    /// Where the server learns which of them were restarted.
+    pub restarted: UnboundedSender<Restarted>,
+}
 
 impl Behaviour for Sessions {
     type Message = Message;
+
+    type Own = ();
 
     type Child = Session;
 
     ghost may_end = { λ sessions reason. ends_session reason };
 
-    fn begin(&self, number: u64, _name: &Text, mailbox: Mailbox<Message>) -> Session
+    fn begin(
+        &self,
+        number: u64,
+        _name: &Text,
+        _own: Option<()>,
+        mailbox: Mailbox<Message>,
+    ) -> Session
         ensures { ⊤ }
     {
         Session {
@@ -45,6 +67,14 @@ impl Behaviour for Sessions {
             messages: 0,
             mailbox,
         }
+    }
+
+    fn restarted(&self, number: u64, new: u64, name: &Text) {
+        let name = *name;
+        // (if memory runs out, it is not said)
+        let _ = self
+            .restarted
+            .unbounded_send(Restarted { number, new, name });
     }
 }
 
@@ -77,16 +107,16 @@ impl Session {
 }
 
 impl Future for Session {
-    type Output = Reason;
+    type Output = End<()>;
 
-    ghost gives = { λ session reason. ends_session reason ≡ true };
+    ghost gives = { λ session end. ends_session end.reason ≡ true };
 
-    fn poll(&mut self, cx: &mut Context<'_>) -> Poll<Reason> {
+    fn poll(&mut self, cx: &mut Context<'_>) -> Poll<End<()>> {
         match self.mailbox.poll_next(cx) {
             Poll::Pending => Poll::Pending,
-            Poll::Ready(None) => Poll::Ready(Reason::Shutdown),
+            Poll::Ready(None) => Poll::Ready(Reason::Shutdown.into()),
             Poll::Ready(Some(message)) => match self.hear(message) {
-                Some(reason) => Poll::Ready(reason),
+                Some(reason) => Poll::Ready(reason.into()),
                 None => cx.yield_now(),
             },
         }

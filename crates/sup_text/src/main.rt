@@ -1,35 +1,42 @@
-//! The commands `script` and `replay` of `supload`, as a program of their own. It stands on the crates of texts alone, so
-//! it is proved and built in minutes. `./supload` runs it for these two commands.
+//! The commands `script`, `replay` and `journal` of `supload`, as a program of their own. It stands on the crates of texts and of the
+//! command line alone, so it is proved and built in minutes. `./supload` runs it for these commands.
 //!
-//! The whole program is [`words::run_words`], over any reader and writers; `main` only collects the words and the three
+//! The whole program is [`program::run_words`], over any files, reader and writers; `main` only collects the words and the three
 //! streams.
 #![tactic(auto)]
 
-mod words;
+mod program;
 
-use std::io::Write;
+use program::run_words;
+use std::io::IsTerminal;
 use std::process::ExitCode;
 use std::rt::Env;
 use std::{env, io};
-use sup_script::{Status, WatchedReader, WatchedWriter};
-use words::run_words;
+use sup_script::{WatchedReader, WatchedWriter};
+use sup_words::refuse_words;
 
 fn main(rt: HostRuntime) -> ExitCode {
     let mut err = rt.stderr();
-    let Ok(words) = words_given(&rt) else {
-        let _ = writeln!(
-            err,
-            "error: the words of the command line could not be read"
-        );
-        return ExitCode::from(Status::OtherFault.number());
+    let words = match words_given(&rt) {
+        Ok(words) => words,
+        Err(error) => return ExitCode::from(refuse_words(&error, &mut err).number()),
     };
     let mut input = WatchedReader::new(rt.stdin());
     let mut out = WatchedWriter::new(rt.stdout());
-    let status = run_words(rt.alloc(), words.as_slice(), &mut input, &mut out, &mut err);
+    let is_person = err.is_terminal();
+    let status = run_words(
+        &rt,
+        rt.alloc(),
+        words.as_slice(),
+        &mut input,
+        &mut out,
+        &mut err,
+        is_person,
+    );
     ExitCode::from(status)
 }
 
-/// The words of the command line, the program's name first.
+/// The words of the command line, the program's name first. InvalidData: a word is not UTF-8.
 fn words_given(rt: &(impl Env + AllocGlobal)) -> io::Result<Vec<String>> {
     Ok(env::args(rt)?.collect(rt.alloc())?)
 }

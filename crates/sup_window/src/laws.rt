@@ -4,13 +4,13 @@ ghost use Rattle.std.specs.Prelude.{◌≡◌, ℕ, List, ◌++◌, ◌∷◌, [
 ghost use Rattle.std.specs.List.Sorted.{IsNonDecreasing};
 ghost use Rattle.sup_window.specs.Attempts.{is_borne, remembered};
 
-/// What a window remembers of attempts decides as all of them do.
+/// Shows that what a window remembers of attempts decides as all of them do.
 pub fn remembered_attempts_decide()
     ensures { (intensity period : ℕ) (attempts : List ℕ) (at : ℕ) → IsNonDecreasing attempts
         → is_borne intensity period (remembered intensity attempts) at ≡ is_borne intensity period attempts at }
 {}
 
-/// To remember one attempt more, a window needs no other than those that it remembers.
+/// Shows that to remember one attempt more, a window needs no other than those that it remembers.
 pub fn forgotten_attempts_stay_forgotten()
     ensures { (intensity : ℕ) (attempts : List ℕ) (at : ℕ)
         → remembered intensity (remembered intensity attempts ++ at ∷ []) ≡ remembered intensity (attempts ++ at ∷ []) }

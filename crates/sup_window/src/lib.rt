@@ -1,11 +1,11 @@
 //! How many restarts a supervisor allows within a period (OTP's manual of `supervisor`, "Supervision principles",
 //! maximum restart intensity).
 //!
-//! What the layer above may rely on: an attempt is allowed exactly where the attempts that count at its moment, itself
-//! included, are at most the intensity. An attempt made at moment `m` counts at moment `t` where `t <= m + period`.
-//! The window decides as counting over all attempts ever made would (`HasSeen`), and keeps only the last of them, one more
-//! than are allowed. Which it keeps no other crate knows: `laws` says that those decide as all do (`remembered`). After it is
-//! made it takes no memory.
+//! What the layer above may rely on: an attempt is allowed exactly if the attempts that count at its moment, itself
+//! included, are at most the intensity. An attempt made at moment `m` counts at moment `t` if `t <= m + period`. The
+//! window decides as counting over all attempts ever made would (`HasSeen`), and keeps only the last of them, one more
+//! than are allowed. Which it keeps no other crate knows: `laws` says that those decide as all do (`remembered`). After
+//! it is made it takes no memory.
 //!
 //! ```text
 //! let mut window = Window::new(alloc, 1, 5)?;
@@ -26,7 +26,8 @@ use std::alloc::{Allocator, Global};
 use std::marker::Model;
 use sup_types::OutOfMemory;
 
-/// The moments of the last attempts to restart, one more of them than are allowed within a period.
+/// Says whether one more attempt to restart is allowed. It keeps the moments of the last attempts, one more than are
+/// allowed within a period.
 #[derive(Drop)]
 pub struct Window<A: Allocator = Global> {
     intensity: u64,
@@ -47,7 +48,8 @@ impl<A: Allocator> Model for Window<A> {
     ghost invariant = { λ w. (w.intensity ≤ 1000) × (w.moments.capacity ≡ w.intensity + 1) × IsNonDecreasing w.moments.items × (greatest w.moments.items ≤ w.latest) };
 }
 
-/// Whether an attempt made at one moment still counts at another. Nothing wraps: a moment may be near the greatest number.
+/// Returns whether an attempt made at one moment still counts at another. Nothing wraps: a moment may be near the
+/// greatest number.
 fn still_counts(period: u64, at: u64, made_at: u64) -> bool
     ensures { result ≡ still_counts period at made_at }
 {
@@ -55,8 +57,11 @@ fn still_counts(period: u64, at: u64, made_at: u64) -> bool
 }
 
 impl<A: Allocator> Window<A> {
-    /// A window that has seen no attempt, and allows this many within this many seconds. The intensity is at most 1000.
-    /// It makes room for all that it will keep, and is refused only for want of memory.
+    /// Makes a window that has seen no attempt, and allows `intensity` of them, 0 to 1000, within `period` seconds
+    /// (OTP's manual of `supervisor`, "Supervisor flags"). It makes room for all that it will keep.
+    ///
+    /// # Errors
+    /// `OutOfMemory` if there is no memory for that room.
     #[tactic(auto, unfolding(crate::specs::Attempts::remembered))]
     pub fn new(alloc: A, intensity: u64, period: u64) -> Result<Self, OutOfMemory>
         requires { intensity ≤ 1000 }
@@ -71,8 +76,8 @@ impl<A: Allocator> Window<A> {
         })
     }
 
-    /// Whether one more attempt at this moment is allowed. A moment lower than that of an earlier attempt is taken as
-    /// the highest so far. Nothing changes.
+    /// Returns whether one more attempt at this moment, in seconds, is allowed. A moment lower than that of an earlier
+    /// attempt is taken as the highest so far. Nothing changes.
     pub fn would_allow(&self, moment: u64) -> bool
         ensures value { result ≡ is_borne self.now.intensity self.now.period self.now.moments (max self.now.latest moment) }
         ensures seen { (attempts : List ℕ) → HasSeen self.now attempts
@@ -81,8 +86,8 @@ impl<A: Allocator> Window<A> {
         self.decides(moment)
     }
 
-    // With one attempt more the ring would be full of moments that still count, or not, by its oldest one then: so the
-    // answer takes one look, however many attempts are kept.
+    // Whether the ring would then be full of moments that still count depends on its oldest one: so the answer takes
+    // one look, however many attempts are kept.
     fn decides(&self, moment: u64) -> bool
         ensures { result ≡ is_borne self.now.intensity self.now.period self.now.moments (max self.now.latest moment) }
     {
@@ -95,8 +100,8 @@ impl<A: Allocator> Window<A> {
         !counts_at(&self.moments, oldest, self.period, at)
     }
 
-    /// Notes an attempt, and answers whether it is allowed; one that is not counts as well. A moment lower than that of
-    /// an earlier attempt is taken as the highest so far.
+    /// Notes an attempt at this moment, in seconds, and returns whether it is allowed. One that is not allowed counts
+    /// as well. A moment lower than that of an earlier attempt is taken as the highest so far.
     pub fn attempt(&mut self, moment: u64) -> bool
         ensures value { result ≡ is_borne self.old.intensity self.old.period self.old.moments (max self.old.latest moment) }
         ensures next { self.new ≡ with_attempt self.old moment }
@@ -107,7 +112,7 @@ impl<A: Allocator> Window<A> {
         self.note(moment)
     }
 
-    // Once it is noted, an attempt is allowed where the ring is not full, or its oldest moment counts no more.
+    // Once it is noted, an attempt is allowed if the ring is not full, or its oldest moment no longer counts.
     #[tactic(auto, unfolding(crate::specs::Attempts::remembered))]
     fn note(&mut self, moment: u64) -> bool
         ensures value { result ≡ is_borne self.old.intensity self.old.period self.old.moments (max self.old.latest moment) }
@@ -118,7 +123,8 @@ impl<A: Allocator> Window<A> {
     }
 }
 
-/// Whether the moment at this place still counts. Behind the last one stands the attempt that is asked about, which does.
+/// Returns whether the moment at this place still counts. After the last one comes the attempt that is asked about,
+/// which does.
 fn counts_at<A: Allocator>(
     moments: &HeapCircularBuffer<u64, A>,
     index: usize,
@@ -133,7 +139,7 @@ fn counts_at<A: Allocator>(
     }
 }
 
-/// Adds a moment, and answers whether the ring is then full of moments that still count.
+/// Adds a moment, and returns whether the ring is then full of moments that still count.
 fn push_moment<A: Allocator>(moments: &mut HeapCircularBuffer<u64, A>, period: u64, at: u64) -> bool
     ensures items { moments.new ≡ buffer (keep_last moments.old.capacity (moments.old.items ++ at ∷ [])) moments.old.capacity }
     ensures full { result ≡ ((length moments.new.items == moments.new.capacity) && front_counts period at (slice_get moments.new.items 0)) }

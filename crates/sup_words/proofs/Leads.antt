@@ -9,7 +9,7 @@ use Rattle.clap.specs.Kinds.{HasKind, IsAmong, Kinds}
 use Rattle.clap.specs.Matches.{subcommand_name_of}
 use Rattle.clap.specs.Simple.{is_simple, subcommand_rows, subcommand_rows_of}
 use Rattle.clap.specs.Values.{kind_of}
-use Rattle.clap.specs.Walk.{Row, Text}
+use Rattle.clap.specs.Walk.{Row, Text, first_of}
 use Rattle.clap.specs.declared.error.Error.{Error}
 use Rattle.clap.specs.declared.parser.matches.ArgMatches.{ArgMatches}
 use Rattle.clap.specs.declared.parser.matches.ArgMatches.TheViews.{out-ArgMatches, out-SubCommand}
@@ -20,6 +20,7 @@ use Rattle.sup_words.specs.Grammar.{supload_app}
 use Rattle.sup_words.specs.Ranges.{IsWithin}
 use Rattle.sup_words.specs.Orders.{AreNumbers, Command, IsNoOrder, IsOrder, LeadsTo, WordsLeadTo, command_at, kinds_at}
 use Rattle.sup_script.specs.declared.runs.answer.Detail.TheVariants as detail
+use Rattle.sup_script.specs.declared.runs.answer.Input.TheVariants as input
 use Rattle.sup_words.specs.declared.words.Order.{Order}
 use Rattle.sup_words.specs.declared.words.Order.TheVariants as order
 
@@ -47,13 +48,13 @@ refused_by kinds command x (Err e) has failed same = go (subst (HasKind kinds) (
     go (inr among) = inr (inl among)
 
 -- a command without options
-pub script_leads : (name : Text) → WordsLeadTo (name ∷ codes "script" ∷ []) (Ok (order.Script detail.Number))
+pub script_leads : (name : Text) → WordsLeadTo (name ∷ codes "script" ∷ []) (Ok (order.Text (input.Script None) detail.Number))
 unfolding clap_on_literals kinds_at command_at
-script_leads name = (refl, (_, refl, record { given = λ e. cc; left_out = λ e. refl }))
+script_leads name = (refl, (_, (refl, refl), record { given = λ e. cc; left_out = λ e. refl }))
 
-pub replay_leads : (name : Text) → WordsLeadTo (name ∷ codes "replay" ∷ []) (Ok (order.Replay detail.Number))
+pub replay_leads : (name : Text) → WordsLeadTo (name ∷ codes "replay" ∷ []) (Ok (order.Text (input.History None) detail.Number))
 unfolding clap_on_literals kinds_at command_at
-replay_leads name = (refl, (_, refl, record { given = λ e. cc; left_out = λ e. refl }))
+replay_leads name = (refl, (_, (refl, refl), record { given = λ e. cc; left_out = λ e. refl }))
 
 same_in : {X : Type 0} {a b : X} → Some a ≡ Some b → a ≡ b
 same_in e = cc
@@ -70,14 +71,27 @@ rows_in (Some (name, rows)) = rows
 pub no_order : (command : Command) (rows : List Row) → command ≡ Some (codes "load", rows)
     → ((w n r t : ℕ) → AreNumbers rows w n r t → IsWithin w n r t → ⊥) → (o : Order) → IsOrder command o → ⊥
 unfolding first_byte rows_in
-no_order command rows is outside (order.Script answer) other = let bad : ◌≡◌ {A = ℕ} 115 108 = ap first_byte (sym other.1 ∙ is) in absurd (omega arith)
-no_order command rows is outside (order.Replay answer) other = let bad : ◌≡◌ {A = ℕ} 114 108 = ap first_byte (sym other.1 ∙ is) in absurd (omega arith)
-no_order command rows is outside (order.Serve answer) other = let bad : ◌≡◌ {A = ℕ} 115 108 = ap first_byte (sym other.1 ∙ is) in absurd (omega arith)
 no_order command rows is outside (order.Load load path) other =
     let same : rows ≡ other.0 = ap rows_in (sym is ∙ other.1) in
     outside load.workers load.children load.readers load.turns
     (subst (λ (R : List Row). AreNumbers R load.workers load.children load.readers load.turns) (sym same) other.2)
     (load.crew.0, load.crew.1, load.crowd.0, load.crowd.1, load.asking, load.asked.0, load.asked.1)
+no_order command rows is outside (order.Text (input.Script path) answer) other = let bad : ◌≡◌ {A = ℕ} 108 115 = ap first_byte (sym is ∙ other.1.0) in absurd (omega arith)
+no_order command rows is outside (order.Text (input.History path) answer) other = let bad : ◌≡◌ {A = ℕ} 108 114 = ap first_byte (sym is ∙ other.1.0) in absurd (omega arith)
+no_order command rows is outside (order.Text (input.Journal path) answer) other = let bad : ◌≡◌ {A = ℕ} 108 106 = ap first_byte (sym is ∙ other.1.0) in absurd (omega arith)
+no_order command rows is outside (order.Serve answer path) other = let bad : ◌≡◌ {A = ℕ} 108 115 = ap first_byte (sym is ∙ other.1) in absurd (omega arith)
+
+-- a journal without a file is no order
+pub no_file : (command : Command) (rows : List Row) → command ≡ Some (codes "journal", rows) → None ≡ first_of (codes "file") rows → (o : Order) → IsOrder command o → ⊥
+unfolding first_byte rows_in
+no_file command rows is none (order.Text (input.Journal path) answer) other =
+    let same : rows ≡ other.0 = ap rows_in (sym is ∙ other.1.0) in
+    let given : Some path.now ≡ None = other.1.1 ∙ ap (first_of (codes "file")) (sym same) ∙ sym none in
+    absurd cc
+no_file command rows is none (order.Text (input.Script path) answer) other = let bad : ◌≡◌ {A = ℕ} 106 115 = ap first_byte (sym is ∙ other.1.0) in absurd (omega arith)
+no_file command rows is none (order.Text (input.History path) answer) other = let bad : ◌≡◌ {A = ℕ} 106 114 = ap first_byte (sym is ∙ other.1.0) in absurd (omega arith)
+no_file command rows is none (order.Load load path) other = let bad : ◌≡◌ {A = ℕ} 106 108 = ap first_byte (sym is ∙ other.1) in absurd (omega arith)
+no_file command rows is none (order.Serve answer path) other = let bad : ◌≡◌ {A = ℕ} 106 115 = ap first_byte (sym is ∙ other.1) in absurd (omega arith)
 
 -- the name and the rows of what clap found are those of one command
 pub found_is : (m : ArgMatches) (name : Text) (rows : List Row) → Some name ≡ subcommand_name_of m → Some rows ≡ option_map (λ p. p.1) (subcommand_rows_of m)

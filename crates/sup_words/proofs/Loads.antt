@@ -28,6 +28,7 @@ use Rattle.sup_words.specs.Orders.{AreNumbers, Command, HasNumber, IsLoadOf, Lea
 use Rattle.sup_words.specs.Settings.{AreNew, AreWithin, Given, IsWhole, Setting, workers, children, readers, turns, least_of, most_of, name_of, number_in, words_of}
 use Rattle.sup_words.specs.declared.words.Order.{Order}
 use Rattle.sup_words.specs.declared.words.Order.TheVariants as order
+use Rattle.sup_script.specs.declared.runs.answer.Input.TheVariants as input
 use Rattle.sup_words.proofs.Numbers.{same_number}
 use Rattle.sup_words.proofs.Tables.{appends, found_at, is_new, row_for, rows_are_table, same_setting}
 use Rattle.sup_words.proofs.Walks.{AllPlain, leaf_fault, leaf_rows, load_rules, load_shape, missing, or_else-nil, pair_fault, pair_faults, plain_text, rows_from}
@@ -202,11 +203,13 @@ load_of : (kinds : Kinds) (command : Command) (rows : List Row) (w n r t : ℕ) 
     → AreNumbers rows w n r t → first_of (codes "journal") rows ≡ None → IsWithin w n r t → (result : Result Order Error) → LeadsTo kinds command result
     → IsLoadOf w n r t result
 unfolding first_byte rows_in
-load_of kinds command rows w n r t none is are bare within (Ok (order.Script d)) leads =
-    let bad : ◌≡◌ {A = ℕ} 115 108 = ap first_byte (sym leads.1.1 ∙ is) in absurd (omega arith)
-load_of kinds command rows w n r t none is are bare within (Ok (order.Replay d)) leads =
-    let bad : ◌≡◌ {A = ℕ} 114 108 = ap first_byte (sym leads.1.1 ∙ is) in absurd (omega arith)
-load_of kinds command rows w n r t none is are bare within (Ok (order.Serve d)) leads =
+load_of kinds command rows w n r t none is are bare within (Ok (order.Text (input.Script p) d)) leads =
+    let bad : ◌≡◌ {A = ℕ} 115 108 = ap first_byte (sym leads.1.1.0 ∙ is) in absurd (omega arith)
+load_of kinds command rows w n r t none is are bare within (Ok (order.Text (input.History p) d)) leads =
+    let bad : ◌≡◌ {A = ℕ} 114 108 = ap first_byte (sym leads.1.1.0 ∙ is) in absurd (omega arith)
+load_of kinds command rows w n r t none is are bare within (Ok (order.Text (input.Journal p) d)) leads =
+    let bad : ◌≡◌ {A = ℕ} 106 108 = ap first_byte (sym leads.1.1.0 ∙ is) in absurd (omega arith)
+load_of kinds command rows w n r t none is are bare within (Ok (order.Serve d path)) leads =
     let bad : ◌≡◌ {A = ℕ} 115 108 = ap first_byte (sym leads.1.1 ∙ is) in absurd (omega arith)
 load_of kinds command rows w n r t none is are bare within (Ok (order.Load load path)) leads =
     let same : leads.1.0 ≡ rows = ap rows_in (sym leads.1.1 ∙ is) in

@@ -1,5 +1,5 @@
 -- What the command line may say: the commands, their options, and the ranges of the numbers.
-use Rattle.std.specs.Prelude.{ℕ, List, true, Some, codes}
+use Rattle.std.specs.Prelude.{ℕ, Bool, List, true, false, Some, codes}
 use Rattle.sup_words.specs.Settings.{Setting, workers, children, readers, turns, name_of, least_of, most_of}
 use Rattle.clap.specs.Words.{App, Rule, new_app, new_rule, with_rule, with_subcommand}
 use Rattle.clap.specs.declared.builder.action.ArgAction.TheVariants.{Set, SetTrue}
@@ -25,16 +25,24 @@ number_rule name least most = record (new_rule name) {
 abbrev pub setting_rule : Setting → Rule
 setting_rule s = number_rule (name_of s) (least_of s) (most_of s)
 
--- a command that answers a text: it may explain a fault
+-- a word that is the path of a file
+abbrev pub file_rule : Bool → Rule
+file_rule required = record (new_rule (codes "file")) {
+  value_names = 1;
+  required = required;
+  action = Some Set;
+}
+
+-- a command that answers a text: it may explain a fault, and may be given a file
 abbrev pub text_app : List ℕ → App
-text_app name = with_rule (new_app name) explain_rule
+text_app name = with_rule (with_rule (new_app name) explain_rule) (file_rule false)
+
+-- the command that answers a journal, which is in a file
+abbrev pub journal_app : App
+journal_app = with_rule (with_rule (new_app (codes "journal")) explain_rule) (file_rule true)
 
 abbrev pub status_rule : Rule
 status_rule = flag_rule (codes "status")
-
--- the server: it may say by itself how many sessions there are
-abbrev pub serve_app : App
-serve_app = with_rule (new_app (codes "serve")) status_rule
 
 -- an option that may be given once, with a path
 abbrev pub path_rule : List ℕ → Rule
@@ -48,6 +56,10 @@ path_rule name = record (new_rule name) {
 abbrev pub journal_rule : Rule
 journal_rule = path_rule (codes "journal")
 
+-- the server: it may say by itself how many sessions there are, and may have a journal
+abbrev pub serve_app : App
+serve_app = with_rule (with_rule (new_app (codes "serve")) status_rule) journal_rule
+
 -- the load, with its four numbers, and perhaps a journal
 abbrev pub load_app : App
 load_app = with_rule (with_rule (with_rule (with_rule (with_rule (new_app (codes "load"))
@@ -60,5 +72,5 @@ bare_app = record (new_app (codes "supload")) {
 }
 
 abbrev pub supload_app : App
-supload_app = with_subcommand (with_subcommand (with_subcommand (with_subcommand bare_app
-    (text_app (codes "script")).top) (text_app (codes "replay")).top) load_app.top) serve_app.top
+supload_app = with_subcommand (with_subcommand (with_subcommand (with_subcommand (with_subcommand bare_app
+    (text_app (codes "script")).top) (text_app (codes "replay")).top) journal_app.top) load_app.top) serve_app.top

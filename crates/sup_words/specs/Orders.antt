@@ -1,5 +1,5 @@
 -- Which words lead where: what each order takes of them, and the kind of error where they are none.
-use Rattle.std.specs.Prelude.{◌≡◌, ◌⊎◌, ◌<◌, ◌^◌, ℕ, List, [], ◌∷◌, Option, None, Some, Result, Ok, Err, MatchResult, codes, option_map}
+use Rattle.std.specs.Prelude.{◌≡◌, ◌⊎◌, ◌<◌, ◌^◌, ℕ, List, [], ◌∷◌, Option, None, Some, Result, Ok, Err, MatchResult, codes, is_some, option_map, true}
 use Rattle.std.specs.Borrow.{Bor}
 use Rattle.std.specs.Str.Parse.{IsNumeral, digits_value, without_leading_plus}
 use Rattle.clap.specs.Faults.{fault_of}
@@ -13,10 +13,12 @@ use Rattle.clap.specs.declared.error.kind.ErrorKind.TheVariants.{InvalidSubcomma
 use Rattle.sup_words.specs.Grammar.{supload_app}
 use Rattle.sup_script.specs.declared.runs.answer.Detail.{Detail}
 use Rattle.sup_script.specs.declared.runs.answer.Detail.TheVariants as detail
+use Rattle.sup_script.specs.declared.runs.answer.Input.{Input}
+use Rattle.sup_script.specs.declared.runs.answer.Input.TheVariants as input
 use Rattle.sup_words.specs.declared.words.Order.{Order}
 use Rattle.sup_words.specs.declared.words.Order.TheVariants as order
-use Rattle.sup_serve.specs.declared.server.Notices.{Notices}
-use Rattle.sup_serve.specs.declared.server.Notices.TheVariants as notices
+use Rattle.sup_words.specs.declared.words.Notices.{Notices}
+use Rattle.sup_words.specs.declared.words.Notices.TheVariants as notices
 
 -- the command that clap found among the words, with a row for each of its options
 abbrev pub Command : Type 0
@@ -47,17 +49,26 @@ pub record AreNumbers (rows : List Row) (w n r t : ℕ) : Type 0 where
   pub readers : HasNumber rows (codes "readers") r
   pub turns : HasNumber rows (codes "turns") t
 
--- the path is what `--journal` says, if it was given
-abbrev pub IsPath : List Row → Option (Bor Text) → Type 0
-IsPath rows path = option_map (λ s. s.now) path ≡ first_of (codes "journal") rows
+-- the path is the value of this name, if it was given
+abbrev pub IsPath : List Row → Text → Option (Bor Text) → Type 0
+IsPath rows name path = option_map (λ s. s.now) path ≡ first_of name rows
+
+-- a text is answered that the command names, in the file that it is given, if it is given one
+abbrev pub IsInput : Command → List Row → Input → Type 0
+IsInput command rows (input.Script path) = (command ≡ Some (codes "script", rows)) × IsPath rows (codes "file") path
+IsInput command rows (input.History path) = (command ≡ Some (codes "replay", rows)) × IsPath rows (codes "file") path
+IsInput command rows (input.Journal path) = (command ≡ Some (codes "journal", rows)) × IsPath rows (codes "file") (Some path)
 
 -- the order is the one that the command names, with what its options say
 abbrev pub IsOrder : Command → Order → Type 0
-IsOrder command (order.Script answer) = (rows : List Row) × (command ≡ Some (codes "script", rows)) × IsDetail rows answer
-IsOrder command (order.Replay answer) = (rows : List Row) × (command ≡ Some (codes "replay", rows)) × IsDetail rows answer
+IsOrder command (order.Text text answer) = (rows : List Row) × IsInput command rows text × IsDetail rows answer
 IsOrder command (order.Load load path) = (rows : List Row) × (command ≡ Some (codes "load", rows))
-    × AreNumbers rows load.workers load.children load.readers load.turns × IsPath rows path
-IsOrder command (order.Serve answer) = (rows : List Row) × (command ≡ Some (codes "serve", rows)) × IsNotices rows answer
+    × AreNumbers rows load.workers load.children load.readers load.turns × IsPath rows (codes "journal") path
+IsOrder command (order.Serve answer path) = (rows : List Row) × (command ≡ Some (codes "serve", rows)) × IsNotices rows answer × IsPath rows (codes "journal") path
+
+-- the command is given a file
+abbrev pub HasFile : Command → Type 0
+HasFile command = (name : Text) × (rows : List Row) × (command ≡ Some (name, rows)) × (is_some (first_of (codes "file") rows) ≡ true)
 
 -- no order is the command's
 pub record IsNoOrder (command : Command) (kind : ErrorKind) : Type 0 where

@@ -3,11 +3,11 @@
 ghost use Rattle.std.specs.Prelude.{◌≡◌, IfOk, false};
 ghost use Rattle.clap.specs.Words.{app_of, rule_of};
 ghost use Rattle.clap.specs.declared.builder.command.Command.TheViews.{out-Command as fields_of};
-ghost use Rattle.sup_words.specs.Grammar.{flag_rule, load_app, number_rule, path_rule, serve_app, supload_app, text_app};
+ghost use Rattle.sup_words.specs.Grammar.{file_rule, flag_rule, journal_app, load_app, number_rule, path_rule, serve_app, supload_app, text_app};
 
 use crate::help::{
-    ABOUT, FAULTS, LOAD, LOAD_FAULTS, LOAD_HELP, REPLAY, REPLAY_HELP, SCRIPT, SCRIPT_HELP, SERVE,
-    SERVE_FAULTS, SERVE_HELP, STATUSES, VERSION,
+    ABOUT, FAULTS, JOURNAL, JOURNAL_HELP, LOAD, LOAD_FAULTS, LOAD_HELP, REPLAY, REPLAY_HELP,
+    SCRIPT, SCRIPT_HELP, SERVE, SERVE_FAULTS, SERVE_HELP, STATUSES, VERSION,
 };
 use clap::builder::ValueParser;
 use clap::{Arg, ArgAction, Command};
@@ -34,6 +34,18 @@ fn flag<'a>(alloc: Global, name: &'a str, help: &'a str) -> Arg<'a>
         .long(name)
         .help(help)
         .action(ArgAction::SetTrue)
+}
+
+/// An argument without a name of its own that takes the path of a file.
+fn file<'a>(alloc: Global, help: &'a str, required: bool) -> Arg<'a>
+    ensures rule { rule_of result ≡ file_rule required }
+    ensures local { result.global ≡ false }
+{
+    Arg::new(alloc, "file")
+        .value_name("FILE")
+        .help(help)
+        .required(required)
+        .action(ArgAction::Set)
 }
 
 /// An argument that takes a number of this range.
@@ -99,7 +111,7 @@ fn load_command<'a>(alloc: Global) -> Result<Command<'a>, AllocError>
         .arg(journal)
 }
 
-/// A command that reads a text on standard input.
+/// A command that answers a text, by default what standard input has.
 fn text_command<'a>(
     alloc: Global,
     name: &'a str,
@@ -109,11 +121,27 @@ fn text_command<'a>(
     ensures { IfOk result (λ c. (app_of c ≡ text_app name.entry.now) × ((fields_of c).has_globals ≡ false)) }
 {
     let explain = flag(alloc, "explain", "Explains a fault in a line");
+    let file = file(alloc, "The text; standard input, if it is left out", false);
     Command::new(alloc, name)
         .about(about)
         .long_about(help)
         .after_help(FAULTS)
-        .arg(explain)
+        .arg(explain)?
+        .arg(file)
+}
+
+/// The command that answers a journal.
+fn journal_command<'a>(alloc: Global) -> Result<Command<'a>, AllocError>
+    ensures { IfOk result (λ c. (app_of c ≡ journal_app) × ((fields_of c).has_globals ≡ false)) }
+{
+    let explain = flag(alloc, "explain", "Explains a fault in a line");
+    let file = file(alloc, "The journal", true);
+    Command::new(alloc, "journal")
+        .about(JOURNAL)
+        .long_about(JOURNAL_HELP)
+        .after_help(FAULTS)
+        .arg(explain)?
+        .arg(file)
 }
 
 /// The command that serves sessions.
@@ -125,14 +153,21 @@ fn serve_command<'a>(alloc: Global) -> Result<Command<'a>, AllocError>
         "status",
         "Says how many sessions there are, behind an answer where that has changed",
     );
+    let journal = path(
+        alloc,
+        "journal",
+        "FILE",
+        "A file in which the sessions outlive the server",
+    );
     Command::new(alloc, "serve")
         .about(SERVE)
         .long_about(SERVE_HELP)
         .after_help(SERVE_FAULTS)
-        .arg(status)
+        .arg(status)?
+        .arg(journal)
 }
 
-/// The whole command line, with its four commands.
+/// Returns the whole command line, with its five commands.
 pub(crate) fn command<'a>(alloc: Global) -> Result<Command<'a>, AllocError>
     ensures { IfOk result (λ c. app_of c ≡ supload_app) }
 {
@@ -144,6 +179,7 @@ pub(crate) fn command<'a>(alloc: Global) -> Result<Command<'a>, AllocError>
         .subcommand_required(true)
         .subcommand(text_command(alloc, "script", SCRIPT, SCRIPT_HELP)?)?
         .subcommand(text_command(alloc, "replay", REPLAY, REPLAY_HELP)?)?
+        .subcommand(journal_command(alloc)?)?
         .subcommand(load_command(alloc)?)?
         .subcommand(serve_command(alloc)?)
 }

@@ -6,10 +6,10 @@ pub(crate) const ABOUT: &str =
 pub(crate) const VERSION: &str = "0.1.0";
 
 pub(crate) const SCRIPT: &str =
-    "Reads a script on standard input and writes its replies on standard output";
+    "Reads a script, in a file or on standard input, and writes its replies on standard output";
 
 pub(crate) const SCRIPT_HELP: &str =
-    "Reads a script on standard input and writes its replies on standard output.
+    "Reads a script, in a file or on standard input, and writes its replies on standard output.
 
 The first line is the header: `sup`, a restart type (permanent, transient, temporary), a kind (worker,
 supervisor), the intensity (0 to 1000), the period in seconds (1 to 86400), the most rows (1 to 65536), and
@@ -47,10 +47,11 @@ writes
   gave_up";
 
 pub(crate) const REPLAY: &str =
-    "Reads a history text on standard input and writes the reply of each entry on standard output";
+    "Reads a history text, in a file or on standard input, and writes the reply of each entry on standard output";
 
 pub(crate) const REPLAY_HELP: &str =
-    "Reads a history text on standard input and writes the reply of each entry, one a line, on standard output.
+    "Reads a history text, in a file or on standard input, and writes the reply of each entry, one a line, on standard
+output.
 
 The first line is `history 2`, a restart type (permanent, transient, temporary), a kind (worker, supervisor), the
 intensity (0 to 1000), the period in seconds (1 to 86400), the most rows (1 to 65536), a mark (plain, significant)
@@ -62,8 +63,8 @@ Each further line is an entry: HANDLE SERIAL MOMENT OPERATION ANSWER. The operat
 
 One space stands between two words of a line, and none at its beginning or end. A text has 1 to 40 visible
 characters of ASCII, so it has no space. A number has digits alone, no sign and no leading zero, and is at most
-18446744073709551615; a code is at most 4294967295. Every line ends with a line feed, the last one too: where a
-journal broke off in a line, cut that line off, and the rest is replayed.
+18446744073709551615; a code is at most 4294967295. Every line ends with a line feed, the last one too. A journal whose
+last line is torn, and one of any length, is answered by `supload journal`.
 
 Example:
   supload replay <<END
@@ -79,22 +80,44 @@ writes
   gave_up
   error down";
 
+pub(crate) const JOURNAL: &str =
+    "Answers a journal of any length while it reads it, and says what the supervisor holds in the end";
+
+pub(crate) const JOURNAL_HELP: &str =
+    "Answers a journal of any length while it reads it, and says what the supervisor holds in the end.
+
+A journal is a history text (`supload replay --help` says what its lines are) that a program wrote as its history grew, and
+that may have broken off in its last line. Writes the reply of each entry, one a line, on standard output, in memory for the
+rows alone. The last line is `entries E torn B` and the reply to `count`: how many entries there were, how many bytes of a
+torn last line were left out, and which children there are; or `error down`.
+
+Example:
+  supload journal sessions.txt
+writes
+  ok 1
+  restarted 1 2
+  entries 2 torn 0 count specs 1 active 1 supervisors 0 workers 1";
+
 pub(crate) const LOAD: &str = "Runs a crew beside readers, and writes what it came to";
 
 pub(crate) const LOAD_HELP: &str =
-    "Starts N children, whose bodies end at once in W threads, while R threads ask T times each how many there are.
+    "Starts N children, which finish at once in W threads, while R threads ask T times each how many there are.
 
-Writes two lines: `made A exits B strays C restarts D gave_up E left F held G`, the numbers of children that were
-made, of exits that were entered, of those answered stray, restarted and gave_up, of children that were left without a
-run and of exits that were held back; and `reads Q`, the number of questions that were answered.
+Writes two lines. The first is `made A exits B strays C restarts D gave_up E left F held G waiting H unposted I
+unstarted J`: the numbers of children that were made, of exits that were entered, of those answered stray, restarted
+and gave_up; of children that were not run; of exits that were taken and not entered, that wait in the inbox, and that
+could not be posted; and of children that were not started. Also if the load breaks off, A is B + F + G + H + I, and N
+is A + J. The second is `reads Q`, the number of questions that were answered.
 
-With --journal the history is written to FILE, which must not be there yet, as a text that `supload replay` reads: each
+If standard error is a terminal, a line there says once a second how many children were made and how many have ended.
+
+With --journal the history is written to FILE, which must not be there yet, as a text that `supload journal` reads: each
 update before it takes effect.
 
 Examples:
   supload load --workers 4 --children 100 --readers 2 --turns 50 --journal load.txt
 writes
-  made 100 exits 100 strays 0 restarts 0 gave_up 0 left 0 held 0
+  made 100 exits 100 strays 0 restarts 0 gave_up 0 left 0 held 0 waiting 0 unposted 0 unstarted 0
   reads 100";
 
 pub(crate) const SERVE: &str =
@@ -115,8 +138,12 @@ Each session is a child of a supervisor. One that crashed runs again under a new
   quit               ends the server, as the end of the input does
 
 A name and a text have 1 to 40 visible characters of ASCII. An answer may be `error no session N`, `error full`,
-`error down` or another `error`; a line that is no command is answered by what was expected. When all sessions have
-ended, the last line says how many were opened, restarted and ended, and whether all are told of.
+`error down` or another `error`; a line that is no command is answered by what was expected. Before an answer a line
+`restarted N M NAME` says that session N crashed and runs as session M. When the input has ended, the last line says how
+many sessions were opened, restarted, ended and kept, and whether every session is accounted for.
+
+With --journal the sessions are kept in FILE, which is made if there is none: started again with it, the server says how
+many sessions it found, and they run again under their numbers, with nothing counted.
 
 Example:
   supload serve <<END
@@ -128,15 +155,19 @@ writes
   opened 1
   session 1 messages 1
   closing 1
-  opened 1 restarted 0 ended 1, all told";
+  opened 1 restarted 0 ended 1 kept 0: every session is accounted for";
 
 pub(crate) const SERVE_FAULTS: &str =
-    "A fault is one line on standard error: `fault N`, with its number:
+    "A fault is one line on standard error: `fault N: CAUSE`, with its number:
    1  out of memory, or a thread was refused
    5  all handles were made
    6  there is no place for a reader
+   7  the journal is of no server of sessions
+   9  a line of the journal is wrong
   10  standard input could not be read
   11  standard output could not be written
+  13  the journal could not be written
+  14  the journal's file could not be made, read or cut
 
 Exit status:
   0  the input ended, or asked to quit
@@ -149,17 +180,18 @@ pub(crate) const STATUSES: &str = "Exit status:
   2  the words or a line are wrong, or the input is too long
   3  reading or writing failed
   4  any other fault, as want of memory
-A fault in the input is one line on standard error: `fault N line L`; another fault is `fault N`.";
+A fault in the input is one line on standard error: `fault N line L`; another fault is `fault N: CAUSE`.";
 
 pub(crate) const FAULTS: &str =
-    "A fault is one line on standard error: `fault N line L`, with its number and the line's:
+    "A fault is one line on standard error: `fault N line L`, with its number and the line's; of a file that can't be read,
+`fault 10: CAUSE: FILE`:
    1  out of memory
    7  a number of the first line is out of its range, or `significant` can't stand there
    9  a line that is none of the format
-  10  standard input could not be read
+  10  the file or standard input could not be read
   11  standard output could not be written
-  12  more than 16777216 bytes came
-With --explain further lines show the line, what is wrong with it and what was expected.
+  12  more than 16777216 bytes came, which only a journal may have
+With --explain further lines show the line, what is wrong with it and what was expected; on a terminal also without it.
 
 Exit status:
   0  all was answered
@@ -168,7 +200,7 @@ Exit status:
   4  fault 1";
 
 pub(crate) const LOAD_FAULTS: &str =
-    "A fault is one line on standard error: `fault N`, with its number:
+    "A fault is one line on standard error: `fault N: CAUSE`, with its number:
    1  out of memory, or a thread was refused
    2  the history is full
    4  a reader was refused

@@ -1,4 +1,5 @@
-//! The words of the command line of `supload`: what each order takes of them, and the help texts.
+//! The words of the command line of `supload`, for both its programs: what each order takes of them, the help texts, and what is said
+//! of words that are no order.
 //!
 //! ```text
 //! match read_words(alloc, words)? {
@@ -13,7 +14,9 @@
 mod build;
 mod help;
 mod load;
+mod refusal;
 mod words;
 
 pub use load::Load;
-pub use words::{Order, read_words};
+pub use refusal::{refuse_words, show};
+pub use words::{Notices, Order, read_words};

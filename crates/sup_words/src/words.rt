@@ -1,6 +1,6 @@
 //! The words of the command line.
 
-ghost use Rattle.std.specs.Prelude.{◌≡◌, ◌⊎◌, ℕ, List, [], ◌∷◌, Ok, MatchBool, MatchOption, MatchResult, codes, map};
+ghost use Rattle.std.specs.Prelude.{◌≡◌, ◌⊎◌, ℕ, List, [], ◌∷◌, None, Ok, MatchBool, MatchOption, MatchResult, codes, map};
 ghost use Rattle.clap.specs.Kinds.{IsAmong};
 ghost use Rattle.clap.specs.Words.{found_of, kind_of, rows_of, subcommand_rows_of};
 ghost use Rattle.clap.specs.declared.error.kind.ErrorKind.TheVariants.{OutOfMemory};
@@ -9,6 +9,7 @@ ghost use Rattle.sup_words.specs.Orders.{AreNumbers, IsDetail, IsLoadOf, IsNoOrd
 ghost use Rattle.sup_words.specs.Settings.{Given, IsWhole, words_of};
 ghost use Rattle.sup_words.specs.declared.words.Order.TheVariants as order;
 ghost use Rattle.sup_script.specs.declared.runs.answer.Detail.TheVariants as detail;
+ghost use Rattle.sup_script.specs.declared.runs.answer.Input.TheVariants as input;
 
 use crate::build::command;
 use crate::load::Load;
@@ -16,36 +17,40 @@ use clap::error::{Error, ErrorKind};
 use clap::{ArgMatches, Command};
 use std::alloc::Global;
 use std::convert::AsStr;
-use sup_script::Detail;
-use sup_serve::Notices;
+use sup_script::{Detail, Input};
 
 /// What the program is asked to do.
 #[derive(Clone, Copy, Debug, PartialEq, Eq)]
 pub enum Order<'a> {
-    /// To answer a script.
-    Script(Detail),
-    /// To replay a history text.
-    Replay(Detail),
+    /// To answer a script, a history text or a journal, and to say so much of a fault.
+    Text(Input<'a>, Detail),
     /// To run a crew beside readers, with a journal on the file at this path, if there is one.
     Load(Load, Option<&'a str>),
-    /// To serve sessions.
-    Serve(Notices),
+    /// To serve sessions, with a journal in the file at this path, if there is one.
+    Serve(Notices, Option<&'a str>),
+}
+
+/// Whether a server says by itself how many sessions there are.
+#[derive(Clone, Copy, Debug, PartialEq, Eq)]
+pub enum Notices {
+    On,
+    Off,
 }
 
 /// Reads the words of the command line, of which the first is the program's name. A help text, the version and words that
 /// are refused are an error of `clap`, which says where it is to be written.
 pub fn read_words<'a, S: AsStr>(alloc: Global, words: &'a [S]) -> Result<Order<'a>, Error>
-    ensures script { (name : List ℕ) → map S.text words.now ≡ name ∷ codes "script" ∷ [] → result ≡ Ok (order.Script detail.Number) }
-    ensures replay { (name : List ℕ) → map S.text words.now ≡ name ∷ codes "replay" ∷ [] → result ≡ Ok (order.Replay detail.Number) }
+    ensures script { (name : List ℕ) → map S.text words.now ≡ name ∷ codes "script" ∷ [] → result ≡ Ok (order.Text (input.Script None) detail.Number) }
+    ensures replay { (name : List ℕ) → map S.text words.now ≡ name ∷ codes "replay" ∷ [] → result ≡ Ok (order.Text (input.History None) detail.Number) }
     ensures words { WordsLeadTo (map S.text words.now) result }
     ensures load { (name : List ℕ) (given : Given) (w n r t : ℕ) → IsWhole given w n r t → map S.text words.now ≡ name ∷ codes "load" ∷ words_of given
         → IsLoadOf w n r t result }
 {
     if is_command(words, "script") {
-        return Ok(Order::Script(Detail::Number));
+        return Ok(Order::Text(Input::Script(None), Detail::Number));
     }
     if is_command(words, "replay") {
-        return Ok(Order::Replay(Detail::Number));
+        return Ok(Order::Text(Input::History(None), Detail::Number));
     }
     read_options(alloc, words)
 }
@@ -72,13 +77,26 @@ fn read_matches<'a>(alloc: Global, matches: &ArgMatches<'a>) -> Result<Order<'a>
         (λ e. (kind_of e ≡ OutOfMemory) ⊎ IsNoOrder (subcommand_rows_of matches.now) (kind_of e)) }
 {
     match matches.subcommand() {
-        Some(("script", words)) => Ok(Order::Script(read_detail(words))),
-        Some(("replay", words)) => Ok(Order::Replay(read_detail(words))),
+        Some(("script", words)) => {
+            let file = read_path(words, "file");
+            Ok(Order::Text(Input::Script(file), read_detail(words)))
+        }
+        Some(("replay", words)) => {
+            let file = read_path(words, "file");
+            Ok(Order::Text(Input::History(file), read_detail(words)))
+        }
+        Some(("journal", words)) => match read_path(words, "file") {
+            Some(file) => Ok(Order::Text(Input::Journal(file), read_detail(words))),
+            None => Err(refused(alloc, ErrorKind::ValueValidation, "a file is missing")),
+        },
         Some(("load", words)) => match read_load(words) {
-            Some(load) => Ok(Order::Load(load, read_path(words))),
+            Some(load) => Ok(Order::Load(load, read_path(words, "journal"))),
             None => Err(refused(alloc, ErrorKind::ValueValidation, "a number is missing")),
         },
-        Some(("serve", words)) => Ok(Order::Serve(read_notices(words))),
+        Some(("serve", words)) => Ok(Order::Serve(
+            read_notices(words),
+            read_path(words, "journal"),
+        )),
         _ => Err(refused(
             alloc,
             ErrorKind::InvalidSubcommand,
@@ -132,9 +150,9 @@ fn read_load(words: &ArgMatches) -> Option<Load>
     Load::new(workers, children, readers, turns)
 }
 
-/// The path of the journal, if one is wanted.
-fn read_path<'a>(words: &ArgMatches<'a>) -> Option<&'a str>
-    ensures { IsPath (rows_of (found_of words.now)) result }
+/// The path that has this name, if it was given.
+fn read_path<'a>(words: &ArgMatches<'a>, name: &str) -> Option<&'a str>
+    ensures { IsPath (rows_of (found_of words.now)) name.now result }
 {
-    words.get_str("journal")
+    words.get_str(name)
 }

@@ -1,1 +1,2 @@
-pub mod Outboxes
+pub mod Ending
+pub mod Telling

@@ -1,6 +1,4 @@
-pub mod Endings
-pub mod Offices
-pub mod Outboxes
+pub mod Ends
 pub mod ReplyLaws
 pub mod Starts
 pub mod Totals

@@ -1,5 +1,5 @@
 -- Which children a handle started, by the replies to its calls.
-use Rattle.std.specs.Prelude.{◌≡◌, ℕ, ◌==◌, cond, List, [], ◌∷◌, ◌++◌}
+use Rattle.std.specs.Prelude.{◌≡◌, ℕ, ◌==◌, cond, List, [], ◌∷◌, ◌++◌, Option, None, Some}
 use mathlib.Core.List.{IsPrefix}
 use Rattle.sup_types.specs.declared.template.Template.{Template}
 use Rattle.sup_types.specs.declared.history.Operation.{Operation}
@@ -15,6 +15,11 @@ use Rattle.sup_ledger.specs.declared.child.Child.{Child}
 abbrev pub started_as : Reply → List ℕ
 started_as (Started number) = number ∷ []
 started_as _ = []
+
+-- what a child was to own comes back from a start that made none
+abbrev pub given_back : {O : Type 0} → O → Reply → Option O
+given_back own (Started number) = None
+given_back own _ = Some own
 
 abbrev pub with_arg : List ℕ → Operation → List Child
 with_arg [] _ = []

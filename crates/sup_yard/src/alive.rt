@@ -1,20 +1,19 @@
 //! Children as tasks.
-ghost use Rattle.std.specs.Prelude.{◌≡◌, IfSome, MatchResult};
-ghost use Rattle.sup_yard.specs.Endings.{killed, not_run, EndsBy};
+ghost use Rattle.std.specs.Prelude.{◌≡◌, IfSome, MatchResult, if◌then◌else◌};
+ghost use Rattle.sup_ledger.specs.Endings.{killed, not_run};
+ghost use Rattle.sup_yard.specs.Ends.{EndsBy};
 
-use crate::behaviour::Behaviour;
-use crate::due::Due;
-use crate::hub::Hub;
-use crate::outbox::Office;
+use crate::behaviour::{Behaviour, End};
+use crate::hub::{Host, Hub};
 use futures::Future;
 use futures::future::{Abortable, Aborted};
 use futures::task::{Context, Poll};
-use std::sync::Wait;
+use sup_ledger::{Due, Office};
 use sup_types::{Reason, Word};
 
-/// A child that is alive. However it is let go, its exit is paid.
-pub struct Alive<'h, I: Office, B: Behaviour, P: Wait + Drop> {
-    pub(crate) hub: &'h Hub<I, B::Message, P>,
+/// A child that is alive. However it is let go, its exit waits to be entered.
+pub struct Alive<'h, I: Office, B: Behaviour, P: Host> {
+    pub(crate) hub: &'h Hub<I, B, P>,
     pub(crate) child: Option<Abortable<B::Child>>,
     pub(crate) due: Option<Due<I>>,
     /// Whether it was polled.
@@ -22,7 +21,7 @@ pub struct Alive<'h, I: Office, B: Behaviour, P: Wait + Drop> {
 }
 
 /// Why a child ended that was let go, as OTP names it: `killed`.
-pub(crate) fn killed() -> Reason
+fn killed() -> Reason
     ensures { result ≡ killed }
 {
     match Word::new(b"killed") {
@@ -31,7 +30,7 @@ pub(crate) fn killed() -> Reason
     }
 }
 
-/// Why a child ended that could not be run: `not_run`.
+/// Returns why a child ended that could not be run: `not_run`.
 pub(crate) fn not_run() -> Reason
     ensures { result ≡ not_run }
 {
@@ -41,17 +40,24 @@ pub(crate) fn not_run() -> Reason
     }
 }
 
-/// The reason of the child, or that of one whose time was over.
-fn reason_of(ended: Result<Reason, Aborted>) -> Reason
-    ensures { MatchResult ended (λ reason. result ≡ reason) (λ _. result ≡ killed) }
+/// The end of the child, or that of one whose time was over.
+fn end_of<O>(ended: Result<End<O>, Aborted>) -> End<O>
+    ensures { MatchResult ended (λ end. result.reason ≡ end.reason) (λ _. result.reason ≡ killed) }
 {
     match ended {
-        Ok(reason) => reason,
-        Err(_) => killed(),
+        Ok(end) => end,
+        Err(_) => killed().into(),
     }
 }
 
-impl<'h, I: Office, B: Behaviour, P: Wait + Drop> Drop for Alive<'h, I, B, P> {
+/// The reason of a child that was let go: `killed`, or `not_run` where it never ran.
+fn let_go(ran: bool) -> Reason
+    ensures { result ≡ (if ran then killed else not_run) }
+{
+    if ran { killed() } else { not_run() }
+}
+
+impl<'h, I: Office, B: Behaviour, P: Host> Drop for Alive<'h, I, B, P> {
     fn drop(self) {
         let Alive {
             hub,
@@ -61,12 +67,12 @@ impl<'h, I: Office, B: Behaviour, P: Wait + Drop> Drop for Alive<'h, I, B, P> {
         } = self;
         drop(child);
         if let Some(due) = due {
-            hub.pay(due, if began { killed() } else { not_run() });
+            hub.exited(due, let_go(began).into());
         }
     }
 }
 
-impl<'h, I: Office, B: Behaviour, P: Wait + Drop> Future for Alive<'h, I, B, P> {
+impl<'h, I: Office, B: Behaviour, P: Host> Future for Alive<'h, I, B, P> {
     type Output = ();
 
     ghost can_poll = { λ l. IfSome l.child (λ child. B.Child.can_poll child.task × EndsBy B.Child.gives I.may_end child.task) };
@@ -81,7 +87,7 @@ impl<'h, I: Office, B: Behaviour, P: Wait + Drop> Future for Alive<'h, I, B, P> 
             Poll::Ready(ended) => {
                 self.child = None;
                 if let Some(due) = self.due.take() {
-                    self.hub.pay(due, reason_of(ended));
+                    self.hub.exited(due, end_of(ended));
                 }
                 Poll::Ready(())
             }

@@ -1,204 +1,261 @@
 //! Hubs: what the threads of a crew share.
-ghost use Rattle.std.specs.Prelude.{◌≡◌, ◌<◌, ◌≤◌, ◌+◌, [], ◌∷◌, ◌++◌, true, map, All, IfOk, vec_len, vec_capacity};
-ghost use Rattle.sup_inbox.specs.Ends.{AreFrom, AreOf, AreNew};
-ghost use Rattle.sup_ledger.specs.Holdings.{numbers_from};
-ghost use Rattle.sup_yard.specs.Outboxes.{children_in, children_of};
-ghost use Rattle.sup_yard.specs.Totals.{children_posted, AreSame, IsAccounted};
-ghost use Rattle.sup_yard.specs.Endings.{is_ending, AreExitEndings, HavePostedEndings};
+ghost use Rattle.std.specs.Prelude.{◌≡◌, ◌<◌, ◌≤◌, ◌+◌, ◌-◌, ◌/◌, ◌^◌, List, [], ◌∷◌, ◌++◌, true, length, min, max, IfOk, IfSome, OnOk, vec_len};
+ghost use Rattle.std.specs.Duration.{as_nanos};
+ghost use Rattle.std.specs.VecDeque.{deque_len, deque_capacity};
+ghost use mathlib.Core.List.{IsPrefix};
+ghost use Rattle.sup_ledger.specs.Accounts.{IsNew};
+ghost use Rattle.sup_ledger.specs.Endings.{is_ending, AreEndings};
+ghost use Rattle.sup_ledger.specs.Exits.{children_of};
+ghost use Rattle.sup_ledger.specs.declared.child.Child.{Child};
+ghost use Rattle.sup_yard.specs.Totals.{IsAccounted};
 
-use crate::counts::CrewCounts;
-use crate::due::Due;
-use crate::outbox::{Office, Outbox};
-use crate::rooms::Rooms;
+use crate::behaviour::{Behaviour, End};
+use crate::clock::Moment;
+use crate::mailbox::ChildRef;
+use crate::news::News;
+use crate::registry::Registry;
 use std::alloc::Global;
 use std::collections::VecDeque;
-use std::sync::{Mutex, Wait};
-use std::thread::Parker;
-use std::time::Duration;
-use sup_inbox::{Inbox, InboxFull, Poster};
-use sup_ledger::{Account, Child, Ledger, Totals, Witness};
-use sup_types::{OutOfMemory, Reason};
+use std::sync::atomic::{AtomicBool, AtomicU64, Ordering};
+use std::sync::{Condvar, Mutex, Wait};
+use std::thread::{Parker, Threads};
+use std::time::{Clock, Duration};
+use sup_ledger::{Account, Child, Due, Exit, ExitQueue, Ledger, Office, OwedExit, Totals, Witness};
+use sup_types::OutOfMemory;
 
-/// What the threads of a crew share: the inbox with its posters, the ledger of the children, and the rooms of those that are
-/// alive.
+/// What a crew runs by: threads, waits and a clock.
+pub trait Host: Threads + Wait + Clock + Drop {}
+
+impl<R: Threads + Wait + Clock + Drop> Host for R {}
+
+/// What the threads of a crew share: the queues of exits, the ledger of the children, and the registry of those that are alive. No
+/// contract can say what its counts hold while other threads count, too.
 #[derive(Drop)]
-pub struct Hub<I: Office, M: Drop, P: Wait + Drop> {
-    pub(crate) rt: P,
-    inbox: Inbox,
-    ledger: Ledger,
-    outboxes: Vec<Mutex<Outbox<I>>>,
-    pub(crate) rooms: Rooms<M>,
-    pub(crate) counts: CrewCounts,
+pub struct Hub<I: Office, B: Behaviour, P: Host> {
+    /// What the crew runs by.
+    pub rt: P,
+    /// The children that were made, and whether their exits were paid.
+    pub ledger: Ledger,
+    /// Where clients wait for a change of the history.
+    pub news: News,
+    queues: Vec<Mutex<ExitQueue<I>>>,
+    pub(crate) registry: Mutex<Registry<B>>,
+    /// Told when a child is gone that was told to end.
+    gone: Condvar,
+    /// For how long a child may run after it was told to end.
+    grace: Duration,
+    /// How many children were made, and how many have ended.
+    made: AtomicU64,
+    ended: AtomicU64,
+    workers: AtomicU64,
+    /// How many times the queues were visited.
+    visits: AtomicU64,
+    closing: AtomicBool,
+    /// Whether the children that are listed when the crew closes stay listed.
+    keeping: AtomicBool,
     bell: Parker,
-    ghost named: { inbox.id ≡ I.inbox },
-    ghost holds: { inbox.capacity ≡ I.capacity },
-    ghost booked: { (ledger.id ≡ I.ledger) × (ledger.places ≡ I.posters) },
-    ghost all: { vec_len outboxes ≡ I.posters },
-    ghost some: { 0 < vec_len outboxes },
+    ghost booked: { ledger.id ≡ I.ledger },
+    ghost all: { (vec_len queues + 1 ≡ I.places) × (ledger.places ≡ I.places) },
+    ghost some: { 0 < vec_len queues },
 }
 
-/// What a hub leaves.
-#[derive(Drop)]
-pub struct Ended {
-    /// The inbox.
-    pub inbox: Inbox,
-    /// Its posters.
-    pub posters: Vec<Poster>,
-    /// The exits that wait, in a list for each poster.
-    pub waiting: Vec<VecDeque<InboxFull>>,
-    /// How many children were made, and how many of them owe an exit.
-    pub totals: Totals,
-}
-
-/// An outbox for each poster, at its place in the ledger. None has posted anything.
-fn outboxes_of<I: Office>(
+/// So many queues, each with the account of a place. The last place stays.
+fn queues_of<I: Office>(
     alloc: Global,
-    posters: Vec<Poster>,
+    count: usize,
     ledger: &Ledger,
-    root: Account,
-) -> Result<Vec<Mutex<Outbox<I>>>, OutOfMemory>
-    requires posters { AreFrom I.inbox 1 posters.items × AreNew posters.items }
+    root: &mut Account,
+) -> Result<Vec<Mutex<ExitQueue<I>>>, OutOfMemory>
     requires ledger { ledger.now.id ≡ I.ledger }
-    requires root { root ≡ record { ledger = I.ledger; places = numbers_from 1 (vec_len posters); made = []; paid = [] } }
-    ensures { IfOk result (λ outboxes. vec_len outboxes ≡ vec_len posters) }
+    requires root { IsNew I.ledger (count + 1) root.old }
+    ensures queues { IfOk result (λ queues. vec_len queues ≡ count) }
+    ensures root { OnOk result (IsNew I.ledger 1 root.new) }
 {
-    let mut root = root;
-    let mut outboxes = Vec::with_capacity(alloc, posters.len())?;
-    for poster in posters {
-        let account = ledger.open(&mut root);
-        outboxes.push_reserved(Mutex::new(Outbox::new(alloc, poster, account)));
+    let mut queues = Vec::with_capacity(alloc, count)?;
+    for _ in 0..count {
+        let account = ledger.open(root);
+        queues.push_reserved(Mutex::new(ExitQueue::new(alloc, account)));
     }
-    Ok(outboxes)
+    Ok(queues)
 }
 
-/// What outboxes leave: their posters, the exits that wait in each, and one account of all their places.
-#[derive(Drop)]
-struct Emptied {
-    posters: Vec<Poster>,
-    waiting: Vec<VecDeque<InboxFull>>,
-    account: Account,
-}
-
-/// Ends these outboxes. The lists have room for what they leave.
-fn empty<I: Office, P: Wait>(
+/// Tells of these exits: pays each, and lists it. If memory is refused for the list, the rest is let go, and stays owed.
+fn tell<I: Office, P: Wait>(
     rt: &P,
     ledger: &Ledger,
-    outboxes: Vec<Mutex<Outbox<I>>>,
-    posters: Vec<Poster>,
-    waiting: Vec<VecDeque<InboxFull>>,
-) -> Emptied
-    requires ledger { ledger.now.id ≡ I.ledger }
-    requires empty { (posters.items ≡ []) × (waiting.items ≡ []) }
-    requires room { (vec_len outboxes ≤ vec_capacity posters) × (vec_len outboxes ≤ vec_capacity waiting) }
-    ensures posters { AreOf I.inbox result.posters.items × (vec_len result.posters ≡ vec_len outboxes) }
-    ensures endings { HavePostedEndings I.may_end result.posters.items × All (λ list. AreExitEndings I.may_end list.items) result.waiting.items }
-    ensures account { (result.account.ledger ≡ I.ledger) × (result.account.places ≡ map (λ p. p.number) result.posters.items) }
-    ensures paid { AreSame result.account.paid (children_posted result.posters.items ++ children_in (λ list. children_of list.items) result.waiting.items) }
+    exits: VecDeque<OwedExit<I>>,
+    account: &mut Account,
+    told: &mut Vec<Exit>,
+)
+    requires ledger { (ledger.now.id ≡ I.ledger) × (account.old.ledger ≡ I.ledger) }
+    requires place { 0 < length account.old.places }
+    requires endings { AreEndings I.may_end told.old.items }
+    ensures endings { AreEndings I.may_end told.new.items }
+    ensures paid { (others : List Child) → account.old.paid ≡ others ++ children_of told.old.items → account.new.paid ≡ others ++ children_of told.new.items }
+    ensures same { (account.new.ledger ≡ I.ledger) × (account.new.places ≡ account.old.places) }
 {
-    let mut posters = posters;
-    let mut waiting = waiting;
-    let mut account = ledger.account();
-    for outbox in outboxes {
-        let (poster, exits, theirs) = outbox.into_inner().end();
-        posters.push_reserved(poster);
-        waiting.push_reserved(exits);
-        ledger.join(rt, &mut account, theirs);
-    }
-    Emptied {
-        posters,
-        waiting,
-        account,
+    let mut exits = exits;
+    for _ in 0..exits.len() {
+        if told.reserve(1).is_err() {
+            return;
+        }
+        let Some(exit) = exits.pop_front() else {
+            return;
+        };
+        told.push_reserved(exit.pay(rt, ledger, account));
     }
 }
 
-impl<I: Office, M: Drop, P: Wait + Drop> Hub<I, M, P> {
-    /// A hub of an inbox and a ledger that I names, with an outbox for each of the inbox's posters, for so many workers. No poster
-    /// has posted anything, and no child was made. The root is the account of all places.
+impl<I: Office, B: Behaviour, P: Host> Hub<I, B, P> {
+    /// Makes a hub of a ledger that I names, for this number of workers, with a queue for each; and the account of the last place, by
+    /// which exits that were entered are paid. No child was made. The root is the account of all places. Children may run for this
+    /// grace after they were told to end.
     pub fn new(
         rt: P,
         alloc: Global,
-        inbox: Inbox,
-        posters: Vec<Poster>,
         ledger: Ledger,
         root: Account,
-        workers: u64,
-    ) -> Result<Hub<I, M, P>, OutOfMemory>
-        requires named { (inbox.id ≡ I.inbox) × (inbox.capacity ≡ I.capacity) }
-        requires posters { AreFrom I.inbox 1 posters.items × AreNew posters.items }
-        requires all { (vec_len posters ≡ I.posters) × (0 < I.posters) }
-        requires ledger { (ledger.id ≡ I.ledger) × (ledger.places ≡ I.posters) }
-        requires root { root ≡ record { ledger = I.ledger; places = numbers_from 1 I.posters; made = []; paid = [] } }
+        grace: Duration,
+        workers: usize,
+    ) -> Result<(Hub<I, B, P>, Account), OutOfMemory>
+        requires ledger { (ledger.id ≡ I.ledger) × (ledger.places ≡ I.places) }
+        requires workers { (0 < workers) × (workers + 1 ≡ I.places) }
+        requires root { IsNew I.ledger I.places root }
+        ensures account { IfOk result (λ r. IsNew I.ledger 1 r.1) }
+        ensures grace { IfOk result (λ r. r.0.grace ≡ grace) }
     {
-        let outboxes = outboxes_of(alloc, posters, &ledger, root)?;
-        let rooms = Rooms::new(alloc)?;
-        Ok(Hub {
+        let mut root = root;
+        let queues = queues_of(alloc, workers, &ledger, &mut root)?;
+        let hub = Hub {
             rt,
-            inbox,
             ledger,
-            outboxes,
-            rooms,
-            counts: CrewCounts::new(workers),
+            news: News::new(),
+            queues,
+            registry: Mutex::new(Registry::new(alloc)),
+            gone: Condvar::new(),
+            grace,
+            made: AtomicU64::new(0),
+            ended: AtomicU64::new(0),
+            workers: AtomicU64::new(workers as u64),
+            visits: AtomicU64::new(0),
+            closing: AtomicBool::new(false),
+            keeping: AtomicBool::new(false),
             bell: Parker::new(),
-        })
+        };
+        Ok((hub, root))
     }
 
-    /// The outbox of this place. A place from which there is none is counted on from the first.
-    fn outbox(&self, place: usize) -> &Mutex<Outbox<I>> {
-        &self.outboxes[place % self.outboxes.len()]
+    /// The queue at this place. A place from which there is none is counted on from the first.
+    fn queue(&self, place: usize) -> &Mutex<ExitQueue<I>> {
+        &self.queues[place % self.queues.len()]
     }
 
-    /// Makes room for the exits of one child more, and says in which outbox.
+    /// Makes room for the exit of one child more, and says in which queue.
     pub fn make_room(&self) -> Result<usize, OutOfMemory> {
-        let count = self.outboxes.len() as u64;
-        let place = (self.counts.next_turn() % count) as usize;
-        self.outbox(place).lock(&self.rt).make_room()?;
+        let made = self.made.load(Ordering::SeqCst);
+        let place = (made % self.queues.len() as u64) as usize;
+        self.queue(place).lock(&self.rt).make_room()?;
         Ok(place)
     }
 
-    /// Gives the room of one child back, in the outbox of this place.
+    /// Gives the room of one child back, in the queue at this place.
     pub fn free_room(&self, place: usize) {
-        self.outbox(place).lock(&self.rt).free_room();
+        self.queue(place).lock(&self.rt).free_room();
     }
 
-    /// Makes a child, whose exit has room in the outbox of this place: the exit is owed from now on.
-    pub(crate) fn own(&self, child: Child, place: usize) -> (Due<I>, Witness)
+    /// Forgets a child that has ended, with what it left, and gives its room back, in the queue at this place.
+    pub fn forget(&self, number: u64, place: usize) {
+        let _ = self.take_left(number);
+        self.free_room(place);
+    }
+
+    /// Returns what a child left that has ended, and forgets the child.
+    pub fn take_left(&self, number: u64) -> Option<B::Own> {
+        self.registry.lock(&self.rt).take_left(number)
+    }
+
+    /// Makes a child, whose exit has room in the queue at this place: the exit is owed from now on.
+    pub(crate) fn owe(&self, child: Child, place: usize) -> (Due<I>, Witness)
         ensures due { result.0.debt ≡ record { ledger = I.ledger; child = child } }
         ensures witness { result.1 ≡ record { ledger = I.ledger; shown = child ∷ [] } }
     {
-        self.counts.child_made();
-        let (debt, witness) = self
-            .outbox(place)
+        self.made.fetch_add(1, Ordering::SeqCst);
+        self.queue(place)
             .lock(&self.rt)
-            .make(&self.rt, &self.ledger, child);
-        (Due::new(debt, place), witness)
+            .make(&self.rt, &self.ledger, child, place)
     }
 
-    /// Posts the exit that is owed, or lets it wait for room, and calls the driver.
-    pub(crate) fn pay(&self, due: Due<I>, reason: Reason)
-        requires { is_ending I.may_end reason ≡ true }
+    /// Notes that the child has ended so: its exit waits to be entered, and the driver is called.
+    pub(crate) fn exited(&self, due: Due<I>, end: End<B::Own>)
+        requires { is_ending I.may_end end.reason ≡ true }
     {
-        let (debt, place) = due.parts();
-        self.rooms.close(&self.rt, debt.child().number);
-        let paid = self
-            .outbox(place)
-            .lock(&self.rt)
-            .put(&self.rt, &self.inbox, &self.ledger, debt, reason);
-        if let Err(debt) = paid {
-            debt.lose();
+        let End { reason, own } = end;
+        if self.registry.lock(&self.rt).close(due.child().number, own) {
+            self.gone.notify_all();
         }
-        self.counts.child_paid();
+        let exit = due.ended(reason);
+        self.queue(exit.place()).lock(&self.rt).put(exit);
+        self.ended.fetch_add(1, Ordering::SeqCst);
         self.ring();
     }
 
-    /// Posts the exits that wait, for as long as the inbox has room. Whether any was posted.
-    pub fn post_waiting(&self) -> bool {
-        let mut posted = false;
-        for outbox in &self.outboxes {
-            if outbox.lock(&self.rt).post_waiting(&self.rt, &self.inbox) {
-                posted = true;
-            }
+    /// Takes exits that wait until this number is held, for which there is room. Those of one queue come in their order, and each
+    /// call begins with the next queue.
+    pub fn take_exits(&self, held: &mut VecDeque<OwedExit<I>>, limit: usize)
+        requires { limit ≤ deque_capacity held.old }
+        ensures kept { IsPrefix held.old.items held.new.items }
+        ensures len { deque_len held.new ≤ max limit (deque_len held.old) }
+        ensures room { deque_capacity held.new ≡ deque_capacity held.old }
+    {
+        let count = self.queues.len();
+        let visit = self.visits.fetch_add(1, Ordering::SeqCst);
+        let first = (visit % count as u64) as usize;
+        for at in 0..count {
+            self.queue(first.wrapping_add(at))
+                .lock(&self.rt)
+                .give(held, limit);
         }
-        posted
+    }
+
+    /// Returns the address of the child with this number, if it is alive.
+    pub fn address(&self, number: u64) -> Option<ChildRef<B::Message>>
+        ensures { IfSome result (λ address. address.number ≡ number) }
+    {
+        self.registry.lock(&self.rt).address(number)
+    }
+
+    /// Returns until when a child may run that is told to end at this moment: for its grace, and in any case no longer than to the
+    /// last moment that there is.
+    pub fn until(&self, moment: Moment) -> Moment
+        ensures { result.millis ≡ min (moment.millis + min (as_nanos self.now.grace / 1000000) (2 ^ 64 - 1)) (2 ^ 64 - 1) }
+    {
+        moment.after(self.grace)
+    }
+
+    /// Tells a child to end, and the driver to see that it does.
+    pub fn end(&self, number: u64, moment: Moment) {
+        self.registry.lock(&self.rt).end(number, self.until(moment));
+        self.ring();
+    }
+
+    /// Tells all children to end, and the driver to see that they do.
+    pub fn end_all(&self, moment: Moment) {
+        self.registry.lock(&self.rt).end_all(self.until(moment));
+        self.ring();
+    }
+
+    /// Sleeps until a child that was told to end is gone. If there is none, it returns at once.
+    pub fn await_end(&self, number: u64) {
+        let registry = self.registry.lock(&self.rt);
+        let _registry = self
+            .gone
+            .wait_while(&self.rt, registry, |registry| registry.has(number));
+    }
+
+    /// Lets the children go that were told to end, and whose time is over at this moment. The moment when that of the next is, where
+    /// another was told to end.
+    pub fn expire(&self, moment: Moment) -> Option<Moment> {
+        self.registry.lock(&self.rt).expire(moment)
     }
 
     /// Wakes the driver.
@@ -216,78 +273,74 @@ impl<I: Office, M: Drop, P: Wait + Drop> Hub<I, M, P> {
         self.bell.park_timeout(&self.rt, time);
     }
 
-    /// Lets the children go that were told to end, and whose time is over at this moment.
-    pub fn expire(&self, moment: u64) {
-        self.rooms.expire(&self.rt, moment);
+    /// Notes that one worker went, or could not be started.
+    pub fn worker_went(&self) {
+        self.workers.fetch_sub(1, Ordering::SeqCst);
+        self.ring();
     }
 
-    /// Whether a child that was told to end is still alive.
-    pub fn is_any_told(&self) -> bool {
-        self.rooms.is_any_told()
+    /// Returns whether no worker is left.
+    pub fn have_all_gone(&self) -> bool {
+        self.workers.load(Ordering::SeqCst) == 0
     }
 
-    /// What its threads count.
-    pub fn counts(&self) -> &CrewCounts {
-        &self.counts
+    /// Returns whether each child that was made has ended.
+    pub fn have_all_ended(&self) -> bool {
+        let ended = self.ended.load(Ordering::SeqCst);
+        ended == self.made.load(Ordering::SeqCst)
     }
 
-    /// The inbox.
-    pub fn inbox(&self) -> &Inbox
-        ensures { (result.now.id ≡ I.inbox) × (result.now.capacity ≡ I.capacity) }
-    {
-        &self.inbox
+    /// Lets the children that are listed when the crew closes stay listed.
+    pub fn keep_children(&self) {
+        self.keeping.store(true, Ordering::SeqCst);
     }
 
-    /// A witness of the ledger that shows no child.
-    pub fn witness(&self) -> Witness
-        ensures { result ≡ record { ledger = I.ledger; shown = [] } }
-    {
-        self.ledger.witness()
+    /// Returns whether the crew is to close and keeps its children, so that nothing more is entered.
+    pub fn is_suspended(&self) -> bool {
+        self.is_closing() && self.keeping.load(Ordering::SeqCst)
     }
 
-    /// Joins another witness of the ledger to this one.
-    pub fn show(&self, witness: &mut Witness, other: Witness)
-        requires { (witness.old.ledger ≡ I.ledger) × (other.ledger ≡ I.ledger) }
-        ensures { witness.new ≡ record { ledger = I.ledger; shown = witness.old.shown ++ other.shown } }
-    {
-        self.ledger.show(witness, other);
+    /// Lets the crew close: the driver stops the supervisor, unless its children are kept, and all children end.
+    pub fn close(&self) {
+        self.closing.store(true, Ordering::SeqCst);
+        self.ring();
     }
 
-    /// What it leaves, in lists that have room. Each exit that was posted or waits has a reason for which a child may end, or one
-    /// of the crew's own. Each child that was made has one such exit, or still owes it; and what the witness shows was made.
-    pub fn end(
+    /// Returns whether the crew is to close.
+    pub fn is_closing(&self) -> bool {
+        self.closing.load(Ordering::SeqCst)
+    }
+
+    /// Returns the exits that were not entered, and how many children were made and how many of them owe an exit, by the account of the
+    /// exits that were entered and of those that were taken and not entered. Each child that was made has one exit, which was
+    /// entered or is in the list, or still owes it: where memory is refused for the list, those that are not in it are owed. What
+    /// the witness shows was made.
+    pub fn settle(
         self,
-        posters: Vec<Poster>,
-        waiting: Vec<VecDeque<InboxFull>>,
+        alloc: Global,
+        entered: Account,
+        held: VecDeque<OwedExit<I>>,
         witness: Witness,
-    ) -> Ended
-        requires empty { (posters.items ≡ []) × (waiting.items ≡ []) }
-        requires room { (I.posters ≤ vec_capacity posters) × (I.posters ≤ vec_capacity waiting) }
+    ) -> (Vec<Exit>, Totals)
+        requires entered { (entered.ledger ≡ I.ledger) × (length entered.places ≡ 1) }
         requires witness { witness.ledger ≡ I.ledger }
-        ensures inbox { (result.inbox.id ≡ I.inbox) × (result.inbox.capacity ≡ I.capacity) }
-        ensures posters { AreOf I.inbox result.posters.items × (vec_len result.posters ≡ I.posters) }
-        ensures endings { HavePostedEndings I.may_end result.posters.items × All (λ list. AreExitEndings I.may_end list.items) result.waiting.items }
-        ensures account { IsAccounted result.posters.items (children_in (λ list. children_of list.items) result.waiting.items) witness.shown result.totals.made result.totals.owed }
+        ensures endings { AreEndings I.may_end result.0.items }
+        ensures account { IsAccounted entered.paid (children_of result.0.items) witness.shown result.1.made result.1.owed }
     {
         let Hub {
             rt,
-            inbox,
             ledger,
-            outboxes,
-            rooms: _,
-            counts: _,
-            bell: _,
+            queues,
+            ..
         } = self;
-        let Emptied {
-            posters,
-            waiting,
-            account,
-        } = empty(&rt, &ledger, outboxes, posters, waiting);
-        Ended {
-            inbox,
-            posters,
-            waiting,
-            totals: ledger.settle(account, witness),
+        let mut account = entered;
+        let mut left = Vec::new(alloc);
+        tell(&rt, &ledger, held, &mut account, &mut left);
+        for queue in queues {
+            let (waiting, theirs) = queue.into_inner().end();
+            tell(&rt, &ledger, waiting, &mut account, &mut left);
+            ledger.join(&rt, &mut account, theirs);
         }
+        (left, ledger.settle(account, witness))
     }
 }

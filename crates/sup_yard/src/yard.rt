@@ -1,92 +1,53 @@
 //! Yards: where children run.
-ghost use Rattle.std.specs.Prelude.{◌≡◌, ◌+◌, ◌-◌, ◌^◌, [], ◌∷◌, ◌++◌, min, IfOk};
+ghost use Rattle.std.specs.Prelude.{◌≡◌, [], ◌∷◌, ◌++◌, IfOk, IfSome};
 ghost use mathlib.Core.List.{IsPrefix};
-ghost use Rattle.sup_yard.specs.Endings.{EndsBy};
-ghost use Rattle.sup_yard.specs.Starts.{child_started};
+ghost use Rattle.sup_yard.specs.Ends.{EndsBy};
+ghost use Rattle.sup_yard.specs.Starts.{child_started, given_back, started_as};
 
 use crate::alive::{Alive, not_run};
 use crate::behaviour::Behaviour;
-use crate::clock::Moments;
-use crate::due::Due;
-use crate::hub::Hub;
-use crate::outbox::Office;
-use crate::rooms::wired;
+use crate::clock::{Moment, Moments};
+use crate::hub::{Host, Hub};
+use crate::mailbox::{ChildRef, opened};
 use futures::Future;
 use futures::executor::TaskSet;
 use futures::future::Abortable;
 use futures::task::{Doorbell, Hold};
 use std::alloc::{AllocError, AllocGlobal, Global};
 use std::random::RandomSource;
-use std::sync::Wait;
-use std::time::Clock;
-use sup_desk::{Handle, Journal, Name};
-use sup_ledger::{Child, Witness};
-use sup_types::{Operation, OutOfMemory, Reply, Seen, Starter, Text};
+use std::sync::Arc;
+use sup_desk::{HandleOf, Name};
+use sup_ledger::{Child, Due, Office, Witness};
+use sup_types::{Operation, OutOfMemory, Reply, Seen, Text};
 
 /// So many workers share a queue of the children that are to be polled.
 const WORKERS_OF_A_QUEUE: usize = 4;
 
 /// The tasks of a crew, with what they share. By its type, its children may end for the reasons of which the office may be told.
 #[derive(Drop)]
-pub struct Yard<'h, I: Office, B: Behaviour, P: Wait + Drop, F: Future> {
-    alloc: Global,
-    pub(crate) hub: &'h Hub<I, B::Message, P>,
+pub struct Yard<'h, I: Office, B: Behaviour, P: Host, F: Future> {
+    /// Where the crew takes memory.
+    pub alloc: Global,
+    /// What the threads of the crew share.
+    pub hub: &'h Hub<I, B, P>,
     behaviour: &'h B,
     moments: Moments<'h>,
-    /// For how many seconds a child may go on after it was told to end.
-    pub grace: u64,
     tasks: TaskSet<F>,
     ghost ends: { I.may_end ≡ B.may_end behaviour.now },
 }
 
-impl<'h, I: Office, B: Behaviour, P: Wait + Drop, F: Future> Yard<'h, I, B, P, F> {
-    /// What the threads of the crew share.
-    pub fn hub(&self) -> &'h Hub<I, B::Message, P> {
-        self.hub
+/// A yard whose children are those of the behaviour.
+pub type Crew<'h, I, B, P> = Yard<'h, I, B, P, Alive<'h, I, B, P>>;
+
+impl<'h, I: Office, B: Behaviour, P: Host, F: Future> Yard<'h, I, B, P, F> {
+    /// Returns the moment now.
+    pub fn now(&self) -> Moment {
+        self.moments.now(&self.hub.rt)
     }
 
-    /// Where the crew takes memory.
-    pub fn alloc(&self) -> Global {
-        self.alloc
-    }
-
-    /// The moment now, in seconds.
-    pub fn now<R: Clock>(&self, rt: &R) -> u64 {
-        self.moments.now(rt)
-    }
-
-    /// Until when a child may go on that is told to end at this moment, in seconds: for its grace, and in any case no longer
-    /// than to the last moment that there is.
-    pub fn until(&self, moment: u64) -> u64
-        ensures { result ≡ min (moment + self.now.grace) (2 ^ 64 - 1) }
-    {
-        moment.saturating_add(self.grace)
-    }
-
-    /// Tells a child to end, and the driver to see that it does.
-    pub fn end(&self, number: u64, moment: u64) {
-        let hub = self.hub;
-        hub.rooms.end(&hub.rt, number, self.until(moment));
-        hub.ring();
-    }
-
-    /// Sleeps until a child that was told to end is gone.
-    pub fn await_end(&self, number: u64) {
-        let hub = self.hub;
-        hub.rooms.await_closed(&hub.rt, number);
-    }
-
-    /// Sends to the child with this number. The message comes back where no such child is alive, where it was told to end, or
-    /// for want of memory.
-    pub fn send(&self, number: u64, message: B::Message) -> Result<(), B::Message> {
-        let hub = self.hub;
-        hub.rooms.send(&hub.rt, number, message)
-    }
-
-    /// Lets the crew close: the driver stops the supervisor, and all children end.
-    pub fn close(&self) {
-        self.hub.counts.close();
-        self.hub.ring();
+    /// Tells the behaviour that the child with this number was restarted as this one.
+    pub fn tell_restarted(&self, number: u64, child: &Child) {
+        self.behaviour.restarted(number, child.number, &child.arg);
     }
 
     /// Makes the workers go, and lets all children go that are left.
@@ -94,39 +55,40 @@ impl<'h, I: Office, B: Behaviour, P: Wait + Drop, F: Future> Yard<'h, I, B, P, F
         self.tasks.shut_down();
     }
 
-    /// Tells all children to end, and the driver to see that they do.
-    pub fn end_all(&self, moment: u64) {
-        let hub = self.hub;
-        hub.rooms.end_all(&hub.rt, self.until(moment));
-        hub.ring();
-    }
-
-    /// The child of this number and argument, with its room opened.
-    fn admit(&self, number: u64, arg: &Text) -> Result<Abortable<B::Child>, AllocError>
-        ensures { IfOk result (λ child. B.Child.can_poll child.task × EndsBy B.Child.gives I.may_end child.task) }
+    /// The child of this number and argument, which owns this and is alive from now on, and its address.
+    fn admit(
+        &self,
+        number: u64,
+        arg: &Text,
+        own: Option<B::Own>,
+    ) -> Result<(Abortable<B::Child>, ChildRef<B::Message>), AllocError>
+        ensures child { IfOk result (λ r. B.Child.can_poll r.0.task × EndsBy B.Child.gives I.may_end r.0.task) }
+        ensures address { IfOk result (λ r. r.1.number ≡ number) }
     {
-        let (wiring, mailbox) = wired(self.alloc)?;
-        let child = self.behaviour.begin(number, arg, mailbox);
+        let (mailbox, room) = opened(self.alloc)?;
+        let address = ChildRef {
+            number,
+            room: Arc::try_clone(&room)?,
+        };
+        let child = self.behaviour.begin(number, arg, own, mailbox);
         let (child, abort) = Abortable::new(self.alloc, child)?;
-        self.hub.rooms.open(&self.hub.rt, number, wiring, abort)?;
-        Ok(child)
+        let hub = self.hub;
+        hub.registry.lock(&hub.rt).open(number, room, abort)?;
+        Ok((child, address))
     }
 }
 
-impl<'h, I: Office, B: Behaviour, P: Wait + Drop> Yard<'h, I, B, P, Alive<'h, I, B, P>> {
-    /// A yard in which no child runs, for so many workers. Its children may go on for `grace` seconds after they were told
-    /// to end.
+impl<'h, I: Office, B: Behaviour, P: Host> Yard<'h, I, B, P, Alive<'h, I, B, P>> {
+    /// Makes a yard in which no child runs, for this number of workers.
     pub fn new<R: RandomSource + AllocGlobal>(
         rt: &R,
         alloc: Global,
-        hub: &'h Hub<I, B::Message, P>,
+        hub: &'h Hub<I, B, P>,
         behaviour: &'h B,
         moments: Moments<'h>,
-        grace: u64,
         workers: usize,
     ) -> Result<Yard<'h, I, B, P, Alive<'h, I, B, P>>, OutOfMemory>
         requires { I.may_end ≡ B.may_end behaviour.now }
-        ensures { IfOk result (λ yard. yard.grace ≡ grace) }
     {
         // A worker takes the next child of its own queue at once. It leaves the only one of another queue to that queue's workers
         // for a while, though they may all be asleep.
@@ -139,86 +101,96 @@ impl<'h, I: Office, B: Behaviour, P: Wait + Drop> Yard<'h, I, B, P, Alive<'h, I,
             hub,
             behaviour,
             moments,
-            grace,
             tasks,
         })
     }
 
-    /// While this is there, workers wait for children that are still to come.
+    /// Returns a hold. While it is there, workers wait for children that are still to come.
     pub fn hold(&self) -> Result<Vec<Hold<'_>>, AllocError> {
         self.tasks.hold(self.alloc)
     }
 
     /// Runs children, as the worker with this number, until the yard is shut down, or no hold of it and no child is left. Then
     /// the worker has gone.
-    pub fn work<R: Wait>(&self, rt: &R, worker: usize) {
-        self.tasks.work(rt, worker);
-        self.hub.counts.worker_went();
-        self.hub.ring();
+    pub fn work(&self, worker: usize) {
+        self.tasks.work(&self.hub.rt, worker);
+        self.hub.worker_went();
     }
 
-    /// Runs a child that was made. Where that is refused, its exit is paid at once.
-    fn spawn(&self, due: Due<I>) {
-        let Child { number, arg } = due.debt.child();
-        match self.admit(number, &arg) {
-            Ok(child) => drop(
-                self.tasks.spawn(Alive {
+    /// Runs a child that was made, and gives its address. If that is refused, it has ended at once, with what it owns, and has none.
+    fn spawn(&self, due: Due<I>, own: Option<B::Own>) -> Option<ChildRef<B::Message>>
+        ensures { IfSome result (λ address. address.number ≡ due.debt.child.number) }
+    {
+        let Child { number, arg } = due.child();
+        match self.admit(number, &arg, own) {
+            Ok((child, address)) => {
+                let _ = self.tasks.spawn(Alive {
                     hub: self.hub,
                     child: Some(child),
                     due: Some(due),
                     began: false,
-                }),
-            ),
-            Err(_) => self.hub.pay(due, not_run()),
+                });
+                Some(address)
+            }
+            Err(_) => {
+                self.hub.exited(due, not_run().into());
+                None
+            }
         }
     }
 
-    /// Makes and runs a child that was started, whose exit has room in the outbox of this place, and shows that it was made. One
-    /// that is listed no more is told to end: who ends a child enters that first, and then looks for its room.
-    pub fn begin<N: Name, S: Starter + Drop, Q: Wait + Drop, J: Journal + Drop>(
+    /// Makes and runs a child that was started, whose exit has room in the queue at this place, and shows that it was made. One
+    /// that is listed no more is told to end: who ends a child enters that first, and then looks for it among those that are
+    /// alive.
+    pub fn begin<N: Name, D>(
         &self,
-        handle: &mut Handle<'_, N, S, Q, J>,
-        moment: u64,
+        handle: &mut HandleOf<'_, N, D>,
+        moment: Moment,
         child: Child,
+        own: Option<B::Own>,
         place: usize,
-    ) -> Witness
+    ) -> (Option<ChildRef<B::Message>>, Witness)
+        ensures address { IfSome result.0 (λ address. address.number ≡ child.number) }
         ensures front { IsPrefix handle.old.front handle.new.front }
         ensures calls { (handle.new.calls ≡ handle.old.calls) × (handle.new.number ≡ handle.old.number) }
-        ensures witness { result ≡ record { ledger = I.ledger; shown = child ∷ [] } }
+        ensures witness { result.1 ≡ record { ledger = I.ledger; shown = child ∷ [] } }
     {
-        let (due, witness) = self.hub.own(child, place);
-        self.spawn(due);
+        let (due, witness) = self.hub.owe(child, place);
+        let address = self.spawn(due, own);
         if !matches!(handle.child(child.number), Ok(Seen::Up(Some(_)))) {
-            self.end(child.number, moment);
+            self.hub.end(child.number, moment);
         }
-        witness
+        (address, witness)
     }
 
-    /// Makes and runs the child that was started, if one was, whose exit has room in the outbox of this place, and adds it to what
-    /// the witness shows. Where none was, the room is given back.
-    pub fn begin_started<N: Name, S: Starter + Drop, Q: Wait + Drop, J: Journal + Drop>(
+    /// Makes and runs the child that was started, if one was, whose exit has room in the queue at this place, adds it to what the
+    /// witness shows, and gives its address. If none was, the room is given back, and what the child was to own.
+    pub fn begin_started<N: Name, D>(
         &self,
-        handle: &mut Handle<'_, N, S, Q, J>,
+        handle: &mut HandleOf<'_, N, D>,
         witness: &mut Witness,
-        moment: u64,
+        moment: Moment,
         arg: Text,
+        own: B::Own,
         place: usize,
         reply: &Reply,
-    )
+    ) -> (Option<ChildRef<B::Message>>, Option<B::Own>)
         requires { witness.old.ledger ≡ I.ledger }
+        ensures address { IfSome result.0 (λ address. started_as reply.now ≡ address.number ∷ []) }
+        ensures own { result.1 ≡ given_back own reply.now }
         ensures front { IsPrefix handle.old.front handle.new.front }
         ensures calls { (handle.new.calls ≡ handle.old.calls) × (handle.new.number ≡ handle.old.number) }
         ensures witness { witness.new ≡ record { ledger = I.ledger; shown = witness.old.shown ++ child_started (Operation.Start arg) reply.now } }
     {
         if let Reply::Started(number) = reply {
-            let child = Child {
-                number: *number,
-                arg,
-            };
-            let begun = self.begin(handle, moment, child, place);
-            self.hub.show(witness, begun);
+            let number = *number;
+            let child = Child { number, arg };
+            let (address, begun) = self.begin(handle, moment, child, Some(own), place);
+            self.hub.ledger.show(witness, begun);
+            (address, None)
         } else {
             self.hub.free_room(place);
+            (None, Some(own))
         }
     }
 }

@@ -144,7 +144,7 @@ no_reason word normal shutdown term other reason.Shutdown fits e = shutdown e
 no_reason word normal shutdown term other (reason.ShutdownWith t) fits e = term t fits e
 no_reason word normal shutdown term other (reason.Other w) fits e = other (subst IsWord (sym e) fits)
 
--- a text behind `shutdown:` is a word of its own, and so is what it makes
+-- a text after `shutdown:` is a word of its own, and so is what it makes
 pub term_is : (t u word : List ℕ) → word ≡ codes "shutdown:" ++ t → word ≡ codes "shutdown:" ++ u → t ≡ u
 term_is t u word p q = ap (λ l. drop 9 l) (sym p ∙ q)
 
@@ -191,6 +191,6 @@ no_exit v ws is none operation.Stop more fits same e = absurd cc
 
 -- ---- first lines
 
--- the words behind the five
+-- the words after the five
 pub past_limits : (parts p : Parts) (ws xs ys : List (List ℕ)) → ws ≡ limit_words parts ++ xs → ws ≡ limit_words p ++ ys → xs ≡ ys
 past_limits parts p ws xs ys a b = ap (drop 5) (sym a ∙ b)

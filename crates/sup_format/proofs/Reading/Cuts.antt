@@ -16,7 +16,7 @@ none_means_false : (b : Bool) (n : ℕ) → cond b (Some n) None ≡ None → b 
 none_means_false true n e = absurd cc
 none_means_false false n e = refl
 
--- cut at a byte that stands there, and nowhere in front of it
+-- cut at a byte that is there, and nowhere before it
 cut_at : (byte : ℕ) (bytes : List ℕ) (at : ℕ) → at < length bytes → get_or bytes at 0 ≡ byte → ((k : ℕ) → k < at → (get_or bytes k 0 == byte) ≡ false)
     → IsSplit byte bytes (take at bytes) (drop (at + 1) bytes)
 cut_at byte bytes at within here before =

@@ -11,7 +11,7 @@ length_onto : (b : ℕ) (lines : List (List ℕ)) → 0 < length lines → lengt
 length_onto b [] some = absurd (omega arith)
 length_onto b (line ∷ lines) some = refl
 
--- the lines of a text with a line feed behind it, but one
+-- the lines of a text that a line feed follows, but one
 abbrev lines_before : List ℕ → ℕ
 lines_before xs = length (lines_of (xs ++ 10 ∷ [])) - 1
 

@@ -77,7 +77,7 @@ module _ (bytes : List ℕ) (template : Template) (entries : List Entry) (s : Sp
       let first : s.first ≡ line = first_same _ _ _ _ (sym s.lines ∙ ap lines_of whole ∙ lines-split rest line more split) in
       out.unfit (stands template out.parts (template_of line template out.parts (subst (λ l. IsFirst AreFirstWords l template) first s.first_is) out.shape))
 
-  -- the lines so far, and those that are left
+  -- the lines so far, and the remaining ones
   no_bad_line : (front rest : List ℕ) → bytes ≡ front ++ rest → IsFull front → (ls : List (List ℕ)) → lines_of front ≡ ls → IsBadRest ls rest → ⊥
   no_bad_line front rest parts full [] so_far bad =
       let lines : lines_of rest ≡ s.first ∷ s.body = sym (ap (λ (l : List (List ℕ)). l ++ lines_of rest) so_far) ∙ sym (lines-append front rest full) ∙ ap lines_of (sym parts) ∙ s.lines in

@@ -1,4 +1,4 @@
--- The first whole lines of a history text that goes on.
+-- The first whole lines of a history text that continues.
 use Rattle.std.proofs.Common.{◌≡◌, ℕ, ◌<◌, List, [], ◌∷◌, ◌++◌, length, take, sym, ap, subst, ◌∙◌, arith}
 use Rattle.std.proofs.lemmas.List.{length-append}
 use Rattle.sup_types.specs.declared.template.Template.{Template}
@@ -10,7 +10,7 @@ use Rattle.sup_format.specs.LineLaws.{lines-append, full-both, some_lines}
 use Rattle.sup_format.specs.HistoryLaws.{entries_length}
 use Rattle.sup_format.proofs.Reading.Commands.{rest_same}
 
--- the lines behind those of the first entries are those of the others
+-- the lines after those of the first entries are those of the others
 others : (ls ms : List (List ℕ)) (es fs : List Entry) → AreEntries ls es → AreEntries (ls ++ ms) (es ++ fs) → AreEntries ms fs
 others [] ms [] fs a b = b
 others [] ms (e ∷ es) fs a b = absurd a

@@ -6,7 +6,7 @@ use Rattle.std.proofs.lemmas.List.{take_more, map_push, length-map, length-take-
 use Rattle.sup_format.specs.declared.write.reply.Field.{Field}
 use Rattle.sup_format.specs.Writing.Replies.{Grows, field_word}
 
--- one word more behind at least one
+-- one word more after at least one
 pub join_push : (c : ℕ) (x : List ℕ) (xs : List (List ℕ)) (y : List ℕ) → join_with_byte c ((x ∷ xs) ++ y ∷ []) ≡ join_with_byte c (x ∷ xs) ++ c ∷ y
 join_push c x [] y = refl
 join_push c x (z ∷ zs) y = ap (λ (l : List ℕ). x ++ c ∷ l) (join_push c z zs y) ∙ sym (append_assoc x (c ∷ join_with_byte c (z ∷ zs)) (c ∷ y))

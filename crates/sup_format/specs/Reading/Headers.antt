@@ -11,7 +11,7 @@ use Rattle.sup_format.specs.declared.read.header.Parts.{Parts}
 use Rattle.sup_format.specs.Reading.Words.{words_of}
 use Rattle.sup_format.specs.Reading.Tokens.{restart_word, kind_word, mark_word, auto_word}
 
--- the five words that each first line has behind its beginning
+-- the five words that each first line has after its beginning
 abbrev pub limit_words : Parts → List (List ℕ)
 limit_words parts = restart_word parts.restart ∷ kind_word parts.kind ∷ decimal parts.intensity ∷ decimal parts.period ∷ decimal parts.max ∷ []
 

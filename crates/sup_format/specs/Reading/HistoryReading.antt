@@ -15,7 +15,7 @@ use Rattle.sup_format.specs.Reading.Headers.{limit_words, shutdown_words, FitsPa
 use Rattle.sup_format.specs.Reading.Texts.{lines_of, IsFull}
 use Rattle.sup_format.specs.Reading.History.{AreFirstWords, answer_words, deed_words, IsAnswer, EntryMeans, MeansNoEntry, AreEntries}
 
--- ---- a fault, and where it stands
+-- ---- a fault, and where it is
 
 -- lines with no fault
 abbrev pub AreRight : List (List ℕ) → Type 0
@@ -47,7 +47,7 @@ HistoryStops bytes number fault.TooLong = ⊥
 
 -- ---- how far the reading came
 
--- the lines so far, which are all ended, spell the template and the entries, and this is what is left
+-- the lines so far, which are all ended, spell the template and the entries, and this is the rest
 pub record IsReadTo (text rest : List ℕ) (template : Template) (entries : List Entry) (line : ℕ) : Type 0 where
   pub done : List ℕ
   pub parts : text ≡ done ++ rest

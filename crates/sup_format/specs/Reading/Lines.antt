@@ -15,7 +15,7 @@ IsIdentifierWord word = (word ≡ codes "terminate_id") ⊎ ((word ≡ codes "de
 abbrev pub is_identifier_word : List ℕ → Bool
 is_identifier_word word = bytes_eq word (codes "terminate_id") || bytes_eq word (codes "delete_child") || bytes_eq word (codes "restart_child")
 
--- the words of a command: an operation has its moment behind its name
+-- the words of a command: an operation has its moment after its name
 abbrev pub AreWordsOf : List (List ℕ) → Command → Type 0
 AreWordsOf words (command.Update moment o) = words ≡ verb_word (operation_verb o) ∷ decimal moment ∷ argument_words o
 AreWordsOf words command.Which = words ≡ codes "which" ∷ []
@@ -42,6 +42,6 @@ LineMeans line c = WordsMean (words_of line) c
 abbrev pub MeansNothing : List (List ℕ) → Type 0
 MeansNothing words = (c : Command) → WordsMean words c → ⊥
 
--- what was read is meant, and where nothing was read nothing is
+-- what was read is meant, and if nothing was read nothing is
 abbrev pub IsReading : List (List ℕ) → Option Command → Type 0
 IsReading words found = MatchOption found (MeansNothing words) (λ c. WordsMean words c)

@@ -78,7 +78,7 @@ IsOperation (operation.Retry number) = number < 2 ^ 64
 IsOperation (operation.Terminate number) = number < 2 ^ 64
 IsOperation operation.Stop = Unit {0}
 
--- ---- what a word, or the words that are left, do not begin with
+-- ---- what a word, or the remaining words, do not begin with
 
 -- the value that a word spells, if it spells one
 abbrev pub IsWordOf : {X : Type 0} → (X → List ℕ) → List ℕ → Option X → Type 0

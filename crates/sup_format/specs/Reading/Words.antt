@@ -1,4 +1,4 @@
--- The words of a line, and those that are left of it.
+-- The words of a line, and those that remain of it.
 use Rattle.std.specs.Prelude.{◌≡◌, ℕ, ◌==◌, false, List, [], ◌∷◌, ◌++◌, Option, None, Some, All}
 use Rattle.std.specs.List.{slice_split}
 use denote.Ref.{Bor}
@@ -7,7 +7,7 @@ use denote.Ref.{Bor}
 abbrev pub words_of : List ℕ → List (List ℕ)
 words_of line = slice_split (λ b. b == 32) line
 
--- the words of the bytes that are left, if there are any
+-- the words of the remaining bytes, if there are any
 abbrev pub words_left : Option (Bor (List ℕ)) → List (List ℕ)
 words_left None = []
 words_left (Some rest) = words_of rest.now

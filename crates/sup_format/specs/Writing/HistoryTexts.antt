@@ -11,11 +11,11 @@ header_line t = line_of (first_words t)
 abbrev pub entry_line : Entry → List ℕ
 entry_line e = line_of (entry_words e)
 
--- behind each history text, this line makes the text of one entry more
+-- after each history text, this line makes the text of one entry more
 abbrev pub SpellsOneMore : List ℕ → Entry → Type 0
 SpellsOneMore line e = (text : List ℕ) (template : Template) (entries : List Entry) → SpellsAs text template entries → SpellsAs (text ++ line) template (entries ++ e ∷ [])
 
--- the text spells these entries and the first of the further ones, and not all of them where bytes of their text are left
+-- the text spells these entries and the first of the further ones, and not all of them if bytes of their text remain
 pub record SpellsFirstsOf (text left : List ℕ) (template : Template) (entries more : List Entry) : Type 0 where
   pub count : ℕ
   pub inside : count ≤ length more

@@ -75,10 +75,10 @@ field_word (field.Word bytes) = bytes.now
 field_word (field.Number n) = decimal n
 field_word (field.Term term) = codes "shutdown:" ++ term.now
 
--- words with a space behind each
+-- words with a space after each
 abbrev pub spaced : List (List ℕ) → List ℕ
 spaced words = flat_map (λ word. word ++ 32 ∷ []) words
 
--- new is old with some bytes behind it
+-- new is old with some bytes after it
 abbrev pub Grows : List ℕ → List ℕ → Type 0
 Grows old new = (more : List ℕ) × (new ≡ old ++ more)

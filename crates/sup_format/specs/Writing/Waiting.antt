@@ -4,7 +4,7 @@ use Rattle.std.specs.Io.KnownBytes.{Appends, Keeps}
 use Rattle.sup_format.specs.declared.fault.Fault.TheVariants as fault
 use Rattle.sup_format.specs.declared.fault.ScriptFault.{ScriptFault}
 
--- so many of the replies that end there are wholly among the first bytes
+-- that many of the replies that end there are wholly among the first bytes
 pub record IsCutAt (ends : List ℕ) (taken whole : ℕ) : Type 0 where
   pub inside : whole ≤ length ends
   pub before : (k : ℕ) → k < whole → get_or ends k 0 ≤ taken

@@ -9,7 +9,7 @@ use crate::read::tokens::{Verb, next_number, next_operation, read_verb};
 use crate::read::words::next_word;
 use sup_types::{Operation, Text};
 
-/// What a line of a script after its header asks for.
+/// Says what a line of a script after its header asks for.
 #[derive(Debug, Drop, PartialEq, Eq)]
 pub enum Command {
     /// An operation at a moment.
@@ -23,7 +23,7 @@ pub enum Command {
     ById(Text),
 }
 
-/// The command that the bytes of a line spell, where they spell one. It takes no memory.
+/// Returns the command that the bytes of a line spell, if they spell one. It takes no memory.
 pub fn read_line(line: &[u8]) -> Option<Command>
     ensures { IsReading (words_of line.now) result }
 {
@@ -46,7 +46,7 @@ pub fn read_line(line: &[u8]) -> Option<Command>
     None
 }
 
-/// Whether a word names a call by identifier.
+/// Returns whether a word names a call by identifier.
 fn is_identifier_word(word: &[u8]) -> bool
     ensures { result ≡ is_identifier_word word.now }
 {

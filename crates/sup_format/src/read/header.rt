@@ -13,7 +13,7 @@ use sup_types::{AutoShutdown, BadTemplate, Kind, Restart, Template};
 /// The most entries of a template that a text gives: 2^62.
 const MOST_ENTRIES: u64 = 1 << 62;
 
-/// The parts of a template as a first line names them, in their ranges or not.
+/// Holds the parts of a template as a first line names them, in their ranges or not.
 #[derive(Clone, Copy)]
 pub struct Parts {
     pub restart: Restart,
@@ -26,7 +26,7 @@ pub struct Parts {
 }
 
 impl Parts {
-    /// The template of these parts, if there is one.
+    /// Returns the template of these parts, if there is one.
     pub fn template(self) -> Result<Template, BadTemplate>
         ensures variant { IsOk result ↔ CanStand self }
         ensures value { IfOk result (λ t. IsTemplateOf t self) }
@@ -43,15 +43,14 @@ impl Parts {
     }
 }
 
-/// The template of a script's header, or what is wrong with the line.
+/// Returns the template of a script's header, or BadLine or BadTemplate.
 pub fn read_header(line: &[u8]) -> Result<Template, Fault>
     ensures { HasFirst AreHeaderWords line.now result }
 {
     template_of(read_shape(line))
 }
 
-/// The template of the parts that a first line names, or what is wrong with that line: it names none, or there is no
-/// template of them.
+/// Returns the template of the parts that a first line names. BadLine if it names none, BadTemplate if no template has them.
 pub fn template_of(parts: Option<Parts>) -> Result<Template, Fault>
     ensures { GivesTemplate parts result }
 {
@@ -64,7 +63,7 @@ pub fn template_of(parts: Option<Parts>) -> Result<Template, Fault>
     }
 }
 
-/// The parts that a line of a header's shape names.
+/// Returns the parts that a line of a header's shape names.
 fn read_shape(line: &[u8]) -> Option<Parts>
     ensures { HasParts AreHeaderWords line.now result }
 {
@@ -81,7 +80,7 @@ fn read_shape(line: &[u8]) -> Option<Parts>
     })
 }
 
-/// Restart, kind, intensity, period and max, and the words after them. Such children are not significant.
+/// Returns restart, kind, intensity, period and max, and the words after them. Such children are not significant.
 pub fn next_limits(rest: Option<&[u8]>) -> Option<(Parts, Option<&[u8]>)>
     ensures { MatchOption result (HasNoLimits (words_left rest.entry))
         (λ found. FitsParts found.0 × IsPlain found.0 × (words_left rest.entry ≡ limit_words found.0 ++ words_left found.1)) }
@@ -105,7 +104,7 @@ pub fn next_limits(rest: Option<&[u8]>) -> Option<(Parts, Option<&[u8]>)>
     Some((parts, rest))
 }
 
-/// The mark and the automatic shutdown that are the last two words.
+/// Returns the mark and the automatic shutdown that the last two words are.
 pub fn read_shutdown(rest: Option<&[u8]>) -> Option<(bool, AutoShutdown)>
     ensures { MatchOption result (HasNoShutdown (words_left rest.entry))
         (λ found. words_left rest.entry ≡ mark_word found.0 ∷ auto_word found.1 ∷ []) }

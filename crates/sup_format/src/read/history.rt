@@ -22,15 +22,14 @@ use thiserror::Error;
 /// The greatest code of a failure: 2^32 - 1.
 const MOST_CODE: u64 = 4_294_967_295;
 
-/// What a history text spells. The template's `entries` is 2^62.
+/// Holds what a history text spells. The template's `entries` is 2^62.
 #[derive(Debug, Drop)]
 pub struct History<A: Allocator> {
     pub template: Template,
     pub entries: Vec<Entry, A>,
 }
 
-/// What is wrong with a history text (OutOfMemory, BadTemplate or BadLine), and the number of the line in which it
-/// stands, from 1 on.
+/// Says what is wrong with a history text (OutOfMemory, BadTemplate or BadLine), and in which line, from 1 on.
 #[derive(Clone, Copy, Debug, PartialEq, Eq, Error)]
 #[error("fault {} line {}", .fault.number(), .line)]
 pub struct HistoryFault {
@@ -41,7 +40,7 @@ pub struct HistoryFault {
 impl HistoryFault {
     ghost use Rattle.sup_format.specs.Faults.{fault_number};
 
-    /// The number of the fault: 1, 7 or 9.
+    /// Returns the number of the fault: 1, 7 or 9.
     pub fn number(&self) -> u8
         ensures { result ≡ fault_number self.now.fault }
     {
@@ -59,10 +58,11 @@ impl From<HistoryFault> for ScriptFault {
     }
 }
 
-/// Reads a history text of version 1 or 2. The first fault by line is answered; then nothing is kept.
+/// Reads a history text of version 1, which is plain and never, or of version 2.
 ///
-/// A text of version 1 is read as plain and never. A last line without a line feed is a bad line, and so is an empty
-/// text. OutOfMemory has the line of the entry for which there was no room.
+/// # Errors
+/// The first fault by line; then nothing is kept. An empty text and a last line without a line feed are bad lines. OutOfMemory
+/// names the line of the entry for which there was no room.
 pub fn read_history<A: Allocator + Copy>(alloc: A, text: &[u8]) -> Result<History<A>, HistoryFault>
     ensures { MatchResult result (λ history. Spells text.now history.template history.entries.items) (λ e. HistoryStops text.now e.line e.fault) }
 {
@@ -88,12 +88,12 @@ pub fn read_history<A: Allocator + Copy>(alloc: A, text: &[u8]) -> Result<Histor
     Ok(History { template, entries })
 }
 
-/// The template of a history text's first line, and the text behind it; or what is wrong with that line.
-///
-/// The entries behind it are read by [`next_entry`], one after the other.
+/// Returns the template of a history text's first line, and the text after it, or what is wrong with that line. [`next_entry`]
+/// reads the entries after it.
 pub fn begin_history(text: &[u8]) -> Result<(Template, &[u8]), HistoryFault>
     ensures begun { MatchResult result (λ p. IsReadTo text.now p.1.now p.0 [] 2) (λ e. HistoryStops text.now e.line e.fault) }
     ensures fault { IfErr result (λ e. IsTextFault e.fault) }
+    ensures line { IfErr result (λ e. e.line ≡ 1) }
 {
     let (first, after) = match cut_line(text) {
         Some(parts) => parts,
@@ -108,8 +108,8 @@ pub fn begin_history(text: &[u8]) -> Result<(Template, &[u8]), HistoryFault>
     }
 }
 
-/// Whether each line of the rest of a history text spells an entry, and is ended; or the first that is none. `line` is the number
-/// of the next. It takes no memory.
+/// Checks that each line of the rest of a history text is ended and spells an entry, and returns the first that does not as
+/// BadLine. `line` is the number of the next. It takes no memory.
 pub fn check_entries(rest: &[u8], line: u64) -> Result<(), HistoryFault>
     requires { line + length rest.now < 2 ^ 64 }
     ensures stops { (text : List ℕ) (template : AnTemplate) (entries : List AnEntry) → IsReadTo text rest.now template entries line →
@@ -132,14 +132,14 @@ pub fn check_entries(rest: &[u8], line: u64) -> Result<(), HistoryFault>
     Ok(())
 }
 
-/// The template of a history's first line, or what is wrong with the line.
+/// Returns the template of a history's first line, or what is wrong with the line.
 fn read_first(line: &[u8]) -> Result<Template, Fault>
     ensures { HasFirst AreFirstWords line.now result }
 {
     template_of(read_shape(line))
 }
 
-/// The parts that a line of a first line's shape names: five in version 1, and seven in version 2.
+/// Returns the parts that a line of a first line's shape names: five in version 1, and seven in version 2.
 fn read_shape(line: &[u8]) -> Option<Parts>
     ensures { HasParts AreFirstWords line.now result }
 {
@@ -176,7 +176,7 @@ fn read_marked(rest: Option<&[u8]>) -> Option<Parts>
     })
 }
 
-/// The entry that the next line spells, and the text after that line. None where no line is ended, or it spells no entry.
+/// Returns the entry that the next line spells, and the text after it. None if no line is ended, or if the line spells no entry.
 pub fn next_entry(rest: &[u8]) -> Option<(Entry, &[u8])>
     ensures { IsNextEntry rest.now result }
 {
@@ -185,7 +185,7 @@ pub fn next_entry(rest: &[u8]) -> Option<(Entry, &[u8])>
     Some((entry, after))
 }
 
-/// The entry that a line spells, where it spells one.
+/// Returns the entry that a line spells, if it spells one.
 fn read_entry(line: &[u8]) -> Option<Entry>
     ensures { MatchOption result (MeansNoEntry line.now) (λ entry. EntryMeans line.now entry) }
 {
@@ -202,7 +202,7 @@ fn read_entry(line: &[u8]) -> Option<Entry>
     })
 }
 
-/// The operation and the answer that the last words are.
+/// Returns the operation and the answer that the last words are.
 fn read_deed(rest: Option<&[u8]>) -> Option<(Operation, Answer)>
     ensures { HasDeed (words_left rest.entry) result }
 {
@@ -215,7 +215,7 @@ fn read_deed(rest: Option<&[u8]>) -> Option<(Operation, Answer)>
     Some((operation, answer))
 }
 
-/// The answer that the last words are.
+/// Returns the answer that the last words are.
 fn read_answer(rest: Option<&[u8]>) -> Option<Answer>
     ensures { HasAnswer (words_left rest.entry) result }
 {
@@ -235,7 +235,7 @@ fn read_answer(rest: Option<&[u8]>) -> Option<Answer>
     None
 }
 
-/// The failure whose code is the last word.
+/// Returns the failure whose code is the last word.
 fn read_failed(rest: Option<&[u8]>) -> Option<Answer>
     ensures { HasFailure (words_left rest.entry) result }
 {

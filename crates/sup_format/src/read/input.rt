@@ -13,8 +13,8 @@ use std::io::Read;
 /// The most bytes that a text has: 2^24.
 pub const MOST_BYTES: u64 = 16_777_216;
 
-/// The bytes that are asked for at a time. A page of memory that is touched first takes as long as a call of the system or two, so
-/// short texts gain by smaller pieces.
+/// The bytes that are asked for at a time. The first touch of a page takes about as long as a read, so larger pieces make short
+/// texts slower.
 pub const PIECE: usize = 16_384;
 
 /// Reads to the end, or as much as a text may have. After a fault the text holds what was read before it.
@@ -32,7 +32,7 @@ pub fn read_whole<R: Read, A: Allocator>(
     let mut piece = [0u8; PIECE];
     loop {
         let room = (MOST_BYTES - reader.given()) as usize;
-        // Space comes first, so that no byte is lost where it is refused.
+        // Space comes first, so that no byte is lost if it is refused.
         text.reserve(PIECE)?;
         let count = match reader.read(&mut piece) {
             Some(count) => count,
@@ -49,7 +49,7 @@ pub fn read_whole<R: Read, A: Allocator>(
     }
 }
 
-/// The number of the line after the last one that is ended.
+/// Returns the number of the line after the last ended one.
 pub fn line_after(text: &[u8]) -> u64
     ensures { (front : List ℕ) × IsEndedPart text.now front × (result ≡ length (lines_of front) + 1) }
 {

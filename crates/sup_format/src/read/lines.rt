@@ -6,7 +6,7 @@ ghost use Rattle.sup_format.specs.Reading.Words.{Lacks, IsSplit};
 
 use memchr::memchr;
 
-/// What stands before the first line feed of a text, and what stands after it, where there is one.
+/// Returns what is before the first line feed of a text and what is after it, if there is one.
 pub fn cut_line(text: &[u8]) -> Option<(&[u8], &[u8])>
     ensures { MatchOption result (Lacks 10 text.now) (λ parts. IsSplit 10 text.now parts.0.now parts.1.now) }
 {
@@ -14,7 +14,7 @@ pub fn cut_line(text: &[u8]) -> Option<(&[u8], &[u8])>
     Some((&text[..at], &text[at + 1..]))
 }
 
-/// The first line of a text that is not empty, and the text after it.
+/// Returns the first line of a text that is not empty, and the text after it.
 pub fn first_line(text: &[u8]) -> (&[u8], &[u8])
     requires { 0 < length text.now }
     ensures lines { lines_of text.now ≡ result.0.now ∷ lines_of result.1.now }
@@ -26,7 +26,7 @@ pub fn first_line(text: &[u8]) -> (&[u8], &[u8])
     }
 }
 
-/// The lines of a text that are ended by a line feed.
+/// Returns the lines of a text that a line feed ends.
 pub fn ended_part(text: &[u8]) -> &[u8]
     ensures { IsEndedPart text.now result.now }
 {

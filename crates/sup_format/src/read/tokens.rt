@@ -10,7 +10,7 @@ ghost use Rattle.sup_types.specs.declared.reason.Reason.{Reason as AReason};
 use crate::read::words::{next_word, read_number};
 use sup_types::{AutoShutdown, Kind, Operation, Reason, Restart, Text, Word};
 
-/// The name of an operation.
+/// Names an operation.
 #[derive(Clone, Copy)]
 pub enum Verb {
     Start,
@@ -20,7 +20,7 @@ pub enum Verb {
     Stop,
 }
 
-/// The operation's name that a word is.
+/// Returns the operation that a word names.
 pub fn read_verb(word: &[u8]) -> Option<Verb>
     ensures { IsWordOf verb_word word.now result }
 {
@@ -42,6 +42,7 @@ pub fn read_verb(word: &[u8]) -> Option<Verb>
     None
 }
 
+/// Returns the restart type that a word is.
 pub fn read_restart(word: &[u8]) -> Option<Restart>
     ensures { IsWordOf restart_word word.now result }
 {
@@ -57,6 +58,7 @@ pub fn read_restart(word: &[u8]) -> Option<Restart>
     None
 }
 
+/// Returns the kind that a word is.
 pub fn read_kind(word: &[u8]) -> Option<Kind>
     ensures { IsWordOf kind_word word.now result }
 {
@@ -69,7 +71,7 @@ pub fn read_kind(word: &[u8]) -> Option<Kind>
     None
 }
 
-/// Whether the children are significant.
+/// Returns whether the word says that the children are significant, if it is a mark.
 pub fn read_mark(word: &[u8]) -> Option<bool>
     ensures { IsWordOf mark_word word.now result }
 {
@@ -82,6 +84,7 @@ pub fn read_mark(word: &[u8]) -> Option<bool>
     None
 }
 
+/// Returns the automatic shutdown that a word is.
 pub fn read_auto(word: &[u8]) -> Option<AutoShutdown>
     ensures { IsWordOf auto_word word.now result }
 {
@@ -97,7 +100,7 @@ pub fn read_auto(word: &[u8]) -> Option<AutoShutdown>
     None
 }
 
-/// The reason that a word is.
+/// Returns the reason that a word is.
 pub fn read_reason(word: &[u8]) -> Option<Reason>
     ensures { MatchOption result ((reason : AReason) → IsReason reason → word.now ≢ reason_word reason)
         (λ reason. IsReason reason × (word.now ≡ reason_word reason)) }
@@ -114,7 +117,7 @@ pub fn read_reason(word: &[u8]) -> Option<Reason>
     }
 }
 
-/// The number that the next word is, and the words after it.
+/// Returns the number that the next word is, and the words after it.
 pub fn next_number(rest: Option<&[u8]>) -> Option<(u64, Option<&[u8]>)>
     ensures { MatchOption result (HasNoNumber (words_left rest.entry))
         (λ found. words_left rest.entry ≡ decimal found.0 ∷ words_left found.1) }
@@ -124,7 +127,7 @@ pub fn next_number(rest: Option<&[u8]>) -> Option<(u64, Option<&[u8]>)>
     Some((number, rest))
 }
 
-/// The text that the next word is, and the words after it.
+/// Returns the text that the next word is, and the words after it.
 fn next_text(rest: Option<&[u8]>) -> Option<(Text, Option<&[u8]>)>
     ensures { MatchOption result (HasNoText (words_left rest.entry))
         (λ found. IsText found.0 × (words_left rest.entry ≡ found.0 ∷ words_left found.1)) }
@@ -134,7 +137,7 @@ fn next_text(rest: Option<&[u8]>) -> Option<(Text, Option<&[u8]>)>
     Some((text, rest))
 }
 
-/// The reason that the next word is, and the words after it.
+/// Returns the reason that the next word is, and the words after it.
 fn next_reason(rest: Option<&[u8]>) -> Option<(Reason, Option<&[u8]>)>
     ensures { MatchOption result (HasNoReason (words_left rest.entry))
         (λ found. IsReason found.0 × (words_left rest.entry ≡ reason_word found.0 ∷ words_left found.1)) }
@@ -144,7 +147,7 @@ fn next_reason(rest: Option<&[u8]>) -> Option<(Reason, Option<&[u8]>)>
     Some((reason, rest))
 }
 
-/// The words after the next one, where that is this word.
+/// Returns the words after the next one, if that is this word.
 pub fn after_word<'a>(rest: Option<&'a [u8]>, word: &[u8]) -> Option<Option<&'a [u8]>>
     ensures { MatchOption result (HasOtherWord (words_left rest.entry) word.now)
         (λ found. words_left rest.entry ≡ word.now ∷ words_left found) }
@@ -156,7 +159,7 @@ pub fn after_word<'a>(rest: Option<&'a [u8]>, word: &[u8]) -> Option<Option<&'a 
     Some(rest)
 }
 
-/// The operation of this name with the arguments that the next words are, and the words after them.
+/// Returns the operation of this name with the arguments that the next words are, and the words after them.
 pub fn next_operation(verb: Verb, rest: Option<&[u8]>) -> Option<(Operation, Option<&[u8]>)>
     ensures { MatchOption result (HasNoArguments verb (words_left rest.entry))
         (λ found. IsOperation found.0 × (operation_verb found.0 ≡ verb)

@@ -10,7 +10,7 @@ fn find_byte(bytes: &[u8], byte: u8) -> Option<usize>
     bytes.iter().position(|other| *other == byte)
 }
 
-/// What stands before the first such byte, and what stands after it, where there is one.
+/// Returns what is before the first such byte and what is after it, if there is one.
 pub fn split_once(bytes: &[u8], byte: u8) -> Option<(&[u8], &[u8])>
     ensures { MatchOption result (Lacks byte bytes.now) (λ parts. IsSplit byte bytes.now parts.0.now parts.1.now) }
 {
@@ -18,7 +18,7 @@ pub fn split_once(bytes: &[u8], byte: u8) -> Option<(&[u8], &[u8])>
     Some((&bytes[..at], &bytes[at + 1..]))
 }
 
-/// The first of the words of a line, and the bytes of those after it, if there are any.
+/// Returns the first word of a line, and the bytes of those after it, if there are any.
 pub fn next_word(line: &[u8]) -> (&[u8], Option<&[u8]>)
     ensures { words_of line.now ≡ result.0.now ∷ words_left result.1 }
 {
@@ -28,7 +28,7 @@ pub fn next_word(line: &[u8]) -> (&[u8], Option<&[u8]>)
     }
 }
 
-/// The number that a word is, where it is one: digits with no leading zero, below 2^64.
+/// Returns the number that a word is, if it is one: digits without a leading zero, below 2^64.
 pub fn read_number(word: &[u8]) -> Option<u64>
     ensures { MatchOption result ((n : ℕ) → n < 2 ^ 64 → word.now ≢ decimal n) (λ n. (n < 2 ^ 64) × (word.now ≡ decimal n)) }
 {
@@ -51,10 +51,10 @@ pub fn read_number(word: &[u8]) -> Option<u64>
     Some(value)
 }
 
-/// So many digits are a number below 2^64, whichever they are.
+/// The most digits that are a number below 2^64 whichever they are.
 const SHORT_DIGITS: usize = 19;
 
-/// As [`read_number`], of a word that may spell a number too large.
+/// Reads a number like [`read_number`], of a word that may spell one too large.
 fn read_long_number(word: &[u8]) -> Option<u64>
     requires some { 1 < length word.now }
     requires plain { get_or word.now 0 0 ≢ 48 }

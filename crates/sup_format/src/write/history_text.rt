@@ -13,8 +13,8 @@ use sup_types::{
     Answer, AutoShutdown, Entry, Kind, Operation, OutOfMemory, Reason, Restart, Template,
 };
 
-/// The history text, in version 2 also where version 1 would do, of a template and entries. It does not have the
-/// template's `entries`: the text is read with 2^62 there. OutOfMemory leaves nothing.
+/// Writes the history text of a template and entries, always in version 2. The template's `entries` is not in it, and is read as
+/// 2^62. OutOfMemory leaves nothing.
 pub fn write_history<A: Allocator + Copy>(
     alloc: A,
     template: &Template,
@@ -94,8 +94,8 @@ fn auto_word(auto: AutoShutdown) -> &'static [u8]
     }
 }
 
-/// Appends the line of an entry. Behind a history text it makes the text of that history and this entry. After a refusal
-/// there may be a part of it.
+/// Appends the line of an entry: a history text with it is the text of that history and this entry. After a refusal there may be a
+/// part of it.
 pub fn append_entry<A: Allocator>(entry: &Entry, text: &mut Vec<u8, A>) -> Result<(), AllocError>
     ensures text { OnOk result (text.new.items ≡ text.old.items ++ entry_line entry.now) }
     ensures fits { OnOk result (IsEntry entry.now) }
@@ -108,7 +108,7 @@ pub fn append_entry<A: Allocator>(entry: &Entry, text: &mut Vec<u8, A>) -> Resul
     Ok(())
 }
 
-/// Appends the numbers with which an entry begins, each with a space behind it.
+/// Appends the numbers with which an entry begins, each followed by a space.
 fn append_numbers<A: Allocator>(
     handle: u64,
     serial: u64,
@@ -129,7 +129,7 @@ fn append_numbers<A: Allocator>(
     )
 }
 
-/// Appends the name of an operation and its arguments, each with a space behind it.
+/// Appends the name of an operation and its arguments, each followed by a space.
 fn append_operation<A: Allocator>(
     operation: &Operation,
     text: &mut Vec<u8, A>,

@@ -19,7 +19,7 @@ const USUAL_BYTES: usize = 32_768;
 /// More replies than a usual piece of a script brings.
 const USUAL_REPLIES: usize = 2_048;
 
-/// The text of replies, where the reply of each line ends in it, and the writer that they wait for.
+/// Holds the text of replies, the place at which each line's reply ends, and the writer that they wait for.
 #[derive(Drop)]
 pub struct Outbox<'w, A: Allocator, W> {
     pub bytes: Vec<u8, A>,
@@ -28,7 +28,7 @@ pub struct Outbox<'w, A: Allocator, W> {
 }
 
 impl<'w, A: Allocator + Copy, W: Write> Outbox<'w, A, W> {
-    /// Nothing waits, and there is no room yet.
+    /// Returns an outbox in which nothing waits, without room.
     pub fn new(alloc: A, writer: &'w mut WatchedWriter<W>) -> Self
         ensures bytes { result.bytes.items ≡ [] }
         ensures ends { result.ends.items ≡ [] }
@@ -80,7 +80,7 @@ impl<'w, A: Allocator + Copy, W: Write> Outbox<'w, A, W> {
         }
     }
 
-    /// Writes all that waits where it is much, as `flush` does. Then less than 65,536 bytes wait.
+    /// Does what `flush` does if 65,536 bytes or more wait. Then fewer wait.
     pub fn flush_if_full(&mut self, next: u64) -> Result<(), ScriptFault>
         requires { length self.old.ends.items < next }
         ensures flushed { IsFlushedOrKept self.old.bytes.items self.old.ends.items self.new.bytes.items self.new.ends.items
@@ -96,7 +96,7 @@ impl<'w, A: Allocator + Copy, W: Write> Outbox<'w, A, W> {
     }
 }
 
-/// How many of the replies are wholly among the first bytes.
+/// Returns how many of the replies are wholly among the first bytes.
 fn whole_replies(ends: &[usize], taken: usize) -> usize
     ensures { IsCutAt ends.now taken result }
 {

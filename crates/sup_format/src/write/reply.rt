@@ -13,7 +13,7 @@ use sup_types::{Counts, OutOfMemory, Refusal, Reply, Row, Seen, Status};
 pub enum Field<'a> {
     Word(&'a [u8]),
     Number(u64),
-    /// `shutdown:` with these bytes behind it.
+    /// `shutdown:` and these bytes.
     Term(&'a [u8]),
 }
 
@@ -191,7 +191,7 @@ fn append_next<A: Allocator>(out: &mut Vec<u8, A>, number: u64) -> Result<(), Al
     append_number(out, number)
 }
 
-/// The same at the end of a line, with its line feed.
+/// Appends a space, the digits of a number and a line feed.
 fn append_last<A: Allocator>(out: &mut Vec<u8, A>, number: u64) -> Result<(), AllocError>
     ensures ok { OnOk result (out.new.items ≡ out.old.items ++ (32 ∷ decimal number) ++ 10 ∷ []) }
     ensures err { OnErr result (Grows out.old.items out.new.items) }
@@ -216,7 +216,7 @@ pub fn append_line<A: Allocator>(out: &mut Vec<u8, A>, fields: &[Field]) -> Resu
     Ok(())
 }
 
-/// Appends words, each with a space behind it.
+/// Appends words, each followed by a space.
 pub fn append_spaced<A: Allocator>(out: &mut Vec<u8, A>, fields: &[Field]) -> Result<(), AllocError>
     ensures ok { OnOk result (out.new.items ≡ out.old.items ++ spaced (map field_word fields.now)) }
     ensures err { OnErr result (Grows out.old.items out.new.items) }

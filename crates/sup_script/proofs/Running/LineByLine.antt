@@ -159,7 +159,7 @@ stops_by_write answer lines number written f e c = rw e c
 pub torn_stops : (answer : Answering) (front more : List (List ℕ)) (written waiting ends : List ℕ) (sup : Option State) (next : ℕ) (old new : Option (List ℕ)) (e : ScriptFault)
     → IsWaiting answer front written waiting ends sup next → IsTorn waiting ends old new next e → (sent : List ℕ) × Appends old new sent × StopsWith answer (front ++ more) (written ++ sent) e.line e.fault
 torn_stops answer front more written waiting ends sup next old new e w t =
-    let cut = torn_cut (Answers answer) front more written waiting ends next old new e w.queue w.so_far.next_is t in
+    let cut = torn_cut [] (Answers answer) front more written waiting ends next old new e w.queue w.so_far.next_is t in
     (cut.0, cut.1, stops_by_write answer (front ++ more) e.line (written ++ cut.0) e.fault t.fault_is cut.2)
 
 -- the line behind a front has a fault

@@ -11,7 +11,7 @@ use Rattle.sup_format.specs.Writing.Waiting.{IsCutAt, IsTorn}
 use Rattle.sup_script.specs.Running.Queues.{IsQueue}
 
 -- nothing waits
-pub queue_none : (Texts : List (List ℕ) → List ℕ → Type 0) (front : List (List ℕ)) (written : List ℕ) → Texts front written → IsQueue Texts front written [] []
+pub queue_none : {X : Type 0} (Texts : List X → List ℕ → Type 0) (front : List X) (written : List ℕ) → Texts front written → IsQueue Texts front written [] []
 queue_none Texts front written s = record {
   whole = rw (append-nil written) s;
   first = length front;
@@ -22,7 +22,7 @@ queue_none Texts front written s = record {
 }
 
 -- one reply more waits
-pub queue_more : (Texts : List (List ℕ) → List ℕ → Type 0) (front : List (List ℕ)) (line written old more new ends : List ℕ) → IsQueue Texts front written old ends → new ≡ old ++ more → Texts (front ++ line ∷ []) (written ++ new)
+pub queue_more : {X : Type 0} (Texts : List X → List ℕ → Type 0) (front : List X) (line : X) (written old more new ends : List ℕ) → IsQueue Texts front written old ends → new ≡ old ++ more → Texts (front ++ line ∷ []) (written ++ new)
     → IsQueue Texts (front ++ line ∷ []) written new (ends ++ length new ∷ [])
 queue_more Texts front line written old more new ends w grown texts =
     let lines = front ++ line ∷ [] in
@@ -55,14 +55,14 @@ queue_more Texts front line written old more new ends w grown texts =
 -- ---- where the writing stops
 
 -- the lines up to a number, and the one behind them
-lines_next : (front : List (List ℕ)) (n : ℕ) → n < length front → take (n + 1) front ≡ take n front ++ get_or front n [] ∷ []
-lines_next front n below = take_more front n [] below
+lines_next : {X : Type 0} (d : X) (front : List X) (n : ℕ) → n < length front → take (n + 1) front ≡ take n front ++ get_or front n d ∷ []
+lines_next d front n below = take_more front n d below
 
 bytes_next : (bytes : List ℕ) (n m : ℕ) → n ≤ m → take m bytes ≡ take n bytes ++ take (m - n) (drop n bytes)
 bytes_next bytes n m below = let whole : m ≡ n + (m - n) = omega arith in ap (λ k. take k bytes) whole ∙ take-add n (m - n) bytes
 
 -- a reply between two marks was cut
-module _ (Texts : List (List ℕ) → List ℕ → Type 0) (front : List (List ℕ)) (written waiting : List ℕ) (lines from taken to : ℕ) where
+module _ {X : Type 0} (d : X) (Texts : List X → List ℕ → Type 0) (front : List X) (written waiting : List ℕ) (lines from taken to : ℕ) where
   pub cut_between : lines < length front → from ≤ taken → taken < to → to ≤ length waiting → Texts (take lines front) (written ++ take from waiting) → Texts (take (lines + 1) front) (written ++ take to waiting)
       → IsCutShort Texts front (lines + 1) (written ++ take taken waiting)
   cut_between below before after inside start end =
@@ -72,9 +72,9 @@ module _ (Texts : List (List ℕ) → List ℕ → Type 0) (front : List (List �
         before = written ++ take from waiting;
         at = record {
           front = take lines front;
-          line = get_or front lines [];
+          line = get_or front lines d;
           rest = drop (lines + 1) front;
-          parts = sym (take-append-drop (lines + 1) front) ∙ ap (λ (l : List (List ℕ)). l ++ drop (lines + 1) front) (lines_next front lines below) ∙ append_assoc (take lines front) (get_or front lines [] ∷ []) (drop (lines + 1) front);
+          parts = sym (take-append-drop (lines + 1) front) ∙ ap (λ (l : List X). l ++ drop (lines + 1) front) (lines_next d front lines below) ∙ append_assoc (take lines front) (get_or front lines d ∷ []) (drop (lines + 1) front);
           number_is = omega (arith, length-take-le lines front (omega arith));
           answered = start;
         };
@@ -86,11 +86,11 @@ module _ (Texts : List (List ℕ) → List ℕ → Type 0) (front : List (List �
             let joined : (written ++ take from waiting) ++ (take (taken - from) (drop from waiting) ++ take (to - taken) (drop taken waiting)) ≡ written ++ take to waiting =
             append_assoc written (take from waiting) (take (taken - from) (drop from waiting) ++ take (to - taken) (drop taken waiting))
             ∙ ap (λ (l : List ℕ). written ++ l) (sym (append_assoc (take from waiting) (take (taken - from) (drop from waiting)) (take (to - taken) (drop taken waiting))) ∙ ap (λ (l : List ℕ). l ++ take (to - taken) (drop taken waiting)) (sym split) ∙ sym split_more) in
-            rw (← lines_next front lines below, joined) end;
+            rw (← lines_next d front lines below, joined) end;
       }
 
 -- the bytes of the waiting replies were written in part
-module _ (Texts : List (List ℕ) → List ℕ → Type 0) (front : List (List ℕ)) (written waiting ends : List ℕ) (w : IsQueue Texts front written waiting ends) where
+module _ {X : Type 0} (d : X) (Texts : List X → List ℕ → Type 0) (front : List X) (written waiting ends : List ℕ) (w : IsQueue Texts front written waiting ends) where
   pub torn_at : (taken whole : ℕ) → taken < length waiting → IsCutAt ends taken whole → IsCutShort Texts front (w.first + whole + 1) (written ++ take taken waiting)
   torn_at taken whole short cut =
       let below : whole < length ends = elim (cases_lt whole (length ends)) [
@@ -107,23 +107,23 @@ module _ (Texts : List (List ℕ) → List ℕ → Type 0) (front : List (List �
             let earlier = w.marks k (omega arith) in
             let lines_are : w.first + k + 1 ≡ w.first + whole = omega arith in
             let start : Texts (take (w.first + whole) front) (written ++ take (get_or ends k 0) waiting) = rw lines_are at earlier.answered in
-            cut_between Texts front written waiting (w.first + whole) (get_or ends k 0) taken (get_or ends whole 0) (omega (arith, w.count)) (cut.before k (omega arith)) (cut.after below) mark.inside start mark.answered
+            cut_between d Texts front written waiting (w.first + whole) (get_or ends k 0) taken (get_or ends whole 0) (omega (arith, w.count)) (cut.before k (omega arith)) (cut.after below) mark.inside start mark.answered
         | inr none ↦
             let zero : whole ≡ 0 = omega arith in
             let lines_are : w.first ≡ w.first + whole = omega arith in
             let start : Texts (take (w.first + whole) front) (written ++ []) = rw (append-nil written, ← lines_are) w.start in
-            cut_between Texts front written waiting (w.first + whole) 0 taken (get_or ends whole 0) (omega (arith, w.count)) (omega arith) (cut.after below) mark.inside start mark.answered
+            cut_between d Texts front written waiting (w.first + whole) 0 taken (get_or ends whole 0) (omega (arith, w.count)) (omega arith) (cut.after below) mark.inside start mark.answered
       ]
 
 -- more lines behind
-cut_more : (Texts : List (List ℕ) → List ℕ → Type 0) (lines more : List (List ℕ)) (number : ℕ) (written : List ℕ) → IsCutShort Texts lines number written → IsCutShort Texts (lines ++ more) number written
-cut_more Texts lines more number written c = record {
+cut_more : {X : Type 0} (Texts : List X → List ℕ → Type 0) (lines more : List X) (number : ℕ) (written : List ℕ) → IsCutShort Texts lines number written → IsCutShort Texts (lines ++ more) number written
+cut_more {X} Texts lines more number written c = record {
   before = c.before;
   at = record {
     front = c.at.front;
     line = c.at.line;
     rest = c.at.rest ++ more;
-    parts = ap (λ (l : List (List ℕ)). l ++ more) c.at.parts ∙ append_assoc c.at.front (c.at.line ∷ c.at.rest) more;
+    parts = ap (λ (l : List X). l ++ more) c.at.parts ∙ append_assoc c.at.front (c.at.line ∷ c.at.rest) more;
     number_is = c.at.number_is;
     answered = c.at.answered;
   };
@@ -135,11 +135,11 @@ cut_more Texts lines more number written c = record {
 }
 
 -- so many bytes of what waits were taken
-pub torn_cut : (Texts : List (List ℕ) → List ℕ → Type 0) (front more : List (List ℕ)) (written waiting ends : List ℕ) (next : ℕ) (old new : Option (List ℕ)) (e : ScriptFault)
+pub torn_cut : {X : Type 0} (d : X) (Texts : List X → List ℕ → Type 0) (front more : List X) (written waiting ends : List ℕ) (next : ℕ) (old new : Option (List ℕ)) (e : ScriptFault)
     → IsQueue Texts front written waiting ends → next ≡ length front + 1 → IsTorn waiting ends old new next e → (sent : List ℕ) × Appends old new sent × IsCutShort Texts (front ++ more) e.line (written ++ sent)
-torn_cut Texts front more written waiting ends next old new e w next_is t =
+torn_cut d Texts front more written waiting ends next old new e w next_is t =
     let number : e.line ≡ w.first + t.whole + 1 = omega (arith, t.line_is, w.count, next_is) in (
       take t.taken waiting,
       t.wrote,
-      rw number (cut_more Texts front more (w.first + t.whole + 1) (written ++ take t.taken waiting) (torn_at Texts front written waiting ends w t.taken t.whole t.short t.cut)),
+      rw number (cut_more Texts front more (w.first + t.whole + 1) (written ++ take t.taken waiting) (torn_at d Texts front written waiting ends w t.taken t.whole t.short t.cut)),
     )

@@ -23,7 +23,7 @@ use Rattle.sup_script.specs.Running.Stops.{IsAtLine, IsCutShort}
 use Rattle.sup_script.specs.Running.Queues.{IsQueue}
 use Rattle.sup_script.proofs.Running.Queues.{queue_none, queue_more, torn_cut}
 
-text_push : (template : Template) (h xs : List Entry) (e : Entry) → entries_text template h (xs ++ e ∷ []) ≡ entries_text template h xs ++ reply_text (reply_after template (h ++ xs) e)
+pub text_push : (template : Template) (h xs : List Entry) (e : Entry) → entries_text template h (xs ++ e ∷ []) ≡ entries_text template h xs ++ reply_text (reply_after template (h ++ xs) e)
 text_push template h [] e = append-nil (reply_text (reply_after template h e)) ∙ ap (λ (l : List Entry). reply_text (reply_after template l e)) (sym (append-nil h))
 text_push template h (x ∷ xs) e =
     ap (λ (l : List ℕ). reply_text (reply_after template h x) ++ l) (text_push template (h ++ x ∷ []) xs e)
@@ -53,11 +53,11 @@ replayed_none text rest waiting ends sup w e after read = record {
   queue = rw (w, e) (queue_none Replays (read.first ∷ read.body) [] (replayed text rest sup.template [] 2 read [] refl));
 }
 
-no_memory : (lines : List (List ℕ)) (number : ℕ) (written : List ℕ) (f : Fault) → f ≡ fault.OutOfMemory → IsAtLine Replays lines number written → ReplyStops lines number written f
-no_memory lines number written f e at = rw e at
+pub no_memory : {X : Type 0} (Texts : List X → List ℕ → Type 0) (lines : List X) (number : ℕ) (written : List ℕ) (f : Fault) → f ≡ fault.OutOfMemory → IsAtLine Texts lines number written → ReplyStops Texts lines number written f
+no_memory Texts lines number written f e at = rw e at
 
-refused : (lines : List (List ℕ)) (number : ℕ) (written : List ℕ) (f : Fault) → f ≡ fault.WriteFault → IsCutShort Replays lines number written → ReplyStops lines number written f
-refused lines number written f e cut = rw e cut
+pub refused : {X : Type 0} (Texts : List X → List ℕ → Type 0) (lines : List X) (number : ℕ) (written : List ℕ) (f : Fault) → f ≡ fault.WriteFault → IsCutShort Texts lines number written → ReplyStops Texts lines number written f
+refused Texts lines number written f e cut = rw e cut
 
 module _ (text rest : List ℕ) (template : Template) (waiting ends : List ℕ) (sup : State) (next : ℕ) (r : IsReplayedTo text rest template waiting ends sup next) where
   -- one entry more
@@ -86,9 +86,9 @@ module _ (text rest : List ℕ) (template : Template) (waiting ends : List ℕ) 
   -- the writer refused, and the text has no fault
   pub replayed_torn : (old new : Option (List ℕ)) (all : List Entry) (e : ScriptFault) → Spells text template all → IsTorn waiting ends old new next e → TextGives text old new (Err e)
   replayed_torn old new all e spelled t =
-      let cut = torn_cut Replays (r.read.first ∷ r.read.body) (lines_of rest) [] waiting ends next old new e r.queue (omega (arith, r.read.number_is)) t in
+      let cut = torn_cut [] Replays (r.read.first ∷ r.read.body) (lines_of rest) [] waiting ends next old new e r.queue (omega (arith, r.read.number_is)) t in
       let lines = lines_left text rest template r.entries next r.read in
-      inr (template, all, cut.0, spelled, cut.1, refused (lines_of text) e.line cut.0 e.fault t.fault_is (subst (λ l. IsCutShort Replays l e.line cut.0) (sym lines) cut.2))
+      inr (template, all, cut.0, spelled, cut.1, refused Replays (lines_of text) e.line cut.0 e.fault t.fault_is (subst (λ l. IsCutShort Replays l e.line cut.0) (sym lines) cut.2))
 
   -- there was no memory for the next reply, all before is written, and the text has no fault
   pub replayed_stops : (old new : Option (List ℕ)) (all : List Entry) (line after : List ℕ) (e : ScriptFault) → IsSplit 10 rest line after → Spells text template all → e.fault ≡ fault.OutOfMemory → e.line ≡ next → Appends old new waiting
@@ -103,7 +103,7 @@ module _ (text rest : List ℕ) (template : Template) (waiting ends : List ℕ) 
         number_is = line_is ∙ omega (arith, r.read.number_is);
         answered = r.queue.whole;
       } in
-      inr (template, all, waiting, spelled, wrote, no_memory (lines_of text) e.line waiting e.fault fault_is at)
+      inr (template, all, waiting, spelled, wrote, no_memory Replays (lines_of text) e.line waiting e.fault fault_is at)
 
   -- all entries were answered, and the writer takes what waits or refuses
   pub replayed_ends : (old new : Option (List ℕ)) (waiting' ends' : List ℕ) (result : Result (Unit {0}) ScriptFault) → length rest ≡ 0 → IsFlushed waiting ends waiting' ends' old new next result → TextGives text old new result

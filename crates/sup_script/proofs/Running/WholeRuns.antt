@@ -16,7 +16,7 @@ use Rattle.sup_format.specs.Reading.Words.{Lacks}
 use Rattle.sup_script.proofs.Running.LineByLine.{answers_of}
 use Rattle.sup_format.specs.LineLaws.{lines-append, full-both, some_lines}
 
--- so many bytes were read: the ended lines, which are answered, and the part of a line
+-- that many bytes were read: the ended lines, which are answered, and the part of a line
 pub record IsReadTo (answer : Answering) (remaining left contents held : Option (List ℕ)) (part : List ℕ) (sup : Option State) (next given : ℕ) : Type 0 where
   pub done : List ℕ
   pub full : IsFull done

@@ -31,14 +31,14 @@ pub record HasAnswered (answer : Answering) (header : List ℕ) (body : List (Li
   pub replies : text ≡ replies_text answer s.template [] commands
   pub after : IsAfter s (histories answer s.template [] commands)
 
--- the same, where there is no supervisor before there is a header
+-- the same; there is no supervisor before there is a header
 abbrev pub Stands : Answering → List (List ℕ) → List ℕ → Option State → Type 0
 Stands answer [] text None = text ≡ []
 Stands answer [] text (Some s) = ⊥
 Stands answer (header ∷ body) text None = ⊥
 Stands answer (header ∷ body) text (Some s) = HasAnswered answer header body text s
 
--- the lines so far have this text of replies, left this supervisor behind, and the next line has this number
+-- the lines so far have this text of replies, this supervisor is after them, and the next line has this number
 pub record IsAnsweredTo (answer : Answering) (front : List (List ℕ)) (text : List ℕ) (sup : Option State) (next : ℕ) : Type 0 where
   pub stands : Stands answer front text sup
   pub next_is : next ≡ length front + 1
@@ -64,12 +64,12 @@ pub record IsWaiting (answer : Answering) (front : List (List ℕ)) (written wai
   pub so_far : IsAnsweredTo answer front (written ++ waiting) sup next
   pub queue : IsQueue (Answers answer) front written waiting ends
 
--- the line's reply waits behind the others, or the line has a fault and the others wait as before
+-- the line's reply waits after the others, or the line has a fault and the others wait as before
 abbrev pub NextGives : Answering → List (List ℕ) → List ℕ → List ℕ → Option State → ℕ → List ℕ → List ℕ → Result (Unit {0}) Fault → Type 0
 NextGives answer front written line sup next bytes ends (Ok u) = IsWaiting answer (front ++ line ∷ []) written bytes ends sup (next + 1)
 NextGives answer front written line sup next bytes ends (Err f) = LineGives answer front written line sup next bytes bytes (Err f)
 
--- lines behind others were answered and written, or it stopped in a line
+-- lines after others were answered and written, or it stopped in a line
 abbrev pub LinesGive : Answering → List (List ℕ) → List ℕ → List (List ℕ) → Option State → ℕ → Option (List ℕ) → Option (List ℕ) → Result (Unit {0}) ScriptFault → Type 0
 LinesGive answer front text lines sup next old new (Ok u) = (more : List ℕ) × Appends old new more × IsAnsweredTo answer (front ++ lines) (text ++ more) sup next
 LinesGive answer front text lines sup next old new (Err e) = (more : List ℕ) × Appends old new more × StopsWith answer (front ++ lines) (text ++ more) e.line e.fault

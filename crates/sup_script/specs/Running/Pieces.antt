@@ -7,7 +7,7 @@ use Rattle.sup_format.specs.Reading.Texts.{lines_of, IsFull}
 use Rattle.sup_script.specs.Running.Answering.{LinesGive}
 use Rattle.sup_format.specs.Reading.Words.{Lacks}
 
--- the lines that the piece ended were answered, and the part of a line behind them is kept
+-- the lines that the piece ended were answered, and the part of a line after them is kept
 pub record IsPieceAnswered (answer : Answering) (front : List (List ℕ)) (text part piece part' : List ℕ) (sup : Option State) (next : ℕ) (old new : Option (List ℕ)) (result : Result (Unit {0}) ScriptFault) : Type 0 where
   pub ended : List ℕ
   pub rest : List ℕ

@@ -35,14 +35,14 @@ abbrev pub Replays : List (List ℕ) → List ℕ → Type 0
 Replays [] text = text ≡ []
 Replays (first ∷ body) text = IsReplayed first body text
 
--- the making or the writing of the replies stopped in a line
-abbrev pub ReplyStops : List (List ℕ) → ℕ → List ℕ → Fault → Type 0
-ReplyStops lines number written fault.OutOfMemory = IsAtLine Replays lines number written
-ReplyStops lines number written fault.BadTemplate = ⊥
-ReplyStops lines number written fault.BadLine = ⊥
-ReplyStops lines number written fault.ReadFault = ⊥
-ReplyStops lines number written fault.WriteFault = IsCutShort Replays lines number written
-ReplyStops lines number written fault.TooLong = ⊥
+-- the making or the writing of the replies stopped in a line, or at an entry
+abbrev pub ReplyStops : {X : Type 0} → (List X → List ℕ → Type 0) → List X → ℕ → List ℕ → Fault → Type 0
+ReplyStops Texts lines number written fault.OutOfMemory = IsAtLine Texts lines number written
+ReplyStops Texts lines number written fault.BadTemplate = ⊥
+ReplyStops Texts lines number written fault.BadLine = ⊥
+ReplyStops Texts lines number written fault.ReadFault = ⊥
+ReplyStops Texts lines number written fault.WriteFault = IsCutShort Texts lines number written
+ReplyStops Texts lines number written fault.TooLong = ⊥
 
 -- what came of a text: the replies to its entries were written; or it has a fault, and nothing was written; or it has none, and
 -- the making or the writing of the replies stopped
@@ -50,7 +50,7 @@ abbrev pub TextGives : List ℕ → Option (List ℕ) → Option (List ℕ) → 
 TextGives text old new (Ok u) = (template : Template) × (entries : List Entry) × Spells text template entries × Appends old new (entries_text template [] entries)
 TextGives text old new (Err e) =
     (HistoryStops text e.line e.fault × IsTextFault e.fault × Appends old new [])
-    ⊎ ((template : Template) × (entries : List Entry) × (written : List ℕ) × Spells text template entries × Appends old new written × ReplyStops (lines_of text) e.line written e.fault)
+    ⊎ ((template : Template) × (entries : List Entry) × (written : List ℕ) × Spells text template entries × Appends old new written × ReplyStops Replays (lines_of text) e.line written e.fault)
 
 -- ---- a whole replay
 
@@ -83,7 +83,7 @@ pub record HasStoppedReplying (left : Option (List ℕ)) (given past written : L
   pub template : Template
   pub entries : List Entry
   pub spelled : Spells given template entries
-  pub stops : ReplyStops (lines_of given) e.line written e.fault
+  pub stops : ReplyStops Replays (lines_of given) e.line written e.fault
 
 abbrev pub ReplayOutcome : Option (List ℕ) → List ℕ → List ℕ → List ℕ → Result (Unit {0}) ScriptFault → Type 0
 ReplayOutcome left given past written (Ok u) = IsWholeReplay left given past written

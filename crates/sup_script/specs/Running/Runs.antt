@@ -24,7 +24,7 @@ pub record HasStoppedEarly (answer : Answering) (given past written : List ℕ) 
   pub stops : StopsWith answer (lines_of front) written e.line e.fault
   pub within : 0 < length past → length given ≡ 16777216
 
--- the reading had this fault: all lines that are ended were answered, and the fault stands in the line after them
+-- the reading had this fault: all lines that are ended were answered, and the fault is in the line after them
 pub record HasFaultyReading (answer : Answering) (left : Option (List ℕ)) (given past written : List ℕ) (e : ScriptFault) : Type 0 where
   pub ended : EndsReading left given past (Err e.fault)
   pub front : List ℕ

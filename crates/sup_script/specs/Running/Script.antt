@@ -55,12 +55,12 @@ AreMeant [] (c ∷ cs) = ⊥
 AreMeant (line ∷ lines) [] = ⊥
 AreMeant (line ∷ lines) (c ∷ cs) = LineMeans line c × AreMeant lines cs
 
--- a line that is bad where these lines stand before it
+-- a line that is bad if these lines are before it
 abbrev pub IsBadAfter : List (List ℕ) → List ℕ → Type 0
 IsBadAfter [] line = IsNoFirst AreHeaderWords line
 IsBadAfter (header ∷ body) line = MeansNothing (words_of line)
 
--- commands behind a header, and the text of their replies
+-- commands after a header, and the text of their replies
 pub record IsAnswered (answer : Answering) (header : List ℕ) (body : List (List ℕ)) (text : List ℕ) : Type 0 where
   pub template : Template
   pub header_is : IsFirst AreHeaderWords header template

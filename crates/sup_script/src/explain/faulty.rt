@@ -5,7 +5,7 @@ ghost use Rattle.std.specs.Prelude.{◌≤◌};
 /// The most bytes of a line that are kept. No line of a script or a history text is as long.
 const MOST_KEPT: usize = 200;
 
-/// The front of the line in which a text has a fault: at most 200 bytes.
+/// Keeps the first bytes of the line in which a text has a fault: at most 200.
 #[derive(Clone, Copy, Debug)]
 pub struct FaultyLine {
     bytes: [u8; 200],
@@ -15,7 +15,7 @@ pub struct FaultyLine {
 }
 
 impl Default for FaultyLine {
-    /// The empty line.
+    /// Returns the empty line.
     fn default() -> FaultyLine {
         FaultyLine {
             bytes: [0; 200],
@@ -26,12 +26,12 @@ impl Default for FaultyLine {
 }
 
 impl FaultyLine {
-    /// The empty line, which an empty text has as its first one.
+    /// Returns the empty line, which is line 1 of an empty text.
     pub fn new() -> FaultyLine {
         FaultyLine::default()
     }
 
-    /// Keeps this line, or the front of it, in place of the one before.
+    /// Keeps this line, or its first bytes, in place of the previous one.
     pub fn keep(&mut self, line: &[u8]) {
         let len = line.len().min(MOST_KEPT);
         let mut bytes = [0; 200];
@@ -43,12 +43,12 @@ impl FaultyLine {
         };
     }
 
-    /// The bytes that are kept.
+    /// Returns the bytes that are kept.
     pub fn bytes(&self) -> &[u8] {
         &self.bytes[..self.len]
     }
 
-    /// Whether the line is longer than what is kept of it.
+    /// Returns whether the line is longer than what is kept of it.
     pub fn is_cut(&self) -> bool {
         self.is_cut
     }

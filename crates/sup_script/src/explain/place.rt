@@ -1,16 +1,16 @@
-//! What may stand at a place of a line.
+//! What is allowed at a place of a line.
 
 use sup_format::{read_number, read_reason};
 use sup_types::Text;
 
-/// A place of a line: which words may stand there, and how a person is told of them.
+/// Describes a place of a line: which words are allowed there, and how they are named to a person.
 #[derive(Clone, Copy)]
 pub struct Place {
     pub form: Form,
     pub in_words: &'static str,
 }
 
-/// Which words may stand at a place.
+/// Says which words are allowed at a place.
 #[derive(Clone, Copy)]
 pub enum Form {
     /// One of these.
@@ -26,7 +26,7 @@ pub enum Form {
 }
 
 impl Form {
-    /// Whether a word may stand there, whatever range a part's number has.
+    /// Returns whether a word is allowed there, whatever range a part's number has.
     pub fn fits(self, word: &[u8]) -> bool {
         match self {
             Form::OneOf(choices) => choices.iter().any(|choice| choice.as_bytes() == word),
@@ -38,7 +38,7 @@ impl Form {
         }
     }
 
-    /// Whether the number that a word spells is in the range of a template's part.
+    /// Returns whether the number that a word spells is in the range of a template's part.
     pub fn is_in_range(self, word: &[u8]) -> bool {
         match self {
             Form::Part { least, most } => has_number_within(word, least, most),

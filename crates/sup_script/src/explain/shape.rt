@@ -5,7 +5,7 @@ use crate::explain::place::{
     PERIOD, Place, REASON, RESTART, ROWS, SERIAL, SUP, TEXT, VERSION,
 };
 
-/// Which text a line is of.
+/// Says which text a line is of.
 #[derive(Clone, Copy, Debug)]
 pub enum Format {
     /// A script.
@@ -48,7 +48,7 @@ static ANSWERED: [Place; 1] = [ANSWER];
 
 static FAILED: [Place; 1] = [CODE];
 
-/// The words with which the first line of a format begins.
+/// Returns the words with which the first line of a format begins.
 pub fn naming(format: Format) -> &'static [Place] {
     match format {
         Format::Script => &SCRIPT,
@@ -56,22 +56,22 @@ pub fn naming(format: Format) -> &'static [Place] {
     }
 }
 
-/// The parts of a template that every first line has.
+/// Returns the parts of a template that every first line has.
 pub fn parts() -> &'static [Place] {
     &PARTS
 }
 
-/// The last two words of a first line.
+/// Returns the last two words of a first line.
 pub fn shutdown() -> &'static [Place] {
     &SHUTDOWN
 }
 
-/// The words of a script's line up to its command.
+/// Returns the words of a script's line up to its command.
 pub fn command() -> &'static [Place] {
     &LINE
 }
 
-/// The words behind the name of a command.
+/// Returns the words after the name of a command.
 pub fn behind_command(word: &[u8]) -> &'static [Place] {
     match word {
         b"start" => &START,
@@ -83,12 +83,12 @@ pub fn behind_command(word: &[u8]) -> &'static [Place] {
     }
 }
 
-/// The words of an entry up to its operation.
+/// Returns the words of an entry up to its operation.
 pub fn entry() -> &'static [Place] {
     &ENTRY
 }
 
-/// The words behind the operation of an entry. The last is its answer.
+/// Returns the words after the operation of an entry. The last is its answer.
 pub fn behind_operation(word: &[u8]) -> &'static [Place] {
     match word {
         b"start" => &STARTED,
@@ -98,7 +98,7 @@ pub fn behind_operation(word: &[u8]) -> &'static [Place] {
     }
 }
 
-/// The words behind the answer of an entry.
+/// Returns the words after the answer of an entry.
 pub fn behind_answer(word: &[u8]) -> &'static [Place] {
     match word {
         b"failed" => &FAILED,

@@ -7,25 +7,25 @@ use crate::explain::shape::{
 };
 use sup_format::next_word;
 
-/// A place at which a line is wrong.
+/// Marks a place at which a line is wrong.
 #[derive(Clone, Copy)]
 pub struct Misfit<'a> {
-    /// The word that stands there, where the line does not end.
+    /// The word there, if the line does not end.
     pub word: Option<&'a [u8]>,
     /// How many bytes of the line there are from there on.
     pub left: usize,
-    /// What may stand there.
+    /// What is allowed there.
     pub place: Place,
 }
 
-/// The words of a line that were gone over: the last of them, and what is left of the line.
+/// The words of a line that were read: the last of them, and the rest of the line.
 #[derive(Clone, Copy)]
 struct Walked<'a> {
     last: &'a [u8],
     rest: Option<&'a [u8]>,
 }
 
-/// The first place at which a line has no word of its format.
+/// Returns the first place at which a line has no word of its format.
 pub fn first_misfit(format: Format, is_first: bool, line: &[u8]) -> Option<Misfit<'_>> {
     let walked = match (format, is_first) {
         (_, true) => walk_first(format, line),
@@ -35,7 +35,7 @@ pub fn first_misfit(format: Format, is_first: bool, line: &[u8]) -> Option<Misfi
     walked.err()
 }
 
-/// The first place at which a first line has a number that is out of its range.
+/// Returns the first place at which a first line has a number out of its range.
 pub fn first_out_of_range(format: Format, line: &[u8]) -> Option<Misfit<'_>> {
     let mut rest = walk(Some(line), naming(format)).ok()?.rest;
     for place in parts() {
@@ -48,7 +48,7 @@ pub fn first_out_of_range(format: Format, line: &[u8]) -> Option<Misfit<'_>> {
     None
 }
 
-/// The mark of a first line that has one.
+/// Returns the mark of a first line, if it has one.
 pub fn mark_of(format: Format, line: &[u8]) -> Option<Misfit<'_>> {
     let named = walk(Some(line), naming(format)).ok()?;
     let walked = walk(named.rest, parts()).ok()?;
@@ -79,7 +79,7 @@ fn walk_entry(line: &[u8]) -> Result<(), Misfit<'_>> {
     ends(walk(answered.rest, behind_answer(answered.last))?)
 }
 
-/// Goes over the words at these places.
+/// Reads the words at these places.
 fn walk<'a>(rest: Option<&'a [u8]>, places: &[Place]) -> Result<Walked<'a>, Misfit<'a>> {
     let mut walked = Walked { last: &[], rest };
     for place in places {
@@ -95,7 +95,7 @@ fn walk<'a>(rest: Option<&'a [u8]>, places: &[Place]) -> Result<Walked<'a>, Misf
     Ok(walked)
 }
 
-/// That nothing is left of the line.
+/// Checks that the line ends there.
 fn ends(walked: Walked<'_>) -> Result<(), Misfit<'_>> {
     if walked.rest.is_none() {
         return Ok(());

@@ -1,16 +1,18 @@
-//! Texts as a program answers them: a fault is told on the error stream, and how it ended is an exit status.
+//! Texts and journals as a program answers them: a fault is told on the error stream, and how it ended is an exit status.
 
 ghost use Rattle.std.specs.Prelude.{◌≡◌, ◌⊎◌, false, true};
-ghost use Rattle.sup_script.specs.Running.Answers.{IsScriptAnswered, IsReplayAnswered, IsTextAnswered, status_of, status_number};
+ghost use Rattle.sup_script.specs.Running.Answers.{IsFileAnswered, IsInputAnswered, IsJournalAnswered, IsJournalTold, IsScriptAnswered, IsReplayAnswered, IsUnnamed, status_of, status_number};
 ghost use Rattle.sup_script.specs.declared.runs.answer.Status.TheVariants as status;
 
 use crate::explain::{Explanation, FaultyLine, Format};
+use crate::runs::journal::replay_journal;
 use crate::runs::replays::replay_with_line;
 use crate::runs::script::run_with_line;
 use crate::starter::ScriptStarter;
-use std::alloc::Global;
-use std::io::{Read, Write};
-use sup_format::{Fault, ScriptFault, WatchedReader, WatchedWriter};
+use std::alloc::{Allocator, Global};
+use std::fs::{File, Files};
+use std::io::{ErrorKind, Read, Write};
+use sup_format::{EntryReader, Fault, ScriptFault, WatchedReader, WatchedWriter, first_line};
 
 /// How a program ended.
 #[derive(Clone, Copy, Debug, PartialEq, Eq)]
@@ -61,12 +63,42 @@ pub enum Detail {
     Explained,
 }
 
-/// Answers a text of this format, a script or a history, from the reader: the replies go to `out`, and a fault is a line
-/// on `err`, with an explanation behind it if that is asked for. The status is that of the outcome. A failed write to
-/// `err` changes nothing.
-pub fn answer_text<R: Read, W: Write, E: Write>(
-    alloc: Global,
+impl Detail {
+    /// Returns how much is said to a person, who has a fault explained without asking for it.
+    pub fn said_to(self, is_person: bool) -> Detail {
+        if is_person { Detail::Explained } else { self }
+    }
+}
+
+/// How a run over a text ended.
+#[derive(Drop)]
+struct Run<'a> {
     format: Format,
+    /// The file that was read, if the text has a name.
+    path: Option<&'a str>,
+    outcome: Result<(), ScriptFault>,
+    /// What the reader or the writer answered, if that is the fault.
+    cause: Option<ErrorKind>,
+    /// The line that has the fault, if the fault is one of a line.
+    line: FaultyLine,
+}
+
+/// What a program is asked to answer: of a script and of a history text the file at this path, if there is one, and else the input.
+#[derive(Clone, Copy, Debug, PartialEq, Eq)]
+pub enum Input<'a> {
+    Script(Option<&'a str>),
+    History(Option<&'a str>),
+    /// The journal at this path.
+    Journal(&'a str),
+}
+
+/// Answers a script, a history text or a journal. The replies go to `out`, and a fault is a line on `err`, with an explanation behind it
+/// if that is asked for. The status is that of the outcome; a file that can't be opened is `Failed`, and nothing is written then. The
+/// reader is left alone where a path is given. A failed write to `err` changes nothing.
+pub fn answer_input<F: Files, R: Read, W: Write, E: Write>(
+    files: &F,
+    alloc: Global,
+    input: Input<'_>,
     detail: Detail,
     reader: &mut WatchedReader<R>,
     out: &mut WatchedWriter<W>,
@@ -76,13 +108,49 @@ pub fn answer_text<R: Read, W: Write, E: Write>(
     requires none { reader.old.given ≡ 0 }
     requires unfailed { reader.old.has_failed ≡ false }
     requires unrefused { out.old.has_refused ≡ false }
-    ensures answered { IsTextAnswered format (R.remaining reader.old.reader) (R.remaining reader.new.reader) (W.contents out.old.writer) (W.contents out.new.writer)
-        reader.new.has_failed reader.new.given out.new.has_refused result }
-    ensures cause { result ≡ status.Failed → (reader.new.has_failed ≡ true) ⊎ (out.new.has_refused ≡ true) }
+    ensures answered { IsInputAnswered input.entry (R.remaining reader.old.reader) (R.remaining reader.new.reader) (W.contents out.old.writer)
+        (W.contents out.new.writer) reader.new.has_failed reader.new.given out.new.has_refused result }
+    ensures cause { IsUnnamed input.entry → result ≡ status.Failed → (reader.new.has_failed ≡ true) ⊎ (out.new.has_refused ≡ true) }
 {
+    match input {
+        Input::Script(None) => answer_script(alloc, detail, None, reader, out, err),
+        Input::Script(Some(path)) => answer_file(
+            files,
+            alloc,
+            Format::Script,
+            detail,
+            path,
+            out,
+            err,
+        ),
+        Input::History(None) => answer_history(alloc, detail, None, reader, out, err),
+        Input::History(Some(path)) => {
+            answer_file(files, alloc, Format::History, detail, path, out, err)
+        }
+        Input::Journal(path) => answer_journal(files, alloc, detail, path, out, err),
+    }
+}
+
+/// Answers the file at this path as a text of this format.
+fn answer_file<F: Files, W: Write, E: Write>(
+    files: &F,
+    alloc: Global,
+    format: Format,
+    detail: Detail,
+    path: &str,
+    out: &mut WatchedWriter<W>,
+    err: &mut E,
+) -> Status
+    requires { out.old.has_refused ≡ false }
+    ensures { IsFileAnswered format (W.contents out.old.writer) (W.contents out.new.writer) out.new.has_refused result }
+{
+    let mut reader = match File::open(files, path) {
+        Ok(file) => WatchedReader::new(file),
+        Err(error) => return tell_unread(error.kind(), path, err),
+    };
     match format {
-        Format::Script => answer_script(alloc, detail, reader, out, err),
-        Format::History => answer_history(alloc, detail, reader, out, err),
+        Format::Script => answer_script(alloc, detail, Some(path), &mut reader, out, err),
+        Format::History => answer_history(alloc, detail, Some(path), &mut reader, out, err),
     }
 }
 
@@ -90,6 +158,7 @@ pub fn answer_text<R: Read, W: Write, E: Write>(
 fn answer_script<R: Read, W: Write, E: Write>(
     alloc: Global,
     detail: Detail,
+    path: Option<&str>,
     reader: &mut WatchedReader<R>,
     out: &mut WatchedWriter<W>,
     err: &mut E,
@@ -103,15 +172,21 @@ fn answer_script<R: Read, W: Write, E: Write>(
 {
     let mut line = FaultyLine::new();
     let outcome = run_with_line(alloc, reader, out, &ScriptStarter, &mut line);
-    let status = told(outcome, err);
-    explain(alloc, detail, Format::Script, outcome, &line, err);
-    status
+    let run = Run {
+        format: Format::Script,
+        path,
+        outcome,
+        cause: cause_of(outcome, reader.error(), out.error()),
+        line,
+    };
+    tell(alloc, detail, &run, err)
 }
 
 /// Replays a history text. The status is that of the outcome of its replay.
 fn answer_history<R: Read, W: Write, E: Write>(
     alloc: Global,
     detail: Detail,
+    path: Option<&str>,
     reader: &mut WatchedReader<R>,
     out: &mut WatchedWriter<W>,
     err: &mut E,
@@ -125,39 +200,140 @@ fn answer_history<R: Read, W: Write, E: Write>(
 {
     let mut line = FaultyLine::new();
     let outcome = replay_with_line(alloc, reader, out, &mut line);
-    let status = told(outcome, err);
-    explain(alloc, detail, Format::History, outcome, &line, err);
-    status
+    let run = Run {
+        format: Format::History,
+        path,
+        outcome,
+        cause: cause_of(outcome, reader.error(), out.error()),
+        line,
+    };
+    tell(alloc, detail, &run, err)
 }
 
-/// Tells the fault of a run, if there is one, by a line.
-fn told<E: Write>(outcome: Result<(), ScriptFault>, err: &mut E) -> Status
-    ensures { result ≡ status_of outcome }
+/// Answers the journal in the file at this path.
+fn answer_journal<F: Files, W: Write, E: Write>(
+    files: &F,
+    alloc: Global,
+    detail: Detail,
+    path: &str,
+    out: &mut WatchedWriter<W>,
+    err: &mut E,
+) -> Status
+    ensures { IsJournalAnswered (W.contents out.old.writer) (W.contents out.new.writer) out.new.has_refused result }
 {
-    match outcome {
+    match File::open(files, path) {
+        Ok(file) => answer_lines(alloc, detail, path, file, out, err),
+        Err(error) => tell_unread(error.kind(), path, err),
+    }
+}
+
+/// Answers the journal that this file has.
+fn answer_lines<R: Read + Drop, W: Write, E: Write>(
+    alloc: Global,
+    detail: Detail,
+    path: &str,
+    file: R,
+    out: &mut WatchedWriter<W>,
+    err: &mut E,
+) -> Status
+    ensures { IsJournalTold (R.remaining file) (W.contents out.old.writer) (W.contents out.new.writer) out.new.has_refused result }
+{
+    let mut lines = EntryReader::new(alloc, WatchedReader::new(file));
+    let outcome = replay_journal(alloc, &mut lines, out);
+    let run = Run {
+        format: Format::History,
+        path: Some(path),
+        outcome,
+        cause: cause_of(outcome, lines.error(), out.error()),
+        line: line_at(&lines),
+    };
+    tell(alloc, detail, &run, err)
+}
+
+/// The line at which the reading of a journal stands.
+fn line_at<R: Read, A: Allocator>(lines: &EntryReader<R, A>) -> FaultyLine {
+    let mut line = FaultyLine::new();
+    if lines.ready().is_empty() {
+        line.keep(lines.torn());
+    } else {
+        line.keep(first_line(lines.ready()).0);
+    }
+    line
+}
+
+/// Tells the fault of a run, if there is one, by a line, and explains it by further ones, if that is asked for.
+fn tell<E: Write>(alloc: Global, detail: Detail, run: &Run<'_>, err: &mut E) -> Status
+    ensures { result ≡ status_of run.now.outcome }
+{
+    match run.outcome {
         Ok(()) => Status::Done,
         Err(stop) => {
-            let _ = writeln!(err, "{stop}");
+            tell_fault(alloc, detail, run, stop, err);
             Status::of(stop.fault)
         }
     }
 }
 
-/// Explains the fault of a run, if there is one and that is asked for, by further lines.
-fn explain<E: Write>(
+/// Tells a fault: a named file that can't be read by what is wrong with it, all else by number and line.
+fn tell_fault<E: Write>(
     alloc: Global,
     detail: Detail,
-    format: Format,
-    outcome: Result<(), ScriptFault>,
-    line: &FaultyLine,
+    run: &Run<'_>,
+    stop: ScriptFault,
     err: &mut E,
 ) {
-    let (Detail::Explained, Err(stop)) = (detail, outcome) else {
+    if let (Fault::ReadFault, Some(path), Some(kind)) = (stop.fault, run.path, run.cause) {
+        tell_unread(kind, path, err);
         return;
+    }
+    let _ = writeln!(err, "{stop}");
+    if detail == Detail::Explained {
+        explain(alloc, run, stop, err);
+    }
+}
+
+/// Tells that the file at a path can't be read, and why.
+fn tell_unread<E: Write>(kind: ErrorKind, path: &str, err: &mut E) -> Status
+    ensures { result ≡ status.Failed }
+{
+    let fault = Fault::ReadFault;
+    let number = fault.number();
+    let _ = match kind {
+        ErrorKind::NotFound => writeln!(err, "fault {number}: there is no such file: {path}"),
+        ErrorKind::IsADirectory => writeln!(err, "fault {number}: this is a folder: {path}"),
+        ErrorKind::PermissionDenied => {
+            writeln!(
+                err,
+                "fault {number}: there is no permission to read: {path}"
+            )
+        }
+        kind => writeln!(err, "fault {number}: {fault}: {kind}: {path}"),
     };
-    let text = match Explanation::new(alloc, format, stop, line) {
-        Some(explanation) => format!(in alloc; "{explanation}"),
-        None => format!(in alloc; "  {}\n", stop.fault),
+    Status::Failed
+}
+
+/// Returns what the reader or the writer answered, if that is the fault of a run.
+fn cause_of(
+    outcome: Result<(), ScriptFault>,
+    read: Option<ErrorKind>,
+    written: Option<ErrorKind>,
+) -> Option<ErrorKind> {
+    match outcome.err()?.fault {
+        Fault::ReadFault => read,
+        Fault::WriteFault => written,
+        _ => None,
+    }
+}
+
+/// Explains a fault by further lines.
+fn explain<E: Write>(alloc: Global, run: &Run<'_>, stop: ScriptFault, err: &mut E) {
+    let text = match (
+        Explanation::new(alloc, run.format, stop, &run.line),
+        run.cause,
+    ) {
+        (Some(explanation), _) => format!(in alloc; "{explanation}"),
+        (None, Some(kind)) => format!(in alloc; "  {}: {kind}\n", stop.fault),
+        (None, None) => format!(in alloc; "  {}\n", stop.fault),
     };
     if let Ok(text) = text {
         let _ = err.write_all(text.as_bytes());

@@ -21,10 +21,10 @@ use sup_types::{Entry, OutOfMemory};
 
 /// Reads a history text to its end, and then writes the reply of each entry, one a line, from an empty supervisor.
 ///
-/// After a fault of reading or of the text nothing is written; a fault of reading stands in the line after the last one
-/// that is ended. On WriteFault the line is that of the entry whose reply was being written. OutOfMemory while the replies
-/// are made has the line of its entry, and the replies before it are written; in line 1 there was no room for the
-/// supervisor, or to begin with the replies.
+/// # Errors
+/// After a fault of reading, which is in the line after the last ended one, or of the text, nothing is written. WriteFault is in
+/// the line of the entry whose reply was being written. OutOfMemory is in the line of the entry whose reply had no room, and the
+/// replies before it are written; in line 1 there was no room for the supervisor or for any reply.
 pub fn replay<A: Allocator + Copy, R: Read, W: Write>(
     alloc: A,
     reader: &mut WatchedReader<R>,
@@ -42,7 +42,7 @@ pub fn replay<A: Allocator + Copy, R: Read, W: Write>(
     replay_with_line(alloc, reader, writer, &mut FaultyLine::new())
 }
 
-/// As [`replay`], and keeps the line that has the fault, where the fault is one of the text.
+/// Does what [`replay`] does, and keeps the line that has the fault, if it is a fault of the text.
 pub fn replay_with_line<A: Allocator + Copy, R: Read, W: Write>(
     alloc: A,
     reader: &mut WatchedReader<R>,
@@ -103,7 +103,8 @@ fn replay_text<A: Allocator + Copy, W: Write>(
     }
 }
 
-/// The fault of a history text for which there is no memory to begin with. One of the text itself goes first, so its rest is read.
+/// Returns the fault of a history text for which there is no memory to begin with. One of the text itself goes first, so its rest
+/// is read.
 fn refusal(rest: &[u8]) -> ScriptFault
     requires { length rest.now ≤ 16777216 }
     ensures given { (text : List ℕ) (template : ATemplate) (contents : Option (List ℕ)) → IsReadTo text rest.now template [] 2 →
@@ -119,7 +120,7 @@ fn refusal(rest: &[u8]) -> ScriptFault
     }
 }
 
-/// Writes the replies to the entries that the rest of a history text spells, from a supervisor that none was entered in.
+/// Writes the replies to the entries that the rest of a history text spells, from an empty supervisor.
 fn answer_by<A: Allocator + Copy, W: Write>(
     alloc: A,
     mut sup: Sup<A>,
@@ -147,8 +148,8 @@ fn answer_by<A: Allocator + Copy, W: Write>(
     outcome
 }
 
-/// Answers the entries that the rest of a history text spells, from a supervisor that none was entered in, and writes the replies
-/// once all was read. Nothing waits before.
+/// Answers the entries that the rest of a history text spells, from an empty supervisor, and writes the replies once all was read.
+/// Nothing waits before.
 fn answer_from<A: Allocator + Copy, W: Write>(
     sup: &mut Sup<A>,
     outbox: &mut Outbox<'_, A, W>,
@@ -172,7 +173,7 @@ fn answer_from<A: Allocator + Copy, W: Write>(
             return Err(ScriptFault { fault, line: next });
         };
         if let Err(OutOfMemory) = answer_entry(&entry, sup, outbox) {
-            // A fault of the text goes first, so what is left is read before the replies are written.
+            // A fault of the text goes first, so the rest is read before the replies are written.
             check_entries(after, next + 1)?;
             outbox.flush(next)?;
             let fault = Fault::OutOfMemory;
@@ -185,7 +186,7 @@ fn answer_from<A: Allocator + Copy, W: Write>(
 }
 
 /// Enters an entry, and puts its reply behind those that wait. After a refusal they wait as before.
-fn answer_entry<A: Allocator + Copy, W: Write>(
+pub(crate) fn answer_entry<A: Allocator + Copy, W: Write>(
     entry: &Entry,
     sup: &mut Sup<A>,
     outbox: &mut Outbox<'_, A, W>,
@@ -203,7 +204,7 @@ fn answer_entry<A: Allocator + Copy, W: Write>(
     ensures same { outbox.new.writer.ghost_name ≡ outbox.old.writer.ghost_name }
 {
     let reply = sup.step(entry);
-    // Room for the mark comes first, so that nothing is to be undone where it is refused.
+    // Room for the mark comes first, so that nothing has to be undone if it is refused.
     outbox.ends.reserve(1)?;
     write_reply(&reply, &mut outbox.bytes)?;
     outbox.ends.push(outbox.bytes.len()).unwrap();

@@ -11,15 +11,14 @@ use std::io::{Read, Write};
 use sup_format::{Fault, MOST_BYTES, Outbox, PIECE, ScriptFault, WatchedReader, WatchedWriter};
 use sup_types::FixedStarter;
 
-/// Room for the part of a line that comes before a piece: more bytes than a line has that means something.
+/// Room for the part of a line that comes before a piece: more bytes than any line of the format has.
 const PART: usize = 1_024;
 
-/// Reads a script to its end and writes the replies of its commands, those of each piece that is read before the next
-/// one is asked for.
+/// Reads a script to its end and writes the replies of its commands, those of each piece before the next one is read.
 ///
-/// On a fault in a line the replies of the lines before it are written, and nothing more is read. On a fault of reading
-/// the lines that are ended are answered, and the fault stands in the line after them. On WriteFault the line is the one
-/// whose reply was being written.
+/// # Errors
+/// After a fault in a line the replies of the lines before it are written, and nothing more is read. A fault of reading is in the
+/// line after the ended ones, which are answered. WriteFault is in the line whose reply was being written.
 pub fn run<A: Allocator + Copy, R: Read, W: Write, S: FixedStarter>(
     alloc: A,
     reader: &mut WatchedReader<R>,
@@ -38,8 +37,8 @@ pub fn run<A: Allocator + Copy, R: Read, W: Write, S: FixedStarter>(
     run_with_line(alloc, reader, writer, starter, &mut FaultyLine::new())
 }
 
-/// As [`run`], and keeps the line that has the fault, where the fault is one that a line has of itself. It is the empty
-/// line where the input is empty.
+/// Does what [`run`] does, and keeps the line that has the fault, if the fault is one of the line itself: the empty line if the
+/// input is empty.
 pub fn run_with_line<A: Allocator + Copy, R: Read, W: Write, S: FixedStarter>(
     alloc: A,
     reader: &mut WatchedReader<R>,
@@ -107,7 +106,7 @@ fn answer_pieces<A: Allocator + Copy, R: Read, W: Write, S: FixedStarter>(
     let mut piece = [0u8; PIECE];
     loop {
         let room = (MOST_BYTES - reader.given()) as usize;
-        // Space comes first, so that no byte is lost where it is refused.
+        // Space comes first, so that no byte is lost if it is refused.
         if part.reserve(PIECE).is_err() {
             return Err(session.fault(Fault::OutOfMemory));
         }

@@ -21,7 +21,7 @@ use sup_format::{
 };
 use sup_types::FixedStarter;
 
-/// What a run over a script goes on with, and the start function and the writer that it is lent.
+/// Holds what a run over a script has reached, and the start function and the writer that it is lent.
 #[derive(Drop)]
 pub struct Session<'s, 'w, A: Allocator, W, S> {
     pub alloc: A,
@@ -37,7 +37,7 @@ pub struct Session<'s, 'w, A: Allocator, W, S> {
 }
 
 impl<'s, 'w, A: Allocator + Copy, W: Write, S: FixedStarter> Session<'s, 'w, A, W, S> {
-    /// No line was read.
+    /// Returns a session in which no line was read.
     pub fn new(alloc: A, starter: &'s S, writer: &'w mut WatchedWriter<W>) -> Self
         ensures supervisor { result.supervisor ≡ None }
         ensures bytes { result.outbox.bytes.items ≡ [] }
@@ -56,7 +56,7 @@ impl<'s, 'w, A: Allocator + Copy, W: Write, S: FixedStarter> Session<'s, 'w, A, 
         }
     }
 
-    /// This fault in the next line.
+    /// Returns this fault, in the next line.
     pub fn fault(&self, fault: Fault) -> ScriptFault
         ensures fault { result.fault ≡ fault }
         ensures line { result.line ≡ self.now.next }
@@ -69,7 +69,7 @@ impl<'s, 'w, A: Allocator + Copy, W: Write, S: FixedStarter> Session<'s, 'w, A, 
 
     /// Answers the lines that a piece of the input ends, and writes their replies.
     ///
-    /// `part` is the part of a line that came before the piece, and is then the part behind them.
+    /// `part` holds the part of a line that came before the piece, and then the part after those lines.
     pub fn answer_piece(&mut self, piece: &[u8], part: &mut Vec<u8, A>) -> Result<(), ScriptFault>
         requires lacks { Lacks 10 part.old.items }
         requires room { length part.old.items + length piece.now ≤ vec_capacity part.old }
@@ -99,8 +99,8 @@ impl<'s, 'w, A: Allocator + Copy, W: Write, S: FixedStarter> Session<'s, 'w, A, 
         Ok(())
     }
 
-    /// Answers the lines that a part and what ends it make, and writes their replies. Without a part they are answered where
-    /// they stand, and no byte is copied.
+    /// Answers the lines that a part and what ends it make, and writes their replies. Without a part they are answered in place,
+    /// and no byte is copied.
     fn answer_joined(&mut self, part: &mut Vec<u8, A>, ended: &[u8]) -> Result<(), ScriptFault>
         requires room { length part.old.items + length ended.now ≤ vec_capacity part.old }
         requires first { 1 ≤ self.old.next }
@@ -160,7 +160,7 @@ impl<'s, 'w, A: Allocator + Copy, W: Write, S: FixedStarter> Session<'s, 'w, A, 
         self.outbox.flush(self.next)
     }
 
-    /// Answers the next line, and puts its reply behind those that wait. After a fault they wait as before.
+    /// Answers the next line, and adds its reply to those that wait. After a fault they wait as before.
     fn answer_next(&mut self, line: &[u8]) -> Result<(), Fault>
         requires { 1 ≤ steps_left self.old.supervisor }
         ensures given { (front : List (List ℕ)) (written : List ℕ) → IsWaiting S.answer front written self.old.outbox.bytes.items self.old.outbox.ends.items self.old.supervisor self.old.next →
@@ -174,7 +174,7 @@ impl<'s, 'w, A: Allocator + Copy, W: Write, S: FixedStarter> Session<'s, 'w, A, 
         ensures writer { self.new.outbox.writer.now ≡ self.old.outbox.writer.now }
         ensures same { self.new.outbox.writer.ghost_name ≡ self.old.outbox.writer.ghost_name }
     {
-        // Room for the mark comes first, so that nothing is to be undone where it is refused.
+        // Room for the mark comes first, so that nothing has to be undone if it is refused.
         self.outbox.ends.reserve(1)?;
         let start = self.outbox.bytes.len();
         let answered = answer_line(
@@ -194,7 +194,7 @@ impl<'s, 'w, A: Allocator + Copy, W: Write, S: FixedStarter> Session<'s, 'w, A, 
     }
 }
 
-/// Answers a line: the first one makes the supervisor, and of each other one the text of its reply is appended.
+/// Answers a line: the first one makes the supervisor, and each other one appends the text of its reply.
 fn answer_line<S: FixedStarter, A: Allocator + Copy>(
     alloc: A,
     line: &[u8],
@@ -218,7 +218,7 @@ fn answer_line<S: FixedStarter, A: Allocator + Copy>(
     }
 }
 
-/// The supervisor that a header makes.
+/// Returns the supervisor that a header makes.
 fn first_supervisor<A: Allocator + Copy>(alloc: A, line: &[u8]) -> Result<Sup<A>, Fault>
     ensures { MatchResult result (λ s. IsFirst AreHeaderWords line.now s.template × IsAfter s [])
         (λ f. (f ≡ OutOfMemory) ⊎ HasFirst AreHeaderWords line.now (Err f)) }

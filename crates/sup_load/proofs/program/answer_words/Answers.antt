@@ -4,20 +4,23 @@ use Rattle.std.specs.Prelude.{Ok}
 use Rattle.sup_words.specs.Orders.{IsLoadOf, command_at, kinds_at}
 use Rattle.sup_words.specs.declared.words.Order.{Order}
 use Rattle.sup_words.specs.declared.words.Order.TheVariants as order
+use Rattle.sup_words.specs.TextLaws.{replay_of, script_of, text_cause}
 use Rattle.sup_load.proofs.Replies.{done_as, error_as, serving_as}
 use Rattle.sup_load.proofs.program.answer_words.Goals as goal
 
-pub returns-in-Ok-Script-clause-words : goal.returns-in-Ok-Script-clause-words
-returns-in-Ok-Script-clause-words g c =
+pub returns-in-Ok-Text-clause-words : goal.returns-in-Ok-Text-clause-words
+returns-in-Ok-Text-clause-words g c =
     let words = map g.S.AsStr.text c.args.words.now in
-    done_as (kinds_at words) (command_at words) _ _ _ _ _ _ _ c.answer_text.result
-    c.in-Ok-Script.field-0 (order.Script c.in-Ok-Script.detail) c.in-Ok-Script.field-0-is c.in-Ok-Script.ensures.words c.answer_text.ensures.answered
+    done_as (kinds_at words) (command_at words) _ _ _ _ _ _ _ c.answer_input.result
+    c.in-Ok-Text.field-0 (order.Text c.in-Ok-Text.input c.in-Ok-Text.detail) c.in-Ok-Text.field-0-is c.in-Ok-Text.ensures.words c.answer_input.ensures.answered
 
-pub returns-in-Ok-Replay-clause-words : goal.returns-in-Ok-Replay-clause-words
-returns-in-Ok-Replay-clause-words g c =
-    let words = map g.S.AsStr.text c.args.words.now in
-    done_as (kinds_at words) (command_at words) _ _ _ _ _ _ _ c.answer_text-in-Ok-Replay.result
-    c.in-Ok-Replay.field-0 (order.Replay c.in-Ok-Replay.detail) c.in-Ok-Replay.field-0-is c.in-Ok-Replay.ensures.words c.answer_text-in-Ok-Replay.ensures.answered
+pub returns-in-Ok-Text-clause-script : goal.returns-in-Ok-Text-clause-script
+returns-in-Ok-Text-clause-script g c = λ name words.
+    script_of c.in-Ok-Text.input c.in-Ok-Text.detail c.in-Ok-Text.field-0 c.in-Ok-Text.field-0-is _ _ _ _ _ _ _ _ c.answer_input.ensures.answered (c.in-Ok-Text.ensures.script name words)
+
+pub returns-in-Ok-Text-clause-replay : goal.returns-in-Ok-Text-clause-replay
+returns-in-Ok-Text-clause-replay g c = λ name words.
+    replay_of c.in-Ok-Text.input c.in-Ok-Text.detail c.in-Ok-Text.field-0 c.in-Ok-Text.field-0-is _ _ _ _ _ _ _ _ c.answer_input.ensures.answered (c.in-Ok-Text.ensures.replay name words)
 
 pub returns-in-Ok-Load-clause-words : goal.returns-in-Ok-Load-clause-words
 returns-in-Ok-Load-clause-words g c =
@@ -29,38 +32,36 @@ pub returns-in-Ok-Serve-clause-words : goal.returns-in-Ok-Serve-clause-words
 returns-in-Ok-Serve-clause-words g c =
     let words = map g.S.AsStr.text c.args.words.now in
     done_as (kinds_at words) (command_at words) _ _ _ _ _ _ _ c.answer_serve.result
-    c.in-Ok-Serve.field-0 (order.Serve c.in-Ok-Serve.notices) c.in-Ok-Serve.field-0-is c.in-Ok-Serve.ensures.words c.answer_serve.ensures
+    c.in-Ok-Serve.field-0 (order.Serve c.in-Ok-Serve.notices c.in-Ok-Serve.journal) c.in-Ok-Serve.field-0-is c.in-Ok-Serve.ensures.words c.answer_serve.ensures
 
 pub returns-in-Err-clause-words : goal.returns-in-Err-clause-words
 returns-in-Err-clause-words g c =
     let words = map g.S.AsStr.text c.args.words.now in
     error_as (kinds_at words) (command_at words) _ _ _ _ _ _ _ c.show.result c.in-Err.error c.in-Err.ensures.words refl c.show.ensures.kind
 
-pub returns-in-Ok-Script-clause-one : goal.returns-in-Ok-Script-clause-one
-returns-in-Ok-Script-clause-one g c = inl (inl c.answer_text.ensures.answered)
+pub returns-in-Ok-Text-clause-one : goal.returns-in-Ok-Text-clause-one
+returns-in-Ok-Text-clause-one g c = inl (inl (c.in-Ok-Text.input, c.answer_input.ensures.answered))
 
-pub returns-in-Ok-Replay-clause-one : goal.returns-in-Ok-Replay-clause-one
-returns-in-Ok-Replay-clause-one g c = inl (inr (inl c.answer_text-in-Ok-Replay.ensures.answered))
+pub returns-in-Ok-Text-clause-cause : goal.returns-in-Ok-Text-clause-cause
+returns-in-Ok-Text-clause-cause g c =
+    let words = map g.S.AsStr.text c.args.words.now in
+    λ failed. text_cause (kinds_at words) (command_at words) c.in-Ok-Text.input c.in-Ok-Text.detail c.in-Ok-Text.field-0 c.in-Ok-Text.field-0-is c.in-Ok-Text.ensures.words _ _ (λ unnamed. c.answer_input.ensures.cause unnamed failed)
 
 pub returns-in-Ok-Load-clause-one : goal.returns-in-Ok-Load-clause-one
-returns-in-Ok-Load-clause-one g c = inl (inr (inr (refl, inl c.answer_load.ensures.loaded)))
+returns-in-Ok-Load-clause-one g c = inl (inr (refl, inl c.answer_load.ensures.loaded))
 
 pub returns-in-Ok-Serve-clause-one : goal.returns-in-Ok-Serve-clause-one
 returns-in-Ok-Serve-clause-one g c =
     let words = map g.S.AsStr.text c.args.words.now in
     inr (serving_as (kinds_at words) (command_at words) _ _ c.answer_serve.result
-    c.in-Ok-Serve.field-0 c.in-Ok-Serve.notices c.in-Ok-Serve.field-0-is c.in-Ok-Serve.ensures.words c.answer_serve.ensures)
+    c.in-Ok-Serve.field-0 c.in-Ok-Serve.notices c.in-Ok-Serve.journal c.in-Ok-Serve.field-0-is c.in-Ok-Serve.ensures.words c.answer_serve.ensures)
 
 pub returns-in-Err-clause-one : goal.returns-in-Err-clause-one
-returns-in-Err-clause-one g c = inl (inr (inr (refl, inr c.show.ensures.shown)))
+returns-in-Err-clause-one g c = inl (inr (refl, inr c.show.ensures.shown))
 
-pub returns-in-Ok-Script-clause-load : goal.returns-in-Ok-Script-clause-load
-returns-in-Ok-Script-clause-load g c = λ name given w n r t whole words.
-    absurd (subst (λ (o : Order). IsLoadOf w n r t (Ok o)) c.in-Ok-Script.field-0-is (c.in-Ok-Script.ensures.load name given w n r t whole words))
-
-pub returns-in-Ok-Replay-clause-load : goal.returns-in-Ok-Replay-clause-load
-returns-in-Ok-Replay-clause-load g c = λ name given w n r t whole words.
-    absurd (subst (λ (o : Order). IsLoadOf w n r t (Ok o)) c.in-Ok-Replay.field-0-is (c.in-Ok-Replay.ensures.load name given w n r t whole words))
+pub returns-in-Ok-Text-clause-load : goal.returns-in-Ok-Text-clause-load
+returns-in-Ok-Text-clause-load g c = λ name given w n r t whole words.
+    absurd (subst (λ (o : Order). IsLoadOf w n r t (Ok o)) c.in-Ok-Text.field-0-is (c.in-Ok-Text.ensures.load name given w n r t whole words))
 
 pub returns-in-Ok-Serve-clause-load : goal.returns-in-Ok-Serve-clause-load
 returns-in-Ok-Serve-clause-load g c = λ name given w n r t whole words.

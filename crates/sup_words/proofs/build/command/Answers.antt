@@ -1,4 +1,4 @@
--- The program has its four commands.
+-- The program has its five commands.
 use Rattle.std.proofs.Common.{◌≡◌, ◌∙◌, true, ap, ap₂, codes}
 use Rattle.std.proofs.lemmas.Result.{IfOk-weaker}
 use Rattle.clap.specs.Simple.{app_of_fields, on_top}
@@ -24,9 +24,11 @@ returns c =
     let start : app_of c.subcommand_required.result ≡ bare_app = ap app_of_fields c.subcommand_required.ensures ∙ ap asking told in
     let script = c.in_ok-text_command.ensures in
     let replay = c.in_ok-text_command-2.ensures in
+    let journal = c.in_ok-journal_command.ensures in
     let load = c.in_ok-load_command.ensures in
     let serve = c.in_ok-serve_command.ensures in
     let one = c.in_ok-subcommand.ensures.shape script.1 ∙ ap₂ with_subcommand start (ap top_of script.0) in
     let two = c.in_ok-subcommand-2.ensures.shape replay.1 ∙ ap₂ with_subcommand one (ap top_of replay.0) in
-    let three = c.in_ok-subcommand-3.ensures.shape load.1 ∙ ap₂ with_subcommand two (ap top_of load.0) in
-    IfOk-weaker c.subcommand-4.result _ _ (λ r h. h.shape serve.1 ∙ ap₂ with_subcommand three (ap top_of serve.0)) c.subcommand-4.ensures
+    let three = c.in_ok-subcommand-3.ensures.shape journal.1 ∙ ap₂ with_subcommand two (ap top_of journal.0) in
+    let four = c.in_ok-subcommand-4.ensures.shape load.1 ∙ ap₂ with_subcommand three (ap top_of load.0) in
+    IfOk-weaker c.subcommand-5.result _ _ (λ r h. h.shape serve.1 ∙ ap₂ with_subcommand four (ap top_of serve.0)) c.subcommand-5.ensures

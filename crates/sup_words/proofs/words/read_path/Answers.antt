@@ -1,8 +1,8 @@
--- The path is the option's text.
-use Rattle.std.proofs.Common.{◌∙◌, codes}
+-- The path is the text of that name.
+use Rattle.std.proofs.Common.{◌∙◌}
 use Rattle.clap.specs.Words.{found_of}
 use Rattle.clap.proofs.WalkLemmas.{first_value-rows}
 use Rattle.sup_words.proofs.words.read_path.Goals as goal
 
 pub returns : goal.returns
-returns c = c.get_str.ensures ∙ first_value-rows (found_of c.args.words.now) (codes "journal")
+returns c = c.get_str.ensures ∙ first_value-rows (found_of c.args.words.now) c.args.name.now

@@ -2,4 +2,4 @@
 use Rattle.sup_script.proofs.runs.answer.answer_history.Goals as goal
 
 pub returns : goal.returns
-returns g c = record { outcome = c.replay_with_line-outcome.result; replay = c.replay_with_line-outcome.ensures.replay; cause = c.replay_with_line-outcome.ensures.cause; status_is = c.told-status.ensures }
+returns g c = record { outcome = c.replay_with_line-outcome.result; replay = c.replay_with_line-outcome.ensures.replay; cause = c.replay_with_line-outcome.ensures.cause; status_is = c.tell.ensures }

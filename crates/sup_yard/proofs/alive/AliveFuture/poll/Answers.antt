@@ -1,5 +1,5 @@
 use Rattle.std.specs.Prelude.{Ok}
-use Rattle.sup_yard.proofs.Outboxes.{ended_for}
+use Rattle.sup_yard.proofs.Ending.{ended_for}
 use Rattle.sup_yard.proofs.alive.AliveFuture.poll.Goals as goal
 
 pub returns-in-Pending-clause-again : goal.returns-in-Pending-clause-again
@@ -7,7 +7,7 @@ returns-in-Pending-clause-again g c =
     let may = rw c.in-Some.is at c.requires in
     (c.in-Pending.ensures.again, λ reason given. may.1 reason (c.in-Pending.ensures.same (Ok reason) given))
 
-pub pay-requires : goal.pay-requires
-pay-requires g c =
+pub exited-requires : goal.exited-requires
+exited-requires g c =
     let may = rw c.in-Some.is at c.requires in
-    ended_for g.B.Child.Future.gives g.I.Office.may_end c.in-Some.child.task c.in-Ready.ended c.reason_of.result may.1 c.in-Ready.ensures.value c.reason_of.ensures
+    ended_for g.B.Child.Future.gives g.I.Office.may_end c.in-Some.child.task c.in-Ready.ended c.end_of.result.reason may.1 c.in-Ready.ensures.value c.end_of.ensures

@@ -2,5 +2,5 @@
 use Rattle.std.proofs.Common.{rules}
 use Rattle.sup_yard.proofs.yard.Yard+I+B+P+Alive+I+B+P.spawn.Goals as goal
 
-pub pay-requires : goal.pay-requires
-pay-requires g c = search rules
+pub exited-requires : goal.exited-requires
+exited-requires g c = search rules

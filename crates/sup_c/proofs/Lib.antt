@@ -1,0 +1,3 @@
+pub mod AsBox
+pub mod Written
+pub mod Opened

@@ -1,0 +1,6 @@
+pub mod Spelled
+pub mod Told
+pub mod Shelves
+pub mod Seals
+pub mod Held
+pub mod Answers

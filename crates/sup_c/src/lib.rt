@@ -1,0 +1,236 @@
+//! The supervisor of one thread for programs in C, Rust and other languages, as a static library.
+//!
+//! C holds a [`held::Held`], which begins as zeros, and hands it to each call by its address, one call at a time. Each call answers
+//! a fault's number, or 0, and tests all that it is given. `ffi/` has the header, and what a program in Rust or Python calls.
+#![tactic(auto)]
+
+ghost use Rattle.std.specs.Prelude.{◌≡◌, ◌≢◌, ◌⊎◌, ◌++◌, ◌∷◌, [], length, true, false};
+ghost use Rattle.sup_core.specs.Replies.{reply_to, asked_argument};
+ghost use Rattle.sup_core.specs.Account.{IsAfter, reply_after, state_after};
+ghost use Rattle.sup_core.specs.Queries.{which, count, child};
+ghost use Rattle.sup_format.specs.Writing.HistoryTexts.{entry_line, SpellsOneMore};
+ghost use Rattle.sup_c.specs.Spelled.{spelled_operation, spelled_entry, IsSpelledEntry, IsTemplateOf};
+ghost use Rattle.sup_c.specs.Told.{told_asked, told_reply, told_counts, told_child};
+ghost use Rattle.sup_c.specs.Shelves.{row_seen, listed_at};
+ghost use Rattle.sup_c.specs.Held.{state_of, shelf_of, listed_of, none_listed, stepped, IsKept, AfterEach};
+ghost use Rattle.sup_c.specs.Answers.{AnswersOpening, AnswersWhileOpen, AnswersAsk, AnswersStep, AnswersRow, AnswersWriting, IsWritten, ReadsEntry, ReadsNone};
+
+mod c;
+mod held;
+
+use c::{CCounts, CEntry, CReply, CRow, CText};
+use held::{Held, Shelf};
+use std::alloc::Global;
+use sup_core::Sup;
+use sup_format::{append_entry, begin_history, next_entry};
+use sup_types::Seen;
+
+/// The numbers of the faults (docs/FORMATS.md). 0 is none.
+const DONE: u32 = 0;
+
+const OUT_OF_MEMORY: u32 = 1;
+
+const HISTORY_FULL: u32 = 2;
+
+const BAD_TEMPLATE: u32 = 7;
+
+const BAD_LINE: u32 = 9;
+
+const TOO_LONG: u32 = 12;
+
+const BAD_HANDLE: u32 = 15;
+
+/// Returns the version, of 0.1.0 as 100.
+#[unsafe(no_mangle)]
+pub extern "C" fn sup_version() -> u32
+    ensures { result ≡ 100 }
+{
+    100
+}
+
+/// Opens a supervisor of the template that the first line of a history text gives, with at most this many entries.
+#[unsafe(no_mangle)]
+pub extern "C" fn sup_open(held: &mut Held, heap: Global, text: &[u8], entries: u64) -> u32
+    ensures answer { AnswersOpening held.old text.now entries result }
+    ensures opened { result ≡ 0 → (held.new.is_open ≡ true) × IsAfter (state_of held.new) [] × (listed_of held.new ≡ none_listed) }
+    ensures template { result ≡ 0 → IsTemplateOf (state_of held.new).template text.now entries }
+    ensures kept { result ≢ 0 → held.new ≡ held.old }
+{
+    if held.is_open {
+        return BAD_HANDLE;
+    }
+    let mut template = match begin_history(text) {
+        Ok((template, _)) => template,
+        Err(fault) => return u32::from(fault.number()),
+    };
+    if !(1..=1 << 62).contains(&entries) {
+        return BAD_TEMPLATE;
+    }
+    template.entries = entries;
+    let Ok(sup) = Sup::new(heap, template) else {
+        return OUT_OF_MEMORY;
+    };
+    let listed = Seen::Up(Vec::new(heap));
+    let Ok(shelf) = Box::new(heap, Shelf { sup, listed }) else {
+        return OUT_OF_MEMORY;
+    };
+    *held = Held::of(shelf);
+    DONE
+}
+
+/// Closes a supervisor, and gives its memory back. The handle may be opened again.
+#[unsafe(no_mangle)]
+pub extern "C" fn sup_close(held: &mut Held, heap: Global) -> u32
+    ensures answer { AnswersWhileOpen held.old result }
+    ensures closed { held.new.is_open ≡ false }
+{
+    if !held.is_open {
+        return BAD_HANDLE;
+    }
+    drop(held.take(heap));
+    DONE
+}
+
+/// Tells the argument that an entry with this operation and moment asks the start function about, or no text.
+#[unsafe(no_mangle)]
+pub extern "C" fn sup_asks(held: &mut Held, heap: Global, entry: &CEntry, asked: &mut CText) -> u32
+    ensures answer { AnswersAsk held.old entry.now result }
+    ensures history { result ≡ 0 → AfterEach held.old (λ template history.
+        asked.new ≡ told_asked (asked_argument (state_after template history) (spelled_operation entry.now) entry.now.moment)) }
+    ensures kept { IsKept held.old held.new × (result ≢ 0 → asked.new ≡ asked.old) }
+{
+    if !held.is_open {
+        return BAD_HANDLE;
+    }
+    let Some(operation) = c::operation_of(entry) else {
+        return BAD_LINE;
+    };
+    let shelf = held.take(heap);
+    *asked = match shelf.sup.wants_answer(&operation, entry.moment) {
+        Some(argument) => c::told_text(argument.bytes()),
+        None => c::told_text(b""),
+    };
+    *held = Held::of(shelf);
+    DONE
+}
+
+/// Enters an entry, with what the start function answered, and tells the reply.
+#[unsafe(no_mangle)]
+pub extern "C" fn sup_step(held: &mut Held, heap: Global, entry: &CEntry, reply: &mut CReply) -> u32
+    ensures answer { AnswersStep held.old entry.now result }
+    ensures step { result ≡ 0 → (reply.new ≡ told_reply (reply_to (state_of held.old) (spelled_entry entry.now)))
+        × (shelf_of held.new ≡ stepped (shelf_of held.old) (spelled_entry entry.now)) }
+    ensures history { result ≡ 0 → AfterEach held.old (λ template history. (reply.new ≡ told_reply (reply_after template history (spelled_entry entry.now)))
+        × IsAfter (state_of held.new) (history ++ spelled_entry entry.now ∷ [])) }
+    ensures kept { (result ≢ 0 → (shelf_of held.new ≡ shelf_of held.old) × (reply.new ≡ reply.old)) × (held.new.is_open ≡ held.old.is_open) }
+{
+    if !held.is_open {
+        return BAD_HANDLE;
+    }
+    let Some(entry) = c::entry_of(entry) else {
+        return BAD_LINE;
+    };
+    let mut shelf = held.take(heap);
+    if shelf.sup.is_spent() {
+        *held = Held::of(shelf);
+        return HISTORY_FULL;
+    }
+    *reply = c::told_reply(shelf.sup.step(&entry));
+    *held = Held::of(shelf);
+    DONE
+}
+
+/// Tells how many children and entries there are, and whether the supervisor is down.
+#[unsafe(no_mangle)]
+pub extern "C" fn sup_count(held: &mut Held, heap: Global, counts: &mut CCounts) -> u32
+    ensures answer { AnswersWhileOpen held.old result }
+    ensures history { result ≡ 0 → AfterEach held.old (λ template history. counts.new ≡ told_counts (length history) (count template history)) }
+    ensures kept { IsKept held.old held.new × (result ≢ 0 → counts.new ≡ counts.old) }
+{
+    if !held.is_open {
+        return BAD_HANDLE;
+    }
+    let shelf = held.take(heap);
+    *counts = c::told_counts(shelf.sup.stamp(), shelf.sup.counts());
+    *held = Held::of(shelf);
+    DONE
+}
+
+/// Tells the child with this number.
+#[unsafe(no_mangle)]
+pub extern "C" fn sup_child(held: &mut Held, heap: Global, number: u64, row: &mut CRow) -> u32
+    ensures answer { AnswersWhileOpen held.old result }
+    ensures history { result ≡ 0 → AfterEach held.old (λ template history. row.new ≡ told_child (child template history number)) }
+    ensures kept { IsKept held.old held.new × (result ≢ 0 → row.new ≡ row.old) }
+{
+    if !held.is_open {
+        return BAD_HANDLE;
+    }
+    let shelf = held.take(heap);
+    *row = c::told_child(shelf.sup.child(number));
+    *held = Held::of(shelf);
+    DONE
+}
+
+/// Tells the child with this index, from 0 on, among those that were listed last, by ascending numbers. Index 0 lists them anew.
+#[unsafe(no_mangle)]
+pub extern "C" fn sup_row(held: &mut Held, heap: Global, index: u64, row: &mut CRow) -> u32
+    ensures answer { AnswersRow held.old index result }
+    ensures row { result ≡ 0 → (row.new ≡ told_child (row_seen (listed_of held.new) index))
+        × (listed_of held.new ≡ listed_at index (state_of held.old) (listed_of held.old)) }
+    ensures history { result ≡ 0 → index ≡ 0 → AfterEach held.old (λ template history. listed_of held.new ≡ which template history) }
+    ensures kept { (held.new.is_open ≡ held.old.is_open) × (state_of held.new ≡ state_of held.old) × (result ≢ 0 → IsKept held.old held.new × (row.new ≡ row.old)) }
+{
+    if !held.is_open {
+        return BAD_HANDLE;
+    }
+    let mut shelf = held.take(heap);
+    if index == 0 {
+        let Ok(listed) = shelf.sup.rows() else {
+            *held = Held::of(shelf);
+            return OUT_OF_MEMORY;
+        };
+        shelf.listed = listed;
+    }
+    *row = c::told_row(&shelf.listed, index);
+    *held = Held::of(shelf);
+    DONE
+}
+
+/// Writes an entry as a line of a history text into a room, and tells its length.
+#[unsafe(no_mangle)]
+pub extern "C" fn sup_write_entry(heap: Global, entry: &CEntry, to: &mut [u8], len: &mut u64) -> u32
+    ensures answer { AnswersWriting entry.now (length to.old) result }
+    ensures written { result ≡ 0 → IsWritten (entry_line (spelled_entry entry.now)) to.old to.new len.new
+        × SpellsOneMore (entry_line (spelled_entry entry.now)) (spelled_entry entry.now) }
+    ensures kept { result ≢ 0 → (to.new ≡ to.old) × (len.new ≡ len.old) }
+{
+    let Some(entry) = c::entry_of(entry) else {
+        return BAD_LINE;
+    };
+    let mut line = Vec::new(heap);
+    if append_entry(&entry, &mut line).is_err() {
+        return OUT_OF_MEMORY;
+    }
+    if line.len() > to.len() {
+        return TOO_LONG;
+    }
+    to[..line.len()].copy_from_slice(&line);
+    *len = line.len() as u64;
+    DONE
+}
+
+/// Reads the entry of the first line of a text, which ends with a line feed, and tells the length of that line.
+#[unsafe(no_mangle)]
+pub extern "C" fn sup_read_entry(text: &[u8], entry: &mut CEntry, len: &mut u64) -> u32
+    ensures answer { (result ≡ 0) ⊎ (result ≡ 9) }
+    ensures read { result ≡ 0 → ReadsEntry text.now entry.new len.new }
+    ensures kept { result ≢ 0 → ReadsNone text.now × (entry.new ≡ entry.old) × (len.new ≡ len.old) }
+{
+    let Some((read, rest)) = next_entry(text) else {
+        return BAD_LINE;
+    };
+    *entry = c::told_entry(&read);
+    *len = (text.len() - rest.len()) as u64;
+    DONE
+}

@@ -1,0 +1,76 @@
+//! Desks whose journal is a file, for programs that write no proof: the name is picked here.
+ghost use Rattle.std.specs.Prelude.{◌≡◌, IfOk};
+ghost use Rattle.sup_desk.specs.Journals.{HasJust};
+
+use crate::flushing::Flush;
+use crate::opening::{FileJournal, OpenFault, continue_journal, open_file};
+use crate::origin::Unknown;
+use crate::synced::Synced;
+use crate::text_journal::TextJournal;
+use std::alloc::Global;
+use std::fs::{Files, OpenFile};
+use std::io::{Read, Write};
+use std::marker::Brand;
+use std::sync::Wait;
+use sup_desk::{Closed, Ground, Journal, JournaledProgram, Name, Recovered, Recovery};
+use sup_types::{Starter, Template};
+
+/// Makes a desk whose journal is the file at this path, runs the program on it and closes it. Returns the program's outcome, and
+/// the journal with a ticket for all of the history. The desk continues the history that the file has, and the file is made if
+/// there is none ([`open_journal`](crate::open_journal)). From then on each update is in the file before anyone sees it, flushed as
+/// `flush` says. The desk has 1 to 1,024 handles, including those of the history. Its caller writes no proof.
+///
+/// # Errors
+/// Those of [`open_journal`](crate::open_journal), and `Desk` if no desk is made. The program is not run then.
+pub fn on_desk_in_file<S, R, P>(
+    rt: &R,
+    alloc: Global,
+    path: &str,
+    flush: Flush,
+    template: Template,
+    handles: u64,
+    starter: S,
+    program: P,
+) -> Result<(P::Outcome, Closed<FileJournal<R::File>>), OpenFault>
+where
+    S: Starter + Drop,
+    R: Wait + Files,
+    P: JournaledProgram<S, R, FileJournal<R::File>> + Drop,
+    ensures { IfOk result (λ p. HasJust (⟦<TextJournal<Unknown, Synced<R::File>, Global> as Journal>⟧.has p.1.journal template)
+        (⟦<TextJournal<Unknown, Synced<R::File>, Global> as Journal>⟧.is_torn p.1.journal template)
+        ⟦<TextJournal<Unknown, Synced<R::File>, Global> as Journal>⟧.may_fail p.1.fault p.1.ticket.front) }
+{
+    let file = open_file(rt, path)?;
+    let ground = Ground::new(alloc, rt, template, handles)?;
+    run_named::<Brand, S, R, R::File, P>(rt, alloc, file, flush, template, ground, starter, program)
+}
+
+/// Runs the program on a desk of this ground, which N names, and whose journal is this file.
+fn run_named<N, S, R, F, P>(
+    rt: &R,
+    alloc: Global,
+    file: F,
+    flush: Flush,
+    template: Template,
+    ground: Ground<&R>,
+    starter: S,
+    program: P,
+) -> Result<(P::Outcome, Closed<FileJournal<F>>), OpenFault>
+where
+    N: Name + Send + Sync,
+    S: Starter + Drop,
+    R: Wait,
+    F: Read + Write + OpenFile + Drop,
+    P: JournaledProgram<S, R, FileJournal<F>> + Drop,
+    requires name { (ground.press ≡ N.press) × (ground.template ≡ N.template) × (ground.roll ≡ N.roll) }
+    requires template { template ≡ N.template }
+    ensures { IfOk result (λ p. HasJust (⟦<TextJournal<Unknown, Synced<F>, Global> as Journal>⟧.has p.1.journal N.template)
+        (⟦<TextJournal<Unknown, Synced<F>, Global> as Journal>⟧.is_torn p.1.journal N.template)
+        ⟦<TextJournal<Unknown, Synced<F>, Global> as Journal>⟧.may_fail p.1.fault p.1.ticket.front) }
+{
+    let mut recovery: Recovery<N, &R> = Recovery::begin(ground)?;
+    let journal = continue_journal(alloc, file, &template, &mut recovery)?;
+    let Recovered { desk, callers, .. } = recovery.finish(starter, journal.with_flush(flush));
+    let outcome = program.run(rt, &desk, callers);
+    Ok((outcome, desk.close()))
+}

@@ -1,0 +1,27 @@
+//! Offices: what the exits of one crew have in common.
+use std::marker::Brand;
+
+/// Names a ledger, and says how many places it has, and for which reasons the children may end whose exits are told. A value
+/// behind a lock is known by its type alone, so the type says in which ledger it stands.
+pub trait Office {
+    ghost use Rattle.std.specs.Prelude.{ℕ, Bool};
+    ghost use Rattle.atomic_table.specs.Seated.{TableId};
+    ghost use Rattle.sup_types.specs.declared.reason.Reason.{Reason};
+
+    ghost ledger: { TableId };
+
+    ghost places: { ℕ };
+
+    ghost may_end: { Reason → Bool };
+}
+
+impl Office for Brand {
+    ghost use Rattle.std.specs.Prelude.{true};
+    ghost use Rattle.sup_ledger.specs.Offices.{no_table};
+
+    ghost ledger = { no_table };
+
+    ghost places = { 0 };
+
+    ghost may_end = { λ reason. true };
+}

@@ -1,0 +1,6 @@
+-- What the closure asks to be sent is what the bounds of the function say.
+use denote.Param.Send.{sendable}
+use Rattle.sup_live.proofs.threads.run_threads.Goals as goal
+
+pub scoped-requires : goal.scoped-requires
+scoped-requires g c = record { at = λ _. (search sendable, search sendable) }

@@ -1,0 +1,180 @@
+//! Clients of a live crew, and what is done with one.
+ghost use Rattle.std.specs.Prelude.{◌≡◌, ◌<◌, ◌⊎◌, ◌↔◌, ℕ, [], ◌∷◌, length, IfOk, IfErr, IfSome, MatchResult, OnErr, IsOk, IsTrue};
+ghost use mathlib.Core.List.{IsPrefix};
+ghost use Rattle.sup_core.specs.State.{MatchSeen};
+ghost use Rattle.sup_core.specs.Queries.{which, count, child};
+ghost use Rattle.sup_log.specs.Tokens.{sight, history_of};
+ghost use Rattle.sup_desk.specs.Asking.{IsAnswered};
+ghost use Rattle.sup_desk.specs.Knowledge.{IsUpdated, entries_of};
+ghost use Rattle.sup_desk.specs.declared.journal.JournalFault.{JournalFault as Fault};
+ghost use Rattle.sup_desk.specs.Results.{IsUpdateResult};
+ghost use Rattle.sup_yard.specs.Starts.{given_back, started_as};
+ghost use Rattle.sup_live.specs.Clients.{HasAsked};
+
+use crate::started::{NotStarted, Started};
+use std::time::Duration;
+use sup_desk::{Done, HandleFault, QueryFault, UpdateFault};
+use sup_log::{Ticket, View};
+use sup_types::{Counts, Operation, Row, Seen, Text};
+use sup_yard::{Behaviour, ChildRef};
+
+/// A client of a live crew whose children do what `B` says. It starts children, sends to them, ends them and asks about them, and it
+/// stays in its thread. Its updates are entered at the moment of the crew's clock, and wait for the desk's lock. Its queries take no
+/// lock and never wait.
+///
+/// A client knows a front of the history: all that it has seen, learnt or done. An update is answered at the end of a front that
+/// begins with it, and so is a query. A refused update leaves the history and every published answer as they were. A journal that
+/// breaks off refuses the update and all later ones.
+pub trait LiveClient<B: Behaviour>: Drop {
+    ghost use Rattle.std.specs.Prelude.{ℕ};
+    ghost use Rattle.logbook.specs.Pages.{Book};
+    ghost use Rattle.sup_types.specs.declared.text.Text.{Text};
+    ghost use Rattle.sup_types.specs.declared.history.Answer.{Answer};
+    ghost use Rattle.sup_types.specs.declared.template.Template.{Template};
+    ghost use Rattle.sup_desk.specs.Knowledge.{Knowledge};
+    ghost use Rattle.sup_desk.specs.declared.journal.JournalFault.{JournalFault};
+
+    /// Which supervisor it is of.
+    ghost press: { Book };
+
+    /// The template of its children.
+    ghost template: { Template };
+
+    /// What the start function may answer to an argument at a moment.
+    ghost may_answer: { Text → ℕ → Answer → Type 0 };
+
+    /// How the journal may fail.
+    ghost may_fail: { JournalFault → Type 0 };
+
+    /// What it knows: its number, its front, and the updates that it made.
+    ghost knows: { Self → Knowledge };
+
+    /// Returns the number of its handle: 1, 2, 3, .. in the order of making.
+    fn number(&self) -> u64
+        ensures { result ≡ (knows self.now).number };
+
+    /// Returns the length of its front, in entries. It asks nothing.
+    fn front(&self) -> u64
+        ensures front { result ≡ length (knows self.now).front }
+        ensures whole { (knows self.now).front ≡ history_of (knows self.now).editions };
+
+    /// Starts a child with this argument, which owns this. At `Started` it runs, and is sent to by its address. Room for its exit
+    /// is made first. What it was to own comes back if no child was made.
+    fn start_child(&mut self, arg: Text, own: B::Own) -> Result<Started<B>, NotStarted<B::Own>>
+        ensures ok { IfOk result (λ d. (moment : ℕ) × IsUpdated may_answer template press (knows self.old) (Operation.Start arg) moment (record { number = (knows self.new).number; editions = d.ticket.editions; front = d.ticket.front; calls = (knows self.new).calls }) d.reply d.ticket) }
+        ensures seen { IfOk result (λ d. IsPrefix d.ticket.front (knows self.new).front) }
+        ensures child { IfOk result (λ d. IfSome d.child (λ address. started_as d.reply ≡ address.number ∷ [])) }
+        ensures own { MatchResult result (λ d. d.own ≡ given_back own d.reply) (λ e. e.own ≡ own) }
+        ensures front { IsPrefix (knows self.old).front (knows self.new).front }
+        ensures calls { OnErr result (((knows self.new).calls ≡ (knows self.old).calls) × ((knows self.new).number ≡ (knows self.old).number)) }
+        ensures gone { IfErr result (λ e. e.fault ≡ UpdateFault.Gone → ⊥) }
+        ensures full { IfErr result (λ e. e.fault ≡ UpdateFault.HistoryFull → (length (knows self.new).front ≡ template.entries) × (entries_of (knows self.new).front (knows self.new).number ≡ (knows self.new).calls)) }
+        ensures room { IfErr result (λ e. e.fault ≡ UpdateFault.OutOfMemory → (knows self.new ≡ knows self.old) ⊎ (length (knows self.new).front < template.entries)) }
+        ensures journal { IfErr result (λ e. (f : Fault) → e.fault ≡ UpdateFault.Journal f → may_fail f) };
+
+    /// Ends the child with this number. At `Ended` it is told to end, and is let go when its grace is over. Its exit is entered
+    /// later, and changes nothing.
+    fn terminate_child(&mut self, number: u64) -> Result<Done, UpdateFault>
+        ensures result { (moment : ℕ) × IsUpdateResult may_answer template press (knows self.old) (Operation.Terminate number) moment (knows self.new) result }
+        ensures journal { IfErr result (λ e. (f : Fault) → e ≡ UpdateFault.Journal f → may_fail f) };
+
+    /// Ends the child as [`LiveClient::terminate_child`] does, and at `Ended` returns once the child is gone, as OTP's does. Until
+    /// then the thread sleeps: for as long as the child goes on, at most until it is let go when its grace is over, or when
+    /// the crew closes. It does not wait for a child that another thread has yet to make, which is told to end as soon as it
+    /// is there. A child has no client, so none can wait for its own end. One whose `poll` waits for this thread would.
+    fn terminate_child_and_wait(&mut self, number: u64) -> Result<Done, UpdateFault>
+        ensures result { (moment : ℕ) × IsUpdateResult may_answer template press (knows self.old) (Operation.Terminate number) moment (knows self.new) result }
+        ensures journal { IfErr result (λ e. (f : Fault) → e ≡ UpdateFault.Journal f → may_fail f) };
+
+    /// Ends all children, and the supervisor. They are told to end.
+    fn stop(&mut self) -> Result<Done, UpdateFault>
+        ensures result { (moment : ℕ) × IsUpdateResult may_answer template press (knows self.old) Operation.Stop moment (knows self.new) result }
+        ensures journal { IfErr result (λ e. (f : Fault) → e ≡ UpdateFault.Journal f → may_fail f) };
+
+    /// Sends to the child with this number. The message comes back if no such child is alive, if it was told to end, or if memory
+    /// runs out.
+    fn send(&self, number: u64, message: B::Message) -> Result<(), B::Message>;
+
+    /// Returns the address of the child with this number, if it is alive. What is sent by it takes no lock of the crew.
+    fn address(&self, number: u64) -> Option<ChildRef<B::Message>>
+        ensures { IfSome result (λ address. address.number ≡ number) };
+
+    /// Returns how many children there are at one front, which begins with all that the client had seen, learnt or done.
+    fn count_children(&mut self) -> Result<Seen<Counts>, sup_log::Gone>
+        ensures asked { HasAsked (knows self.old) (knows self.new) }
+        ensures answer { IfOk result (λ answer. answer ≡ count template (knows self.new).front) };
+
+    /// Returns whether the supervisor is down at such a front: it gave up, shut down or was stopped. It never goes up again.
+    fn is_down(&mut self) -> Result<bool, sup_log::Gone>
+        ensures asked { HasAsked (knows self.old) (knows self.new) }
+        ensures answer { IfOk result (λ down. IsTrue down ↔ (count template (knows self.new).front ≡ Seen.Down)) };
+
+    /// Sleeps until the counts are not these, the supervisor is down, or the time has passed. Returns the counts at a front as that of
+    /// [`LiveClient::count_children`]. Each update, and each exit that is entered, wakes it to look. A clock that can't be read ends
+    /// the wait.
+    fn await_change(
+        &mut self,
+        seen: Seen<Counts>,
+        limit: Duration,
+    ) -> Result<Seen<Counts>, sup_log::Gone>
+        ensures asked { HasAsked (knows self.old) (knows self.new) }
+        ensures answer { IfOk result (λ answer. answer ≡ count template (knows self.new).front) };
+
+    /// Returns the listed child with this number at such a front.
+    fn child(&mut self, number: u64) -> Result<Seen<Option<Row>>, sup_log::Gone>
+        ensures asked { HasAsked (knows self.old) (knows self.new) }
+        ensures answer { IfOk result (λ answer. answer ≡ child template (knows self.new).front number) };
+
+    /// Returns the listed children at such a front, by ascending numbers.
+    fn which_children(&mut self) -> Result<Seen<Vec<Row>>, QueryFault>
+        ensures asked { HasAsked (knows self.old) (knows self.new) }
+        ensures answer { IfOk result (λ seen. MatchSeen seen (λ rows. which template (knows self.new).front ≡ Seen.Up rows.items) (which template (knows self.new).front ≡ Seen.Down)) };
+
+    /// Calls `f` once on a view at such a front, and not at all if the supervisor is down. `f` may make no update and no client,
+    /// which would wait for this look.
+    fn inspect<T, G: FnOnce(&View) -> T>(&mut self, f: G) -> Result<Seen<T>, sup_log::Gone>
+        requires { G.IsAlwaysCallable f }
+        ensures asked { HasAsked (knows self.old) (knows self.new) }
+        ensures answer { let view = sight (record { press = press; template = template; editions = (knows self.new).editions; front = (knows self.new).front })
+            in IfOk result (λ seen. IsAnswered G.FnOnce f view view.standing.down seen) };
+
+    /// Lets each later front begin with the ticket's, which is of the same supervisor. It enters nothing and always succeeds.
+    fn learn(&mut self, ticket: &Ticket) -> Result<(), sup_log::Gone>
+        requires { ticket.now.press ≡ press }
+        ensures answered { IsOk result }
+        ensures asked { HasAsked (knows self.old) (knows self.new) }
+        ensures learnt { IsPrefix ticket.now.front (knows self.new).front × IsPrefix ticket.now.editions (knows self.new).editions };
+
+    /// Returns another client of the crew, which has made no update.
+    fn another(&self) -> Result<Self, HandleFault>
+    where
+        Self: Sized,
+        ensures { IfOk result (λ other. (knows other).calls ≡ []) };
+
+    /// Lets the children that are listed when the crew closes stay listed: the supervisor is not stopped, they are told to end, and
+    /// their exits are among those that were not entered. A later crew over the same history runs them again.
+    fn keep_children(&self);
+
+    /// Lets the crew close: its supervisor stops, unless the children are kept, and all children end.
+    fn close(&self);
+}
+
+/// What is done with a live crew whose children do what `B` says: in the thread that runs the crew or, by a peer, in a thread of its own.
+pub trait Program<B: Behaviour> {
+    /// What comes of it.
+    type Outcome: Drop;
+
+    /// Uses the client, from which others can be made. They stay in this thread. Once the program and all peers have returned, the
+    /// crew closes. One that is to end it earlier closes its client: then the supervisor stops, which the others see.
+    fn run<C: LiveClient<B>>(self, client: &mut C) -> Self::Outcome;
+}
+
+/// The program of nobody: the peers of a crew that has none.
+#[derive(Clone, Copy, Debug)]
+pub struct Nobody;
+
+impl<B: Behaviour> Program<B> for Nobody {
+    type Outcome = ();
+
+    fn run<C: LiveClient<B>>(self, _client: &mut C) {}
+}

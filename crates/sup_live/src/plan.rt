@@ -1,0 +1,101 @@
+//! How a crew runs, and why it did not.
+use std::alloc::AllocError;
+use std::time::Duration;
+use sup_desk::{DeskFault, HandleFault, RecoverFault};
+use sup_types::OutOfMemory;
+use thiserror::Error;
+
+/// How a crew runs.
+#[derive(Clone, Copy, Debug)]
+pub struct Plan {
+    /// How many threads run children: 1 to 64.
+    pub workers: usize,
+    /// After which time a restart that failed is tried again.
+    pub retry_after: Duration,
+    /// For how long a child may go on after it was told to end, as OTP's `shutdown` time. With 0 it is let go at once, as by OTP's
+    /// `brutal_kill`.
+    pub grace: Duration,
+    /// For how many more clients and askers a desk of the crew's own has places, beside the program's client and those of the peers.
+    /// Each place costs each update a little.
+    pub places: u64,
+}
+
+/// Why a crew did not run. Nothing was entered, and the program was not run.
+#[derive(Clone, Copy, Debug, PartialEq, Eq, Error)]
+pub enum LiveFault {
+    /// A growth was refused.
+    #[error("out of memory")]
+    OutOfMemory,
+    /// The plan has not 1 to 64 workers.
+    #[error("a crew has 1 to 64 workers")]
+    BadWorkers,
+    /// No worker, or no thread for the driver, could be started.
+    #[error("no worker, or no thread for the driver, could be started")]
+    NoThread,
+    /// The desk has not enough handles left: a crew takes two.
+    #[error("the desk has fewer handles left than the two that a crew takes")]
+    NoHandle,
+    /// All places for lenses are taken.
+    #[error("no place for a lens is left")]
+    NoPlace,
+    /// The desk could not continue from the history that was given.
+    #[error("the crew could not continue from the history: {0}")]
+    History(RecoverFault),
+}
+
+impl LiveFault {
+    ghost use Rattle.std.specs.Prelude.{◌≡◌};
+    ghost use Rattle.sup_live.specs.Faults.{live_crew_fault_number};
+
+    /// Returns the number of this fault.
+    pub fn number(&self) -> u8
+        ensures { result ≡ live_crew_fault_number self.now }
+    {
+        match self {
+            Self::OutOfMemory | Self::NoThread => 1,
+            Self::NoHandle => 5,
+            Self::NoPlace => 6,
+            Self::BadWorkers => 7,
+            Self::History(fault) => fault.number(),
+        }
+    }
+}
+
+impl From<OutOfMemory> for LiveFault {
+    fn from(_fault: OutOfMemory) -> Self {
+        LiveFault::OutOfMemory
+    }
+}
+
+impl From<AllocError> for LiveFault {
+    fn from(_fault: AllocError) -> Self {
+        LiveFault::OutOfMemory
+    }
+}
+
+impl From<HandleFault> for LiveFault {
+    fn from(fault: HandleFault) -> Self {
+        match fault {
+            HandleFault::NoHandle => LiveFault::NoHandle,
+            HandleFault::NoPlace => LiveFault::NoPlace,
+        }
+    }
+}
+
+impl From<DeskFault> for LiveFault {
+    fn from(fault: DeskFault) -> Self {
+        match fault {
+            DeskFault::OutOfMemory => Self::OutOfMemory,
+            DeskFault::BadTemplate => Self::NoHandle,
+        }
+    }
+}
+
+impl From<RecoverFault> for LiveFault {
+    fn from(fault: RecoverFault) -> Self {
+        match fault {
+            RecoverFault::OutOfMemory => LiveFault::OutOfMemory,
+            _ => LiveFault::History(fault),
+        }
+    }
+}

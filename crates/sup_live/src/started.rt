@@ -1,0 +1,48 @@
+//! What came of a start.
+ghost use Rattle.std.specs.Prelude.{◌≡◌};
+
+use std::fmt;
+use sup_desk::UpdateFault;
+use sup_log::Ticket;
+use sup_types::Reply;
+use sup_yard::{Behaviour, ChildRef};
+use thiserror::Error;
+
+/// A start that was entered: its reply, a ticket for the history up to and with it, and the address of the child, if one runs.
+#[derive(Drop)]
+pub struct Started<B: Behaviour> {
+    /// The reply.
+    pub reply: Reply,
+    /// The history up to and with the start.
+    pub ticket: Ticket,
+    /// The address of the child, at `Started`. It is missing if there was no memory to run the child, which has then ended.
+    pub child: Option<ChildRef<B::Message>>,
+    /// What the child was to own, if the reply is not `Started`.
+    pub own: Option<B::Own>,
+}
+
+/// A start that was not entered: why, and what the child was to own.
+#[derive(Drop, Error)]
+#[error("{fault}")]
+pub struct NotStarted<O: Drop> {
+    /// Why it was refused.
+    pub fault: UpdateFault,
+    /// What the child was to own.
+    pub own: O,
+}
+
+/// Shows the fault alone.
+impl<O: Drop> fmt::Debug for NotStarted<O> {
+    fn fmt<W: fmt::Write>(&self, f: &mut fmt::Formatter<W>) -> fmt::Result {
+        write!(f, "NotStarted {{ fault: {:?} }}", self.fault)
+    }
+}
+
+impl<O: Drop> From<NotStarted<O>> for UpdateFault {
+    ghost from_gives = { λ refused fault. fault ≡ refused.fault };
+
+    /// Returns the fault alone. What the child was to own is let go.
+    fn from(refused: NotStarted<O>) -> UpdateFault {
+        refused.fault
+    }
+}

@@ -1,0 +1,66 @@
+//! The account of a server, once its sessions have ended.
+ghost use Rattle.std.specs.Prelude.{◌≡◌, true, IfErr};
+ghost use Rattle.sup_serve.specs.declared.fault.ServeFault.TheVariants as fault;
+
+use crate::fault::ServeFault;
+use std::alloc::Global;
+use std::io::Write;
+use sup_live::CrewReport;
+use sup_script::WatchedWriter;
+
+/// How many sessions there were.
+#[derive(Clone, Copy)]
+pub struct Account {
+    opened: u64,
+    restarted: u64,
+    ended: u64,
+    /// How many a journal keeps for the next server.
+    kept: u64,
+    adds_up: bool,
+}
+
+impl Account {
+    /// Makes the account of a crew that keeps this many sessions, or returns why serving ended.
+    pub fn of(
+        report: CrewReport<Result<u64, ServeFault>>,
+        kept: u64,
+    ) -> Result<Account, ServeFault> {
+        let adds_up = report.adds_up() && report.is_audited();
+        let ran = report.exits.saturating_add(report.left.len() as u64);
+        let restarted = report.tally.restarts;
+        let started = report.made.saturating_sub(restarted);
+        let found = report.outcome?;
+        Ok(Account {
+            opened: started.saturating_sub(found),
+            restarted,
+            ended: ran.saturating_sub(kept),
+            kept,
+            adds_up,
+        })
+    }
+
+    /// Writes the account.
+    pub fn tell<W: Write>(self, alloc: Global, out: &mut WatchedWriter<W>) -> Result<(), ServeFault>
+        ensures read { IfErr result (λ e. e ≡ fault.Read → ⊥) }
+        ensures write { IfErr result (λ e. e ≡ fault.Write → out.new.has_refused ≡ true) }
+    {
+        let Account {
+            opened,
+            restarted,
+            ended,
+            kept,
+            adds_up,
+        } = self;
+        let which = if adds_up { "every" } else { "not every" };
+        let line = format!(in alloc;
+            "opened {opened} restarted {restarted} ended {ended} kept {kept}: {which} session is accounted for\n"
+        );
+        let Ok(line) = line else {
+            return Err(ServeFault::OutOfMemory);
+        };
+        match out.send(line.as_bytes()) {
+            Ok(()) => Ok(()),
+            Err(_) => Err(ServeFault::Write),
+        }
+    }
+}

@@ -1,0 +1,160 @@
+//! The registry: the children that are alive, until when those may run that were told to end, and what children left that ended.
+ghost use Rattle.std.specs.Prelude.{◌≡◌, IfSome};
+
+use crate::behaviour::Behaviour;
+use crate::clock::Moment;
+use crate::mailbox::{ChildRef, Room};
+use futures::future::AbortHandle;
+use std::alloc::{AllocError, Global};
+use std::collections::{HashMap, VecDeque};
+use std::sync::Arc;
+
+/// A child that is alive, or has ended and its exit was not answered yet: its room, what lets it go, and what it left.
+#[derive(Drop)]
+struct Entry<B: Behaviour> {
+    room: Arc<Room<B::Message>>,
+    abort: AbortHandle,
+    left: Option<B::Own>,
+    has_ended: bool,
+}
+
+/// Until when a child may run that was told to end.
+#[derive(Clone, Copy)]
+struct Deadline {
+    number: u64,
+    until: Moment,
+}
+
+/// The children that are alive or have left something, by their numbers, and the deadlines in the order in which they were set. All
+/// have the same grace, so the first comes first. One of a child that has ended is left out when its turn comes.
+#[derive(Drop)]
+pub(crate) struct Registry<B: Behaviour> {
+    children: HashMap<u64, Entry<B>>,
+    deadlines: VecDeque<Deadline>,
+}
+
+/// Returns the child with this number, if it is alive.
+fn alive<B: Behaviour>(children: &HashMap<u64, Entry<B>>, number: u64) -> Option<&Entry<B>> {
+    let entry = children.get(&number)?;
+    if entry.has_ended { None } else { Some(entry) }
+}
+
+/// Sets a deadline of a child that is alive. There is room for one of each: where memory is refused for more, those of children
+/// that have ended are left out.
+fn set<B: Behaviour>(
+    children: &HashMap<u64, Entry<B>>,
+    deadlines: &mut VecDeque<Deadline>,
+    deadline: Deadline,
+) {
+    if deadlines.push_back(deadline).is_err() {
+        deadlines.retain(|it| alive(children, it.number).is_some());
+        let _ = deadlines.push_back(deadline);
+    }
+}
+
+impl<B: Behaviour> Registry<B> {
+    /// Makes a registry of no child.
+    pub(crate) fn new(alloc: Global) -> Registry<B> {
+        let (children, deadlines) = (HashMap::new(alloc), VecDeque::new(alloc));
+        Registry {
+            children,
+            deadlines,
+        }
+    }
+
+    /// Enters a child, and makes room for its deadline.
+    pub(crate) fn open(
+        &mut self,
+        number: u64,
+        room: Arc<Room<B::Message>>,
+        abort: AbortHandle,
+    ) -> Result<(), AllocError> {
+        self.children.reserve(1)?;
+        let deadlines = self.children.len().saturating_add(1);
+        self.deadlines
+            .reserve(deadlines.saturating_sub(self.deadlines.len()))?;
+        let entry = Entry {
+            room,
+            abort,
+            left: None,
+            has_ended: false,
+        };
+        match self.children.insert(number, entry) {
+            Ok(_) => Ok(()),
+            Err(_) => Err(AllocError),
+        }
+    }
+
+    /// Notes that a child has ended, with what it left. Whether it was told to end.
+    pub(crate) fn close(&mut self, number: u64, left: Option<B::Own>) -> bool {
+        let Some(entry) = self.children.get_mut(&number) else {
+            return false;
+        };
+        entry.left = left;
+        entry.has_ended = true;
+        entry.room.is_told()
+    }
+
+    /// Returns what a child left that has ended, and forgets the child.
+    pub(crate) fn take_left(&mut self, number: u64) -> Option<B::Own> {
+        self.children.remove(&number)?.left
+    }
+
+    /// Returns whether the child is alive.
+    pub(crate) fn has(&self, number: u64) -> bool {
+        alive(&self.children, number).is_some()
+    }
+
+    /// Returns the address of the child with this number, if it is alive.
+    pub(crate) fn address(&self, number: u64) -> Option<ChildRef<B::Message>>
+        ensures { IfSome result (λ address. address.number ≡ number) }
+    {
+        let entry = alive(&self.children, number)?;
+        let room = Arc::try_clone(&entry.room).ok()?;
+        Some(ChildRef { number, room })
+    }
+
+    /// Tells a child to end, until this moment at the latest.
+    pub(crate) fn end(&mut self, number: u64, until: Moment) {
+        if let Some(entry) = alive(&self.children, number)
+            && entry.room.tell()
+        {
+            set(
+                &self.children,
+                &mut self.deadlines,
+                Deadline { number, until },
+            );
+        }
+    }
+
+    /// Tells all children to end, until this moment at the latest. None is restarted any more, so what others left that have ended
+    /// is dropped.
+    pub(crate) fn end_all(&mut self, until: Moment) {
+        self.children.retain(|_, entry| !entry.has_ended);
+        for (number, entry) in self.children.iter() {
+            if entry.room.tell() {
+                let number = *number;
+                set(
+                    &self.children,
+                    &mut self.deadlines,
+                    Deadline { number, until },
+                );
+            }
+        }
+    }
+
+    /// Lets the children go that were told to end, and whose time is over. The moment when that of the next is, if there is one.
+    pub(crate) fn expire(&mut self, now: Moment) -> Option<Moment> {
+        for _ in 0..self.deadlines.len() {
+            let Deadline { number, until } = *self.deadlines.front()?;
+            if let Some(entry) = alive(&self.children, number) {
+                if now.millis < until.millis {
+                    return Some(until);
+                }
+                entry.abort.abort();
+            }
+            let _ = self.deadlines.pop_front();
+        }
+        None
+    }
+}

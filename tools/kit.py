@@ -1,0 +1,154 @@
+"""The toolchain's kit: its own command as a module, the crates that it reads, and their functions."""
+import functools
+import hashlib
+import importlib.machinery
+import importlib.util
+import os
+import subprocess
+import sys
+import tempfile
+import types
+
+TOP = os.path.dirname(os.path.dirname(os.path.realpath(__file__)))
+# Where what came of earlier runs is kept.
+CACHE = f"{os.environ.get('XDG_CACHE_HOME') or os.path.expanduser('~/.cache')}/sapyguendo/checked"
+# (what some fifty states of the repository need)
+KEPT_AT_MOST = 10_000
+
+
+def loaded(name, file):
+    """A module of the kit, from a file whose name does not end in .py."""
+    loader = importlib.machinery.SourceFileLoader(name, file)
+    spec = importlib.util.spec_from_loader(name, loader)
+    module = importlib.util.module_from_spec(spec)
+    loader.exec_module(module)
+    return module
+
+
+@functools.lru_cache(None)
+def kit():
+    """The kit's own command, which knows how a crate is checked, and its reader of functions."""
+    page = subprocess.run(["rt", "doc"], capture_output=True, text=True, check=True).stdout.strip()
+    folder = os.path.dirname(page)
+    rt = loaded("rt_of_the_kit", f"{folder}/bin/rt")
+    bodies = loaded("rt_plant_bodies", f"{folder}/bin/rt-plant-bodies")
+    rt.Crate.allowed = rt.handles_of(TOP)
+    rt.rtlib.Crate = rt.Crate
+    rt.rtlib.guarded()
+    return types.SimpleNamespace(rt=rt, lib=rt.rtlib, bodies=bodies)
+
+
+def checksum(files, *more):
+    """Of the kit, these files, and what else a run rests on."""
+    return hashlib.sha256(repr((kit().rt.kit_sum(), [kit().lib.text_of(it) for it in files], more)).encode())
+
+
+def keep(name, text):
+    """Keeps a text under this name. (If it can't be kept, the next run does all again.)"""
+    try:
+        os.makedirs(CACHE, exist_ok=True)
+        with tempfile.NamedTemporaryFile("w", dir=CACHE, delete=False, encoding="utf-8") as it:
+            it.write(text)
+        os.replace(it.name, f"{CACHE}/{name}")
+        files = [f"{CACHE}/{it}" for it in os.listdir(CACHE)]
+        for file in sorted(files, key=os.path.getmtime)[:-KEPT_AT_MOST] if len(files) > KEPT_AT_MOST else ():
+            os.remove(file)
+    except OSError as error:
+        print(f"nothing is kept: {error}")
+
+
+def kept(name):
+    """Returns the text that is kept under this name, or None."""
+    try:
+        os.utime(f"{CACHE}/{name}")
+        return kit().lib.text_of(f"{CACHE}/{name}")
+    except OSError:
+        return None
+
+
+def passes_once(name, test, is_new):
+    """Runs a test, which returns how many passed and how many failed, unless it passed before under this name."""
+    found = None if is_new else kept(name)
+    if found:
+        print("it passed before, with the same tool and kit")
+        return int(found), 0
+    passed, failed = test()
+    if not failed:
+        keep(name, str(passed))
+    return passed, failed
+
+
+def names_in(words):
+    """The last names of the paths in a type."""
+    return [it for it, then in zip(words, [*words[1:], ""]) if it.isidentifier() and then != ":"]
+
+
+def source_of(crate):
+    """The functions of a crate. A type's own are named for the module of the type, wherever they stand."""
+    source = kit().bodies.Source(crate.folder)
+    source.read("src/main.rt" if crate.is_program else "src/lib.rt")
+    for f in source.functions:
+        homes = {module for module, *_ in source.declared.get(f.owner, [])} if f.block and not f.in_trait else set()
+        if len(homes) == 1:
+            f.module = homes.pop()
+    return source
+
+
+def path_of(f):
+    """The check's name for a function, below the crate."""
+    owner = f.owner
+    if f.in_trait:
+        owner = "".join(it for it in names_in([*f.block.ty, *f.block.trait]) if it not in f.block.generics)
+    elif f.block:
+        # (a block for some arguments of its type alone is named for them, too, as HandleOf+N+Desk)
+        names = names_in(f.block.ty)
+        owner = owner if {*names[1:]} <= {*f.block.generics} else "+".join(names)
+    return "::".join([*f.module, *[owner] * bool(f.block), f.name])
+
+
+def bodies_to_leave_out(source, kept):
+    """The functions that the mutants are judged without, but for these. One within another goes with it."""
+    end = {}
+    for f in sorted(source.functions, key=lambda it: (it.file, it.first)):
+        is_declared = f.in_trait and f.block.is_trait
+        if f.has_body and not is_declared and not f.in_cycle and path_of(f) not in kept and f.first >= end.get(f.file, 0):
+            end[f.file] = f.end
+            yield f
+
+
+def is_current(library):
+    """Whether a library is what a build of the sources that are there has left."""
+    stamps = [kit().lib.text_of(f"{library.folder}/out/{it}") for it in ("rlib/stamp", "built")]
+    return os.path.isdir(library.rlib) and library.stamp() in stamps
+
+
+def note_built(crates):
+    """Notes of what these libraries were built, right after `rt ci`, which leaves them without a stamp."""
+    for crate in crates:
+        if os.path.isdir(crate.rlib):
+            with open(f"{crate.folder}/out/built", "w", encoding="utf-8") as it:
+                it.write(crate.stamp())
+
+
+def has_libraries(crate):
+    """Builds the libraries below a crate, where they do not lie as a build of what is there has left them."""
+    for dep in reversed(crate.below()):
+        if is_current(dep):
+            continue
+        print(f"building {dep.name}", flush=True)
+        with tempfile.TemporaryFile("w+", errors="replace") as dep.out:
+            if dep.build_rlib(["--jobs", "1"], anew=False):
+                dep.out.seek(0)
+                print(dep.out.read()[-3000:])
+                return False
+    return True
+
+
+def main(words):
+    """Does what `rt try` does, without the check that this begins beside the run, for a hint alone."""
+    kit().lib.RATTLE = "true"
+    return kit().rt.main(["try", *words])
+
+
+if __name__ == "__main__":
+    sys.exit(main(sys.argv[1:]))
