@@ -74,7 +74,7 @@ pub(crate) enum Goal {
     Gone,
 }
 
-/// For how long to sleep until the first of these moments, at most as long as a driver does.
+/// Returns how long to sleep until the first of these moments, at most as long as a driver does.
 fn time_until(now: Moment, first: Option<Moment>, second: Option<Moment>) -> Duration {
     let mut millis = DOZE_MILLIS;
     for moment in [first, second] {
@@ -158,7 +158,7 @@ impl<'d, N: Name, S: Starter + Drop, Q: Wait + Drop, J: Journal + Drop, I: Offic
         }
     }
 
-    /// Takes note of a refusal: for want of memory there is another turn, and all else stops the driver.
+    /// Takes note of a refusal: after one of memory there is another turn, and all else stops the driver.
     fn refused(&mut self, fault: UpdateFault) {
         if let UpdateFault::OutOfMemory = fault {
             self.is_starved = true;
@@ -167,8 +167,8 @@ impl<'d, N: Name, S: Starter + Drop, Q: Wait + Drop, J: Journal + Drop, I: Offic
         }
     }
 
-    /// Takes exits, enters them, and does what the replies ask for. Whether any was entered. Those that were not are held, and go
-    /// first next time.
+    /// Takes exits, enters them, and does what the replies ask for. Returns whether any was entered. Those that were not are held, and
+    /// come first next time.
     fn enter<B: Behaviour, P: Host>(&mut self, yard: &Crew<'_, I, B, P>, moment: Moment) -> bool {
         if self.fault.is_some() || yard.hub.is_suspended() {
             return false;
@@ -201,7 +201,7 @@ impl<'d, N: Name, S: Starter + Drop, Q: Wait + Drop, J: Journal + Drop, I: Offic
         any
     }
 
-    /// Sleeps until it is woken or, where something is to be done later, until then.
+    /// Sleeps until it is woken or, if something is to be done later, until then.
     fn sleep<B: Behaviour, P: Host>(
         &self,
         hub: &Hub<I, B, P>,
@@ -220,7 +220,7 @@ impl<'d, N: Name, S: Starter + Drop, Q: Wait + Drop, J: Journal + Drop, I: Offic
         }
     }
 
-    /// One turn. Whether the crew is to close.
+    /// Takes one turn. Returns whether the crew is to close.
     fn turn<B: Behaviour, P: Host>(&mut self, yard: &Crew<'_, I, B, P>) -> bool {
         let moment = yard.now();
         let any = self.enter(yard, moment);
@@ -237,7 +237,7 @@ impl<'d, N: Name, S: Starter + Drop, Q: Wait + Drop, J: Journal + Drop, I: Offic
         false
     }
 
-    /// Stops the supervisor, where it is up. For want of memory it tries again.
+    /// Stops the supervisor, if it is up. While memory is refused it tries again.
     fn stop<B: Behaviour, P: Host>(&mut self, yard: &Crew<'_, I, B, P>) {
         if self.fault.is_some() || self.restarts.is_down || yard.hub.is_suspended() {
             return;
@@ -281,7 +281,7 @@ impl<'d, N: Name, S: Starter + Drop, Q: Wait + Drop, J: Journal + Drop, I: Offic
         }
     }
 
-    /// Closes the crew: stops the supervisor, tells all children to end, lets them go when their grace is over, and enters
+    /// Closes the crew: stops the supervisor, asks all children to end, lets them go when their grace is over, and enters
     /// their exits. If the children are kept, it does not stop the supervisor, and enters nothing.
     fn close<B: Behaviour, P: Host>(&mut self, yard: &Crew<'_, I, B, P>) {
         self.stop(yard);
@@ -295,7 +295,7 @@ impl<'d, N: Name, S: Starter + Drop, Q: Wait + Drop, J: Journal + Drop, I: Offic
         }
     }
 
-    /// Drives the crew until it is to close, and closes it: stops the supervisor, tells all children to end, lets them go when
+    /// Drives the crew until it is to close, and closes it: stops the supervisor, asks all children to end, lets them go when
     /// their grace is over, and enters their exits until all workers have gone.
     pub fn drive<B: Behaviour, P: Host>(self, yard: &Crew<'_, I, B, P>) -> Driven<N, I> {
         let mut driver = self;
@@ -308,7 +308,7 @@ impl<'d, N: Name, S: Starter + Drop, Q: Wait + Drop, J: Journal + Drop, I: Offic
         driver.end()
     }
 
-    /// What it leaves.
+    /// Ends the driver, and returns what it leaves.
     fn end(self) -> Driven<N, I> {
         Driven {
             caller: self.handle.unbind().0,

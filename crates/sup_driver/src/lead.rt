@@ -61,7 +61,7 @@ fn list<I: Office>(
     Ok(())
 }
 
-/// Enters the first exits, in order and in one step. The replies to those that were entered, and why the others were not.
+/// Enters the first exits, in order and in one step. Returns the replies to those that were entered, and why the others were not.
 pub(crate) fn enter<
     N: Name,
     S: Starter + Drop,

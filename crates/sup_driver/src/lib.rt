@@ -3,7 +3,7 @@
 //!
 //! A [`Driver`] takes the exits out of the queues in which they wait, and enters them by its own handle of the desk, many in one
 //! step. A child that was restarted begins to run in the yard under its new number. A restart that failed is tried again after some
-//! time. If the supervisor has gone down, all children are told to end. [`Driver::drive`] runs until a client closes
+//! time. If the supervisor has gone down, all children are asked to end. [`Driver::drive`] runs until a client closes
 //! the crew, stops the supervisor, and returns once all workers have gone.
 //!
 //! ```text

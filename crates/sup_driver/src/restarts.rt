@@ -115,7 +115,7 @@ impl Restarts {
         }
     }
 
-    /// The supervisor is down: every child is told to end, and no restart is tried again.
+    /// Takes note that the supervisor is down: every child is asked to end, and no restart is tried again.
     fn go_down<I: Office, B: Behaviour, P: Host>(&mut self, hub: &Hub<I, B, P>, moment: Moment)
         ensures { (deque_len self.new.retries ≤ deque_len self.old.retries) × (deque_capacity self.new.retries ≡ deque_capacity self.old.retries) }
     {

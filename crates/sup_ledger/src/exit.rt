@@ -1,4 +1,4 @@
-//! Exits: owed by a child that is alive, owed since it ended, and told.
+//! Exits: owed by a child that is alive, owed since it ended, and paid.
 ghost use Rattle.std.specs.Prelude.{◌≡◌, ◌<◌, ◌∷◌, [], ◌++◌, true, length};
 ghost use Rattle.sup_ledger.specs.Endings.{is_ending};
 
@@ -87,7 +87,7 @@ impl<I: Office> OwedExit<I> {
         self.due.place
     }
 
-    /// Pays it at the places of the account: it was entered, or is told.
+    /// Pays it at the places of the account: it was entered, or is listed in a report.
     pub fn pay<R: Wait>(self, rt: &R, ledger: &Ledger, account: &mut Account) -> Exit
         requires ledger { (ledger.now.id ≡ I.ledger) × (account.old.ledger ≡ I.ledger) }
         requires place { 0 < length account.old.places }

@@ -1,4 +1,4 @@
-//! Ledgers, and what stands in them.
+//! Ledgers: accounts, debts and witnesses.
 ghost use Rattle.std.specs.Prelude.{◌≡◌, ◌+◌, ◌<◌, [], ◌∷◌, ◌++◌, length, take, drop, IfOk};
 ghost use Rattle.sup_ledger.specs.Holdings.{holding, numbers_from};
 ghost use Rattle.sup_ledger.specs.Accounts.{IsSettled};
@@ -87,7 +87,7 @@ impl Model for Witness {
     ghost invariant = { λ w. w.seat.me ≡ (holding [] [] [] [] w.seat.me.0.shown, []) };
 }
 
-/// What the accounts of all places tell.
+/// What the accounts of all places add up to.
 #[derive(Clone, Copy, Debug, PartialEq, Eq)]
 pub struct Totals {
     /// How many children were made.
@@ -96,7 +96,7 @@ pub struct Totals {
     pub owed: u64,
 }
 
-/// The sum. One that would not fit waits for ever: no crew makes as many children.
+/// Returns the sum. One that would not fit waits for ever: no crew makes that many children.
 fn sum<R: Wait>(rt: &R, count: u64, more: u64) -> u64
     ensures { result ≡ count + more }
 {
@@ -124,14 +124,14 @@ impl Debt {
         self.child
     }
 
-    /// Lets it go unpaid. The ledger goes on to say that it is owed.
+    /// Lets it go unpaid. It stays owed.
     pub fn lose(self) {
         let Debt { seat: _, child: _ } = self;
     }
 }
 
 impl Ledger {
-    /// Makes a ledger of so many places, and the account of all of them, at which no child was made.
+    /// Makes a ledger of this number of places, and the account of all of them, at which no child was made.
     pub fn new(alloc: Global, places: u64) -> Result<(Ledger, Account), AllocError>
         ensures ledger { IfOk result (λ r. r.0.places ≡ places) }
         ensures account { IfOk result (λ r. r.1 ≡ record { ledger = r.0.id; places = numbers_from 1 places; made = []; paid = [] }) }
@@ -147,7 +147,7 @@ impl Ledger {
         ))
     }
 
-    /// Returns the account of the first of the places. The other places stay.
+    /// Takes the first of the places out of this account, and returns its account.
     pub fn open(&self, root: &mut Account) -> Account
         requires ledger { root.old.ledger ≡ self.now.id }
         requires empty { (root.old.made ≡ []) × (root.old.paid ≡ []) }

@@ -5,7 +5,7 @@
 //! made. Accounts, debts and witnesses may go to any threads. Once the accounts of all places are joined into one, the
 //! children that were made are those whose exit was paid, and those that still owe one.
 //!
-//! The lists stand in the proofs alone. There they are the views of the seats of an `atomic_table`, under the rule in
+//! The lists are in the proofs alone. There they are the views of the seats of an `atomic_table`, under the rule in
 //! `specs/Holdings`: the steps load its one word, and do nothing else. An account also counts its children.
 //!
 //! ```text

@@ -1,8 +1,8 @@
 //! Offices: what the exits of one crew have in common.
 use std::marker::Brand;
 
-/// Names a ledger, and says how many places it has, and for which reasons the children may end whose exits are told. A value
-/// behind a lock is known by its type alone, so the type says in which ledger it stands.
+/// Names a ledger, and says how many places it has, and for which reasons the children may end whose exits it has. A value
+/// behind a lock is known by its type alone, so the type says to which ledger it belongs.
 pub trait Office {
     ghost use Rattle.std.specs.Prelude.{ℕ, Bool};
     ghost use Rattle.atomic_table.specs.Seated.{TableId};

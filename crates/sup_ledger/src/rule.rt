@@ -7,7 +7,7 @@ use atomic_table::{Join, Play, Seat, Split, TableRule};
 use std::collections::LinkedList;
 use std::marker::{Brand, PhantomData};
 
-/// What a seat holds: the places that it stands for, the children that were made there, and those whose exit was paid there;
+/// What a seat holds: the places that are its own, the children that were made there, and those whose exit was paid there;
 /// the children whose exit it owes, and those of which it shows that they were made. No value of it is made.
 pub struct Holding {
     pub places: LinkedList<u64>,
@@ -93,7 +93,7 @@ impl Join<Holding> for Joining {
     ghost spent = { nothing };
 }
 
-/// What stands for every place learns what is owed.
+/// The seat of every place learns what is owed.
 pub(crate) struct Learning;
 
 impl Play<(), Holding> for Learning {

@@ -72,26 +72,26 @@ pub trait LiveClient<B: Behaviour>: Drop {
         ensures room { IfErr result (λ e. e.fault ≡ UpdateFault.OutOfMemory → (knows self.new ≡ knows self.old) ⊎ (length (knows self.new).front < template.entries)) }
         ensures journal { IfErr result (λ e. (f : Fault) → e.fault ≡ UpdateFault.Journal f → may_fail f) };
 
-    /// Ends the child with this number. At `Ended` it is told to end, and is let go when its grace is over. Its exit is entered
+    /// Ends the child with this number. At `Ended` it is asked to end, and is let go when its grace is over. Its exit is entered
     /// later, and changes nothing.
     fn terminate_child(&mut self, number: u64) -> Result<Done, UpdateFault>
         ensures result { (moment : ℕ) × IsUpdateResult may_answer template press (knows self.old) (Operation.Terminate number) moment (knows self.new) result }
         ensures journal { IfErr result (λ e. (f : Fault) → e ≡ UpdateFault.Journal f → may_fail f) };
 
     /// Ends the child as [`LiveClient::terminate_child`] does, and at `Ended` returns once the child is gone, as OTP's does. Until
-    /// then the thread sleeps: for as long as the child goes on, at most until it is let go when its grace is over, or when
-    /// the crew closes. It does not wait for a child that another thread has yet to make, which is told to end as soon as it
+    /// then the thread sleeps: as long as the child runs, at most until it is let go when its grace is over, or when
+    /// the crew closes. It does not wait for a child that another thread has yet to make, which is asked to end as soon as it
     /// is there. A child has no client, so none can wait for its own end. One whose `poll` waits for this thread would.
     fn terminate_child_and_wait(&mut self, number: u64) -> Result<Done, UpdateFault>
         ensures result { (moment : ℕ) × IsUpdateResult may_answer template press (knows self.old) (Operation.Terminate number) moment (knows self.new) result }
         ensures journal { IfErr result (λ e. (f : Fault) → e ≡ UpdateFault.Journal f → may_fail f) };
 
-    /// Ends all children, and the supervisor. They are told to end.
+    /// Ends all children, and the supervisor. They are asked to end.
     fn stop(&mut self) -> Result<Done, UpdateFault>
         ensures result { (moment : ℕ) × IsUpdateResult may_answer template press (knows self.old) Operation.Stop moment (knows self.new) result }
         ensures journal { IfErr result (λ e. (f : Fault) → e ≡ UpdateFault.Journal f → may_fail f) };
 
-    /// Sends to the child with this number. The message comes back if no such child is alive, if it was told to end, or if memory
+    /// Sends to the child with this number. The message comes back if no such child is alive, if it was asked to end, or if memory
     /// runs out.
     fn send(&self, number: u64, message: B::Message) -> Result<(), B::Message>;
 
@@ -151,7 +151,7 @@ pub trait LiveClient<B: Behaviour>: Drop {
         Self: Sized,
         ensures { IfOk result (λ other. (knows other).calls ≡ []) };
 
-    /// Lets the children that are listed when the crew closes stay listed: the supervisor is not stopped, they are told to end, and
+    /// Lets the children that are listed when the crew closes stay listed: the supervisor is not stopped, they are asked to end, and
     /// their exits are among those that were not entered. A later crew over the same history runs them again.
     fn keep_children(&self);
 

@@ -229,7 +229,7 @@ where
     }
 }
 
-/// Lists the handles of the peers that ran behind these, and what came of each peer, where there is room.
+/// Adds the handles of the peers that ran to these, and lists the outcome of each peer. There is room for both.
 fn part<N: Name, U: Drop>(
     peers: Vec<Peer<N, U>>,
     callers: Vec<Caller<N>>,
@@ -254,7 +254,7 @@ fn part<N: Name, U: Drop>(
     (callers, outcomes)
 }
 
-/// Lists the handles of these callers behind others, where there is room.
+/// Adds the handles of these callers to those that there are. There is room for them.
 fn bind_all<'d, N: Name, S: Starter + Drop, Q: Wait + Drop, J: Journal + Drop>(
     desk: &'d Desk<N, S, Q, J>,
     handles: Vec<Handle<'d, N, S, Q, J>>,
@@ -304,7 +304,8 @@ fn audited<'d, N: Name, S: Starter + Drop, Q: Wait + Drop, J: Journal + Drop, R:
 
 /// Runs a crew as [`on_crew_with`] does, over a desk with a journal that has recorded these entries: none if it is new. The desk
 /// continues from their history, and each child that it lists begins again under its number, as in [`run_live`]. The program says
-/// whether its children are kept at the end. Then the desk is closed, and the journal comes back with a ticket for all of the history (see `Desk::close`).
+/// whether its children are kept at the end. Then the desk is closed, and the journal comes back with a ticket for all of the
+/// history (see `Desk::close`).
 ///
 /// # Errors
 /// As those of [`on_crew_with`]; and `History` if the desk could not continue from the entries. The journal is then let go.

@@ -12,7 +12,7 @@ pub struct Plan {
     pub workers: usize,
     /// After which time a restart that failed is tried again.
     pub retry_after: Duration,
-    /// For how long a child may go on after it was told to end, as OTP's `shutdown` time. With 0 it is let go at once, as by OTP's
+    /// For how long a child may run after it was asked to end, as OTP's `shutdown` time. With 0 it is let go at once, as by OTP's
     /// `brutal_kill`.
     pub grace: Duration,
     /// For how many more clients and askers a desk of the crew's own has places, beside the program's client and those of the peers.

@@ -116,12 +116,12 @@ where
 
 /// Runs a crew over the desk, until the program and all peers have returned: their clients start children, and the crew runs them,
 /// restarts those that crashed as the template says, tries failed restarts again, and ends those that were ended. Then the crew
-/// closes: it stops the supervisor, unless its children are kept, and every child is told to end and is let go at the latest when
+/// closes: it stops the supervisor, unless its children are kept, and every child is asked to end and is let go at the latest when
 /// the plan's grace is over. The program runs in the calling thread, and each peer in a thread of its own, each by a client of its own.
 ///
 /// The desk may have a journal. One that breaks off refuses the updates of all clients, and queries go on. If an update of the
-/// driver's is refused, for any cause but memory, the driver enters nothing more: every child is told to end and is let go as at a
-/// close, the report has the fault and the exits that were not entered, and the program goes on until it returns.
+/// driver's is refused, for any cause but memory, the driver enters nothing more: every child is asked to end and is let go as at a
+/// close, the report has the fault and the exits that were not entered, and the program runs until it returns.
 ///
 /// Each exit that the driver entered has a reason for which the behaviour's children may end, or one of the crew's own: `killed` of
 /// a child that was let go, `not_run` of one that could not be run. So has each exit that the report says was left.

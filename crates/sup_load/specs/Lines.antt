@@ -2,11 +2,11 @@
 use Rattle.std.specs.Prelude.{ℕ, List, ◌++◌, codes, decimal}
 use Rattle.sup_load.specs.declared.load.Sums.{Sums}
 
--- a number behind its name
+-- a number after its name
 abbrev pub named : List ℕ → ℕ → List ℕ
 named name number = name ++ decimal number
 
--- each number of a report behind its name, and the questions that were answered in a line of their own
+-- each number of a report after its name, and the questions that were answered in a line of their own
 abbrev pub load_lines : Sums → List ℕ
 load_lines s = named (codes "made ") s.made ++ (named (codes " exits ") s.exits ++ (named (codes " strays ") s.strays
     ++ (named (codes " restarts ") s.restarts ++ (named (codes " gave_up ") s.given_up

@@ -124,7 +124,7 @@ fn write_lines<W: Write>(sums: &Sums, out: &mut WatchedWriter<W>) -> Result<(), 
     Ok(())
 }
 
-/// Writes a number behind its name.
+/// Writes a number after its name.
 fn write_number<W: Write>(
     out: &mut WatchedWriter<W>,
     name: &str,

@@ -4,7 +4,7 @@ use Rattle.std.specs.Str.{bytes_eq}
 use Rattle.sup_types.specs.declared.reason.Reason.{Reason}
 use Rattle.sup_types.specs.declared.reason.Reason.TheVariants.{Shutdown, Other}
 
--- it was told to end, or it crashed
+-- it was asked to end, or it crashed
 abbrev pub ends_session : Reason → Bool
 ends_session Shutdown = true
 ends_session (Other word) = bytes_eq word (codes "crash")

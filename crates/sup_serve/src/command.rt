@@ -7,7 +7,7 @@ use sup_types::Text;
 pub enum Command {
     /// A session of this name is to be opened.
     Open(Text),
-    /// The session with this number is told this text.
+    /// The session with this number is sent this text.
     Tell(u64, Text),
     /// The session with this number is to crash.
     Crash(u64),
@@ -65,7 +65,7 @@ fn read_tell(rest: &[u8]) -> Option<Command> {
     Some(Command::Tell(read_number(number)?, Text::new(text)?))
 }
 
-/// The bytes before the first space, and those after it.
+/// Returns the bytes before the first space, and those after it.
 fn split(line: &[u8]) -> (&[u8], &[u8]) {
     match line.iter().position(|byte| *byte == b' ') {
         Some(at) => (&line[..at], &line[at + 1..]),

@@ -1,6 +1,6 @@
 //! A server of sessions in miniature: lines in, answers out, and a live crew of sessions between them.
 //!
-//! Each session is a child of a shared supervisor. It counts the texts that it is told. One that crashed runs again under a new
+//! Each session is a child of a shared supervisor. It counts the texts that it is sent. One that crashed runs again under a new
 //! number, with nothing counted, at most 5 times within 10 seconds. The calling thread reads the lines and has the one
 //! client; queries take no lock. With a journal the sessions outlive the server.
 //!

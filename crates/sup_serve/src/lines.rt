@@ -34,8 +34,8 @@ impl<'a, I: Read> Lines<'a, I> {
         }
     }
 
-    /// Returns the next line, which the input's end ends as well. None if the input has ended or failed: a line in which it fails
-    /// is none.
+    /// Returns the next line, which the input's end ends as well. `None` if the input has ended or failed: a line in which it
+    /// fails is none.
     pub fn next<R: Wait>(&mut self, rt: &R) -> Option<Line> {
         let mut line = Line::new();
         let mut is_begun = false;

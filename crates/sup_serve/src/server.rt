@@ -21,7 +21,7 @@ use sup_types::{Reply, Seen, Text};
 pub enum Notices {
     /// It does not.
     Off,
-    /// It writes a line behind an answer where the count has changed.
+    /// It writes a line after an answer if the count has changed.
     On,
 }
 
@@ -126,17 +126,17 @@ fn answer<C: LiveClient<Sessions>, H: Wait + RandomSource + AllocGlobal, W: Writ
     }
 }
 
-/// The reply to an opening.
+/// Returns the reply to an opening.
 fn opened(started: Result<Started<Sessions>, NotStarted<()>>) -> Result<Reply, UpdateFault> {
     Ok(started?.reply)
 }
 
-/// The reply to a closing.
+/// Returns the reply to a closing.
 fn closed(done: Result<Done, UpdateFault>) -> Result<Reply, UpdateFault> {
     Ok(done?.reply)
 }
 
-/// Sends a text to a session, and waits for the answer. None if no such session lives, or it ends before it answers.
+/// Sends a text to a session, and waits for the answer. Returns `None` if no such session lives, or it ends before it answers.
 fn tell<C: LiveClient<Sessions>, H: Wait + RandomSource + AllocGlobal>(
     host: &H,
     alloc: Global,

@@ -22,14 +22,14 @@ use sup_types::{Kind, Restart, Template};
 /// The most sessions at a time.
 const MOST_SESSIONS: u64 = 65_536;
 
-/// Answers the lines of the input until it ends, or asks to quit. Then the sessions are told to end, and the account is
+/// Answers the lines of the input until it ends, or asks to quit. Then the sessions are asked to end, and the account is
 /// written. It waits.
 ///
 /// With the path of a journal the sessions outlive the server. Their history is in that file, which is made if there is none: the
 /// sessions that it lists run again, each under its number, and a line says how many, before anything is read.
 ///
 /// # Errors
-/// `Read` and `Write`: the input or the output failed; the sessions were told to end, and what was answered before is written.
+/// `Read` and `Write`: the input or the output failed; the sessions were asked to end, and what was answered before is written.
 /// `Journal`: it broke off, and no account is written. `OutOfMemory`: memory ran out, before or after the first line was read.
 /// `Crew`: the crew could not run, and `NoJournal`: the file could not be continued; nothing was read.
 pub fn serve<R, I, W>(
@@ -53,7 +53,7 @@ where
     conclude(alloc, input, out, account)
 }
 
-/// Returns how serving ended, by what failed meanwhile: where nothing did, the account is written. It stands apart from what serves,
+/// Returns how serving ended, by what failed meanwhile: if nothing did, the account is written. It is apart from what serves,
 /// so that its contract is proved, and its mutants are refused, without that.
 fn conclude<I: Read, W: Write>(
     alloc: Global,

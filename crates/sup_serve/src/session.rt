@@ -14,7 +14,7 @@ use sup_types::{Reason, Text};
 pub struct Heard {
     /// The number of the session.
     pub number: u64,
-    /// How many texts it was told, with this one.
+    /// How many texts it was sent, with this one.
     pub messages: u64,
 }
 
@@ -37,7 +37,7 @@ pub struct Restarted {
     pub name: Text,
 }
 
-/// Makes sessions. One ends because it was told to, or it crashes.
+/// Makes sessions. One ends because it was asked to, or it crashes.
 #[derive(Drop)]
 pub struct Sessions {
     /// Where the server learns which of them were restarted.
@@ -78,7 +78,7 @@ impl Behaviour for Sessions {
     }
 }
 
-/// A session: it counts what it is told.
+/// A session: it counts what it is sent.
 #[derive(Drop)]
 pub struct Session {
     number: u64,
@@ -87,7 +87,7 @@ pub struct Session {
 }
 
 impl Session {
-    /// The reason for which it ends by this message, if it does.
+    /// Takes a message. Returns the reason for which the session ends by it, if it does.
     fn hear(&mut self, message: Message) -> Option<Reason>
         ensures { IfSome result (λ reason. ends_session reason ≡ true) }
     {

@@ -151,7 +151,7 @@ fn serve_command<'a>(alloc: Global) -> Result<Command<'a>, AllocError>
     let status = flag(
         alloc,
         "status",
-        "Says how many sessions there are, behind an answer where that has changed",
+        "Says after an answer how many sessions there are, if that has changed",
     );
     let journal = path(
         alloc,

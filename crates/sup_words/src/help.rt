@@ -130,9 +130,9 @@ Each session is a child of a supervisor. One that crashed runs again under a new
 5 times within 10 seconds; then all sessions end, and the supervisor is down. There are at most 65536 at a time.
 
   open NAME          `opened N`: a session of this name runs under the number N
-  tell N TEXT        `session N messages M`: session N answers how many texts it was told
+  tell N TEXT        `session N messages M`: session N answers how many texts it was sent
   crash N            `crashing N`: session N crashes as soon as it reads that
-  close N            `closing N`: session N is told to end
+  close N            `closing N`: session N is asked to end
   who                `session N NAME` for each that is listed, and `end K` with how many
   count              `sessions K`
   quit               ends the server, as the end of the input does
@@ -143,7 +143,8 @@ A name and a text have 1 to 40 visible characters of ASCII. An answer may be `er
 many sessions were opened, restarted, ended and kept, and whether every session is accounted for.
 
 With --journal the sessions are kept in FILE, which is made if there is none: started again with it, the server says how
-many sessions it found, and they run again under their numbers, with nothing counted.
+many sessions it found, and they run again under their numbers, with nothing counted. A file is for one server at a time,
+and for at most 512 in all.
 
 Example:
   supload serve <<END
@@ -160,7 +161,7 @@ writes
 pub(crate) const SERVE_FAULTS: &str =
     "A fault is one line on standard error: `fault N: CAUSE`, with its number:
    1  out of memory, or a thread was refused
-   5  all handles were made
+   5  all handles were made: the file has had 512 servers
    6  there is no place for a reader
    7  the journal is of no server of sessions
    9  a line of the journal is wrong
@@ -179,7 +180,7 @@ pub(crate) const STATUSES: &str = "Exit status:
   0  all was answered
   2  the words or a line are wrong, or the input is too long
   3  reading or writing failed
-  4  any other fault, as want of memory
+  4  any other fault, such as no memory
 A fault in the input is one line on standard error: `fault N line L`; another fault is `fault N: CAUSE`.";
 
 pub(crate) const FAULTS: &str =

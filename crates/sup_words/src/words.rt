@@ -105,7 +105,7 @@ fn read_matches<'a>(alloc: Global, matches: &ArgMatches<'a>) -> Result<Order<'a>
     }
 }
 
-/// An error of this kind, or of want of memory.
+/// Makes an error of this kind, or `OutOfMemory`.
 fn refused(alloc: Global, kind: ErrorKind, text: &str) -> Error
     ensures { IsAmong (kind_of result) (kind ∷ OutOfMemory ∷ []) }
 {

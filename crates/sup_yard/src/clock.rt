@@ -11,7 +11,7 @@ pub struct Moment {
     pub millis: u64,
 }
 
-/// How many whole milliseconds this time has, at most as many as there are moments.
+/// Returns how many whole milliseconds this time has, at most 2^64 - 1.
 fn millis_of(time: Duration) -> u64
     ensures { result ≡ min (as_nanos time / 1000000) (2 ^ 64 - 1) }
 {
@@ -44,13 +44,13 @@ impl Moment {
 pub enum Moments<'c> {
     /// The clock of the runtime that never goes back. One that can't be read says 0.
     Monotonic,
-    /// The same clock, by so many milliseconds later.
+    /// The same clock, later by this number of milliseconds.
     Later(u64),
     /// The caller keeps the time in this word, in milliseconds.
     Kept(&'c AtomicU64),
 }
 
-/// How many milliseconds the clock of the runtime that never goes back has counted.
+/// Returns how many milliseconds the runtime's monotonic clock has counted, or 0 if it can't be read.
 fn monotonic<R: Clock>(rt: &R) -> u64 {
     match rt.monotonic() {
         Ok(since) => millis_of(since),

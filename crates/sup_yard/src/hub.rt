@@ -29,7 +29,7 @@ pub trait Host: Threads + Wait + Clock + Drop {}
 impl<R: Threads + Wait + Clock + Drop> Host for R {}
 
 /// What the threads of a crew share: the queues of exits, the ledger of the children, and the registry of those that are alive. No
-/// contract can say what its counts hold while other threads count, too.
+/// contract can say what its counts hold while other threads count as well.
 #[derive(Drop)]
 pub struct Hub<I: Office, B: Behaviour, P: Host> {
     /// What the crew runs by.
@@ -40,9 +40,9 @@ pub struct Hub<I: Office, B: Behaviour, P: Host> {
     pub news: News,
     queues: Vec<Mutex<ExitQueue<I>>>,
     pub(crate) registry: Mutex<Registry<B>>,
-    /// Told when a child is gone that was told to end.
+    /// Notified when a child is gone that was asked to end.
     gone: Condvar,
-    /// For how long a child may run after it was told to end.
+    /// For how long a child may run after it was asked to end.
     grace: Duration,
     /// How many children were made, and how many have ended.
     made: AtomicU64,
@@ -59,7 +59,7 @@ pub struct Hub<I: Office, B: Behaviour, P: Host> {
     ghost some: { 0 < vec_len queues },
 }
 
-/// So many queues, each with the account of a place. The last place stays.
+/// Makes this number of queues, each with the account of a place. The last place is left in the root.
 fn queues_of<I: Office>(
     alloc: Global,
     count: usize,
@@ -79,7 +79,7 @@ fn queues_of<I: Office>(
     Ok(queues)
 }
 
-/// Tells of these exits: pays each, and lists it. If memory is refused for the list, the rest is let go, and stays owed.
+/// Lists these exits, and pays each. If memory is refused for the list, the rest is let go, and stays owed.
 fn tell<I: Office, P: Wait>(
     rt: &P,
     ledger: &Ledger,
@@ -109,7 +109,7 @@ fn tell<I: Office, P: Wait>(
 impl<I: Office, B: Behaviour, P: Host> Hub<I, B, P> {
     /// Makes a hub of a ledger that I names, for this number of workers, with a queue for each; and the account of the last place, by
     /// which exits that were entered are paid. No child was made. The root is the account of all places. Children may run for this
-    /// grace after they were told to end.
+    /// grace after they were asked to end.
     pub fn new(
         rt: P,
         alloc: Global,
@@ -145,7 +145,7 @@ impl<I: Office, B: Behaviour, P: Host> Hub<I, B, P> {
         Ok((hub, root))
     }
 
-    /// The queue at this place. A place from which there is none is counted on from the first.
+    /// Returns the queue at this place. A place beyond the last is counted from the first again.
     fn queue(&self, place: usize) -> &Mutex<ExitQueue<I>> {
         &self.queues[place % self.queues.len()]
     }
@@ -224,7 +224,7 @@ impl<I: Office, B: Behaviour, P: Host> Hub<I, B, P> {
         self.registry.lock(&self.rt).address(number)
     }
 
-    /// Returns until when a child may run that is told to end at this moment: for its grace, and in any case no longer than to the
+    /// Returns until when a child may run that is asked to end at this moment: for its grace, and in any case no longer than to the
     /// last moment that there is.
     pub fn until(&self, moment: Moment) -> Moment
         ensures { result.millis ≡ min (moment.millis + min (as_nanos self.now.grace / 1000000) (2 ^ 64 - 1)) (2 ^ 64 - 1) }
@@ -232,19 +232,19 @@ impl<I: Office, B: Behaviour, P: Host> Hub<I, B, P> {
         moment.after(self.grace)
     }
 
-    /// Tells a child to end, and the driver to see that it does.
+    /// Asks a child to end, and the driver to see that it does.
     pub fn end(&self, number: u64, moment: Moment) {
         self.registry.lock(&self.rt).end(number, self.until(moment));
         self.ring();
     }
 
-    /// Tells all children to end, and the driver to see that they do.
+    /// Asks all children to end, and the driver to see that they do.
     pub fn end_all(&self, moment: Moment) {
         self.registry.lock(&self.rt).end_all(self.until(moment));
         self.ring();
     }
 
-    /// Sleeps until a child that was told to end is gone. If there is none, it returns at once.
+    /// Sleeps until a child that was asked to end is gone. If there is none, it returns at once.
     pub fn await_end(&self, number: u64) {
         let registry = self.registry.lock(&self.rt);
         let _registry = self
@@ -252,8 +252,8 @@ impl<I: Office, B: Behaviour, P: Host> Hub<I, B, P> {
             .wait_while(&self.rt, registry, |registry| registry.has(number));
     }
 
-    /// Lets the children go that were told to end, and whose time is over at this moment. The moment when that of the next is, where
-    /// another was told to end.
+    /// Lets the children go that were asked to end, and whose time is over at this moment. Returns when the time of the next is over,
+    /// if another was asked to end.
     pub fn expire(&self, moment: Moment) -> Option<Moment> {
         self.registry.lock(&self.rt).expire(moment)
     }
@@ -313,7 +313,7 @@ impl<I: Office, B: Behaviour, P: Host> Hub<I, B, P> {
 
     /// Returns the exits that were not entered, and how many children were made and how many of them owe an exit, by the account of the
     /// exits that were entered and of those that were taken and not entered. Each child that was made has one exit, which was
-    /// entered or is in the list, or still owes it: where memory is refused for the list, those that are not in it are owed. What
+    /// entered or is in the list, or still owes it: if memory is refused for the list, those that are not in it are owed. What
     /// the witness shows was made.
     pub fn settle(
         self,

@@ -9,7 +9,7 @@
 //! ```text
 //! let yard = Yard::new(&rt, rt.alloc(), &hub, &behaviour, Moments::Monotonic, 4)?;
 //! let place = hub.make_room()?;
-//! let witness = yard.begin(&mut handle, moment, Child { number, arg }, place);
+//! let (address, witness) = yard.begin(&mut handle, moment, Child { number, arg }, Some(own), place);
 //! // in another thread, which runs the child
 //! yard.work(0);
 //! ```

@@ -13,25 +13,25 @@ use std::sync::atomic::{AtomicBool, Ordering};
 #[derive(Drop)]
 pub(crate) struct Room<M: Drop> {
     sender: UnboundedSender<M>,
-    /// Whether the child was told to end.
+    /// Whether the child was asked to end.
     told: AtomicBool,
 }
 
 impl<M: Drop> Room<M> {
-    /// Tells the child to end. Whether it was not told before.
+    /// Asks the child to end. Returns whether it was not asked before.
     pub(crate) fn tell(&self) -> bool {
         let was_told = self.told.swap(true, Ordering::SeqCst);
         self.sender.close_channel();
         !was_told
     }
 
-    /// Returns whether the child was told to end.
+    /// Returns whether the child was asked to end.
     pub(crate) fn is_told(&self) -> bool {
         self.told.load(Ordering::SeqCst)
     }
 }
 
-/// What a child is sent, oldest first. It ends once the child is told to end, before what was sent earlier; the child is
+/// What a child is sent, oldest first. It ends once the child is asked to end, before what was sent earlier; the child is
 /// then to end soon, by `Reason::Shutdown` as OTP's do.
 #[derive(Drop)]
 pub struct Mailbox<M: Drop> {
@@ -80,8 +80,8 @@ impl<M: Drop> ChildRef<M> {
         self.number
     }
 
-    /// Sends to the child, and takes no lock of the crew. The message comes back where the child has gone or was told to end, or
-    /// for want of memory.
+    /// Sends to the child, and takes no lock of the crew. The message comes back if the child has gone, if it was asked to end, or
+    /// if memory runs out.
     pub fn send(&self, message: M) -> Result<(), Gone<M>>
         ensures { IfErr result (λ gone. gone.0 ≡ message) }
     {
@@ -91,7 +91,7 @@ impl<M: Drop> ChildRef<M> {
         }
     }
 
-    /// Returns whether the child has gone, or was told to end.
+    /// Returns whether the child has gone, or was asked to end.
     pub fn is_gone(&self) -> bool {
         self.room.sender.is_closed()
     }

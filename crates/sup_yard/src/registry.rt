@@ -1,4 +1,4 @@
-//! The registry: the children that are alive, until when those may run that were told to end, and what children left that ended.
+//! The registry: the children that are alive, until when those may run that were asked to end, and what children left that ended.
 ghost use Rattle.std.specs.Prelude.{◌≡◌, IfSome};
 
 use crate::behaviour::Behaviour;
@@ -18,7 +18,7 @@ struct Entry<B: Behaviour> {
     has_ended: bool,
 }
 
-/// Until when a child may run that was told to end.
+/// Until when a child may run that was asked to end.
 #[derive(Clone, Copy)]
 struct Deadline {
     number: u64,
@@ -26,7 +26,7 @@ struct Deadline {
 }
 
 /// The children that are alive or have left something, by their numbers, and the deadlines in the order in which they were set. All
-/// have the same grace, so the first comes first. One of a child that has ended is left out when its turn comes.
+/// have the same grace, so the first comes first. One of a child that has ended is skipped when its turn comes.
 #[derive(Drop)]
 pub(crate) struct Registry<B: Behaviour> {
     children: HashMap<u64, Entry<B>>,
@@ -39,8 +39,8 @@ fn alive<B: Behaviour>(children: &HashMap<u64, Entry<B>>, number: u64) -> Option
     if entry.has_ended { None } else { Some(entry) }
 }
 
-/// Sets a deadline of a child that is alive. There is room for one of each: where memory is refused for more, those of children
-/// that have ended are left out.
+/// Sets a deadline of a child that is alive. There is room for one of each: if memory is refused for more, those of children
+/// that have ended are removed.
 fn set<B: Behaviour>(
     children: &HashMap<u64, Entry<B>>,
     deadlines: &mut VecDeque<Deadline>,
@@ -85,7 +85,7 @@ impl<B: Behaviour> Registry<B> {
         }
     }
 
-    /// Notes that a child has ended, with what it left. Whether it was told to end.
+    /// Notes that a child has ended, with what it left. Returns whether it was asked to end.
     pub(crate) fn close(&mut self, number: u64, left: Option<B::Own>) -> bool {
         let Some(entry) = self.children.get_mut(&number) else {
             return false;
@@ -114,7 +114,7 @@ impl<B: Behaviour> Registry<B> {
         Some(ChildRef { number, room })
     }
 
-    /// Tells a child to end, until this moment at the latest.
+    /// Asks a child to end, until this moment at the latest.
     pub(crate) fn end(&mut self, number: u64, until: Moment) {
         if let Some(entry) = alive(&self.children, number)
             && entry.room.tell()
@@ -127,7 +127,7 @@ impl<B: Behaviour> Registry<B> {
         }
     }
 
-    /// Tells all children to end, until this moment at the latest. None is restarted any more, so what others left that have ended
+    /// Asks all children to end, until this moment at the latest. None is restarted any more, so what others left that have ended
     /// is dropped.
     pub(crate) fn end_all(&mut self, until: Moment) {
         self.children.retain(|_, entry| !entry.has_ended);
@@ -143,7 +143,7 @@ impl<B: Behaviour> Registry<B> {
         }
     }
 
-    /// Lets the children go that were told to end, and whose time is over. The moment when that of the next is, if there is one.
+    /// Lets the children go that were asked to end, and whose time is over. Returns when the time of the next is over, if there is one.
     pub(crate) fn expire(&mut self, now: Moment) -> Option<Moment> {
         for _ in 0..self.deadlines.len() {
             let Deadline { number, until } = *self.deadlines.front()?;

@@ -20,7 +20,7 @@ use sup_desk::{HandleOf, Name};
 use sup_ledger::{Child, Due, Office, Witness};
 use sup_types::{Operation, OutOfMemory, Reply, Seen, Text};
 
-/// So many workers share a queue of the children that are to be polled.
+/// How many workers share a queue of the children that are to be polled.
 const WORKERS_OF_A_QUEUE: usize = 4;
 
 /// The tasks of a crew, with what they share. By its type, its children may end for the reasons of which the office may be told.
@@ -55,7 +55,7 @@ impl<'h, I: Office, B: Behaviour, P: Host, F: Future> Yard<'h, I, B, P, F> {
         self.tasks.shut_down();
     }
 
-    /// The child of this number and argument, which owns this and is alive from now on, and its address.
+    /// Makes the child of this number and argument, which owns this and is alive from now on, and its address.
     fn admit(
         &self,
         number: u64,
@@ -140,7 +140,7 @@ impl<'h, I: Office, B: Behaviour, P: Host> Yard<'h, I, B, P, Alive<'h, I, B, P>>
     }
 
     /// Makes and runs a child that was started, whose exit has room in the queue at this place, and shows that it was made. One
-    /// that is listed no more is told to end: who ends a child enters that first, and then looks for it among those that are
+    /// that is listed no more is asked to end: who ends a child enters that first, and then looks for it among those that are
     /// alive.
     pub fn begin<N: Name, D>(
         &self,

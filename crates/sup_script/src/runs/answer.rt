@@ -23,14 +23,14 @@ pub enum Status {
     BadInput,
     /// Reading or writing failed.
     Failed,
-    /// Any other fault, as want of memory.
+    /// Any other fault, such as no memory.
     OtherFault,
 }
 
 impl Status {
     ghost use Rattle.sup_script.specs.Running.Answers.{status_number, status_of_fault};
 
-    /// The exit status of the process: 0, 2, 3 or 4, in the order of the variants.
+    /// Returns the exit status of the process: 0, 2, 3 or 4, in the order of the variants.
     pub fn number(self) -> u8
         ensures { result ≡ status_number self }
     {
@@ -92,9 +92,9 @@ pub enum Input<'a> {
     Journal(&'a str),
 }
 
-/// Answers a script, a history text or a journal. The replies go to `out`, and a fault is a line on `err`, with an explanation behind it
-/// if that is asked for. The status is that of the outcome; a file that can't be opened is `Failed`, and nothing is written then. The
-/// reader is left alone where a path is given. A failed write to `err` changes nothing.
+/// Answers a script, a history text or a journal. The replies go to `out`, and a fault is a line on `err`, followed by an explanation
+/// if that is asked for. The status is that of the outcome; a file that can't be opened is `Failed`, and nothing is written then. With
+/// a path, the reader is not read. A failed write to `err` changes nothing.
 pub fn answer_input<F: Files, R: Read, W: Write, E: Write>(
     files: &F,
     alloc: Global,
