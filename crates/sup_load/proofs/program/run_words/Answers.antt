@@ -1,5 +1,5 @@
 -- What the words are answered, with the number of the status.
-use Rattle.std.proofs.Common.{refl, sym, ◌∙◌, ◌≡◌, ℕ}
+use Rattle.std.proofs.Common.{refl, sym, arith, ◌∙◌, ◌≡◌, ℕ}
 use Rattle.sup_script.specs.Running.Answers.{status_number}
 use Rattle.sup_script.specs.declared.runs.answer.Status.{Status}
 use Rattle.sup_script.specs.declared.runs.answer.Status.TheVariants as status
