@@ -11,7 +11,7 @@ use Rattle.sup_desk.specs.Books.{IsMade}
 use Rattle.sup_desk.specs.Knowledge.{entries_of}
 use Rattle.sup_desk.specs.EntryLaws.{entries-append}
 use Rattle.sup_desk.proofs.Counted.{others_none, own_all}
-use Rattle.sup_desk.specs.Rolls.{keeper_view, nobody, opened, newcomer, joined, kept, handed, Fits, Enrols, Compared, Entered}
+use Rattle.sup_desk.specs.Rolls.{keeper_view, nobody, opened, newcomer, joined, kept, handed, Fits, Enrols, Entered}
 
 abbrev Table : Type 0
 Table = State (Unit {0}) Known
@@ -161,18 +161,6 @@ hands id v knows claims s h at =
           ((λ k. absurd (off k)), (λ _. (put-here places v.number (suc (length views')) v.number refl, held.1, held.2))),
     )
 
-pub compares : (slots id : ℕ) (v : Known) → v.keeps ≡ true → v.claims ≡ true
-    → Allows holds slots id (v, []) 0 (λ n. n) (Compared (step slots 0 0 0 none) (v, []))
-compares slots id v knows claims s h homes at small =
-    let mine = (h.4 id v at).0 knows in
-    let held = (h.4 id v at).1 claims in (
-      v,
-      keeps,
-      tt,
-      subst Enrols (sym (set_again s.views id v at)) h,
-      (refl, held.2 ∙ ap (λ l. entries_of l v.number) (sym mine.1), subst (λ n. IsMade n v.number) (sym mine.2) held.1),
-    )
-
 abbrev with_entries : List Entry → Known → Known
 with_entries entries v = record { keeps = v.keeps; history = v.history ++ entries; made = v.made; claims = v.claims; number = v.number; calls = v.calls ++ entries }
 
@@ -202,7 +190,7 @@ enters slots id entries v knows claims own s h homes at small =
             ))
             ((λ _. (mine.0, ap (λ l. l ++ entries) mine.1, mine.2)), (λ _. (held.0, held.1, ap (λ l. l ++ entries) held.2 ∙ sym (entries-append v.number all entries ∙ ap (λ l. entries_of all v.number ++ l) own)))),
       ),
-      refl,
+      (held.2 ∙ ap (λ l. entries_of l v.number) (sym mine.1), subst (λ n. IsMade n v.number) (sym mine.2) held.1, refl),
     )
 
 -- ---- the same of a seat whose view is known
@@ -212,11 +200,6 @@ opens_as id v history made is = subst (λ (x : Known). Splits holds id x (opened
 
 pub takes_as : (id other : ℕ) (v u : Known) (history : List Entry) (made : ℕ) → v ≡ keeper_view history made → u.claims ≡ true → Joins holds id v other u (joined v u) nobody
 takes_as id other v u history made is claims = subst (λ (x : Known). Joins holds id x other u (joined x u) nobody) (sym is) (takes id history made other u claims)
-
-pub compares_as : (slots id : ℕ) (me : Me (Unit {0}) Known) → me.0.keeps ≡ true → me.0.claims ≡ true → me.1 ≡ []
-    → Allows holds slots id me 0 (λ n. n) (Compared (step slots 0 0 0 none) me)
-compares_as slots id (v, held) knows claims nothing =
-    subst (λ l. Allows holds slots id (v, l) 0 (λ n. n) (Compared (step slots 0 0 0 none) (v, l))) (sym nothing) (compares slots id v knows claims)
 
 pub enters_as : (slots id : ℕ) (entries : List Entry) (me : Me (Unit {0}) Known) → me.0.keeps ≡ true → me.0.claims ≡ true → entries_of entries me.0.number ≡ entries → me.1 ≡ []
     → Allows holds slots id me 0 (λ n. n) (Entered entries (step slots 0 0 0 none) me)

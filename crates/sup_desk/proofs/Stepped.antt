@@ -1,6 +1,6 @@
 -- A press that has stepped all that is pending.
-use Rattle.std.proofs.Common.{◌≡◌, List, [], ◌∷◌, ◌++◌, ◌+◌, length, take, Some, slice_get, refl, ap, sym, ◌∙◌, arith, append-nil}
-use Rattle.std.proofs.lemmas.List.{take_all, take_at}
+use Rattle.std.proofs.Common.{◌≡◌, List, [], ◌∷◌, ◌++◌, ◌+◌, length, Some, slice_get, refl, ap, sym, ◌∙◌}
+use Rattle.std.proofs.lemmas.List.{take_at}
 use Rattle.sup_types.specs.declared.history.Entry.{Entry}
 use Rattle.sup_log.specs.Tokens.{Record, so_far}
 

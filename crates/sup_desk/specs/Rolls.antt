@@ -72,12 +72,9 @@ IsEnrolled id history made roll = (roll ≡ record { id = id; history = history;
 
 -- ---- what a step of the keeper tells
 
--- the claim's calls are all that was entered under its number, and its handle was made
-abbrev pub Compared : Step (Unit {0}) → Me (Unit {0}) Known → ℕ → Me (Unit {0}) Known → Type 0
-Compared step before found after = (after ≡ before) × (before.0.calls ≡ entries_of before.0.history before.0.number) × IsMade before.0.made before.0.number
-
--- these entries are added to all that was entered, and to the claim's calls
+-- the claim's calls are all that was entered under its number, and its handle was made; then these entries are added to both
 abbrev pub Entered : List Entry → Step (Unit {0}) → Me (Unit {0}) Known → ℕ → Me (Unit {0}) Known → Type 0
 Entered entries step before found after =
     let v : Known = before.0 in
-    (after ≡ (record { keeps = v.keeps; history = v.history ++ entries; made = v.made; claims = v.claims; number = v.number; calls = v.calls ++ entries }, before.1))
+    (v.calls ≡ entries_of v.history v.number) × IsMade v.made v.number
+    × (after ≡ (record { keeps = v.keeps; history = v.history ++ entries; made = v.made; claims = v.claims; number = v.number; calls = v.calls ++ entries }, before.1))

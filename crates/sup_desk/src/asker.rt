@@ -6,7 +6,6 @@ ghost use Rattle.sup_core.specs.Queries.{which, count, child};
 ghost use Rattle.sup_log.specs.Tokens.{sight, history_of};
 ghost use Rattle.sup_desk.specs.Asking.{IsAnswered};
 
-use crate::answers::{child_seen, counts_seen, inspected, rows_seen};
 use crate::faults::QueryFault;
 use crate::name::Name;
 use std::marker::{Model, PhantomData};
@@ -18,7 +17,7 @@ use sup_types::{Counts, Row, Seen};
 /// queries take no lock and never wait: each is proved to return, `inspect` if its function does.
 #[derive(Drop)]
 pub struct Asker<N: Name> {
-    lens: Lens,
+    pub(crate) lens: Lens,
     of: PhantomData<N>,
 }
 
@@ -31,6 +30,17 @@ impl<N: Name> Model for Asker<N> {
     ghost view = { λ a. record { editions = a.lens.editions; front = a.lens.front } };
 
     ghost invariant = { λ a. (a.lens.press ≡ N.press) × (a.lens.template ≡ N.template) };
+}
+
+/// Calls `f` once with the view, unless the supervisor is down.
+fn inspected<T, F: FnOnce(&View) -> T>(view: &View, f: F) -> Seen<T>
+    requires { F.IsAlwaysCallable f }
+    ensures { IsAnswered F.FnOnce f view.now view.now.standing.down result }
+{
+    if view.is_down() {
+        return Seen::Down;
+    }
+    Seen::Up(f(view))
 }
 
 impl<N: Name> Asker<N> {
@@ -54,38 +64,29 @@ impl<N: Name> Asker<N> {
         self.lens.front().stamp()
     }
 
-    /// Returns a ticket for its front.
-    pub(crate) fn told(&self) -> &Ticket
-        ensures { result.now ≡ record { press = N.press; editions = self.now.editions; front = self.now.front } }
-    {
-        self.lens.front()
-    }
-
     /// Returns how many children there are at one front, which begins with all that it had seen or learnt (OTP's manual
     /// of `supervisor`, `count_children/1`).
     ///
     /// # Errors
     /// `Gone` if the desk has ended.
-    #[tactic(auto, using(crate::proofs::Answered::count_is))]
     pub fn count_children(&mut self) -> Result<Seen<Counts>, Gone>
         ensures front { IsPrefix self.old.front self.new.front }
         ensures editions { IsPrefix self.old.editions self.new.editions }
         ensures answer { IfOk result (λ answer. answer ≡ count N.template self.new.front) }
     {
-        self.lens.look(|view| counts_seen(view))
+        self.inspect(|view| view.counts())
     }
 
     /// Returns the listed child with this number at such a front.
     ///
     /// # Errors
     /// `Gone` if the desk has ended.
-    #[tactic(auto, using(crate::proofs::Answered::child_is))]
     pub fn child(&mut self, number: u64) -> Result<Seen<Option<Row>>, Gone>
         ensures front { IsPrefix self.old.front self.new.front }
         ensures editions { IsPrefix self.old.editions self.new.editions }
         ensures answer { IfOk result (λ answer. answer ≡ child N.template self.new.front number) }
     {
-        self.lens.look(|view| child_seen(view, number))
+        self.inspect(|view| view.get(number))
     }
 
     /// Returns the listed children at such a front, in ascending order of number (OTP's manual of `supervisor`,
@@ -93,13 +94,15 @@ impl<N: Name> Asker<N> {
     ///
     /// # Errors
     /// `Gone` if the desk has ended, `OutOfMemory` if there is no memory for the list.
-    #[tactic(auto, using(crate::proofs::Answered::which_is))]
     pub fn which_children(&mut self) -> Result<Seen<Vec<Row>>, QueryFault>
         ensures front { IsPrefix self.old.front self.new.front }
         ensures editions { IsPrefix self.old.editions self.new.editions }
         ensures answer { IfOk result (λ seen. MatchSeen seen (λ rows. which N.template self.new.front ≡ Seen.Up rows.items) (which N.template self.new.front ≡ Seen.Down)) }
     {
-        Ok(self.lens.look(|view| rows_seen(view))??)
+        match self.inspect(|view| view.rows())? {
+            Seen::Up(rows) => Ok(Seen::Up(rows?)),
+            Seen::Down => Ok(Seen::Down),
+        }
     }
 
     /// Calls `f` once on a view at such a front, and not at all if the supervisor is down. `f` must make no update, no

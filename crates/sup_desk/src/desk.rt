@@ -7,16 +7,14 @@ ghost use Rattle.sup_desk.specs.Recoveries.{IsCauseOf};
 ghost use Rattle.sup_desk.specs.Audits.{AreNumbered, AreGrown, HaveSeenAll};
 
 use crate::asker::Asker;
-use crate::book::Book;
-use crate::caller::Caller;
+use crate::book::{Book, Closed};
 use crate::faults::{HandleFault, TicketFault};
 use crate::ground::Ground;
-use crate::handle::HandleOf;
+use crate::handle::{Caller, HandleOf};
 use crate::journal::{Journal, NoJournal};
 use crate::laws::{add_asker, add_handle, audit};
 use crate::name::Name;
 use crate::recovery::{RecoverFault, Recovery};
-use crate::transaction::Closed;
 use std::sync::{Mutex, Wait};
 use sup_log::{NoPlace, Ticket};
 use sup_types::{Entry, Starter};

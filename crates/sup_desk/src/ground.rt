@@ -1,15 +1,13 @@
 //! Grounds: the parts of a book that has no name yet.
-ghost use Rattle.std.specs.Prelude.{◌≡◌, ◌≤◌, ◌↔◌, [], IfOk, None, vec_len, vec_capacity};
+ghost use Rattle.std.specs.Prelude.{◌≡◌, ◌≤◌, ◌↔◌, [], IfOk, None};
 
-use crate::book::Book;
-use crate::caller::Caller;
+use crate::book::{Book, Transaction};
 use crate::faults::DeskFault;
 use crate::journal::Journal;
 use crate::name::Name;
 use crate::roll::Roll;
-use crate::transaction::Transaction;
-use std::alloc::{AllocError, Global};
-use std::marker::Model;
+use std::alloc::Global;
+use std::marker::{Model, PhantomData};
 use std::sync::Wait;
 use sup_log::Press;
 use sup_types::Template;
@@ -19,8 +17,8 @@ use sup_types::Template;
 pub struct Ground<R: Wait + Drop> {
     press: Press<R>,
     roll: Roll,
-    handles: u64,
-    alloc: Global,
+    pub(crate) handles: u64,
+    pub(crate) alloc: Global,
 }
 
 impl<R: Wait + Drop> Model for Ground<R> {
@@ -69,27 +67,22 @@ impl<R: Wait + Drop> Ground<R> {
         }
     }
 
-    /// Returns an empty list with room for the callers of all handles that there may be.
-    pub(crate) fn room<N: Name>(&self) -> Result<Vec<Caller<N>>, AllocError>
-        ensures { IfOk result (λ c. (c.items ≡ []) × (vec_len c ≡ 0) × (self.now.handles ≤ vec_capacity c)) }
-    {
-        Vec::with_capacity(self.alloc, self.handles as usize)
-    }
-
     /// Returns the book of this ground, which N names: nothing is written, and no handle was made.
     pub(crate) fn book<N: Name, J: Journal + Drop>(self, journal: J) -> Book<N, R, J>
         requires name { (self.press ≡ N.press) × (self.template ≡ N.template) × (self.roll ≡ N.roll) }
         requires journal { J.has journal N.template [] [] }
         ensures { result ≡ record { editions = []; history = []; made = 0; handles = self.handles; fault = None } }
     {
-        let Ground {
-            press,
-            roll,
-            handles,
-            alloc: _,
-        } = self;
         Book {
-            transaction: Transaction::begin(press, journal, roll, handles),
+            transaction: Transaction {
+                press: self.press,
+                journal,
+                fault: None,
+                roll: self.roll,
+                made: 0,
+                handles: self.handles,
+                of: PhantomData,
+            },
         }
     }
 }

@@ -1,4 +1,4 @@
-//! Handles: the callers of a desk.
+//! Handles: the callers of a desk, and what they carry apart from it.
 ghost use Rattle.std.specs.Prelude.{◌≡◌, ◌<◌, ◌≤◌, ◌⊎◌, [], length, take, drop, IfOk, IsOk, OnOk, IfErr, IfSome, IfNone, IsTrue, ◌↔◌, Some, None, true};
 ghost use mathlib.Core.List.{IsPrefix};
 ghost use Rattle.sup_core.specs.State.{MatchSeen};
@@ -11,12 +11,13 @@ ghost use Rattle.sup_desk.specs.declared.journal.JournalFault.{JournalFault};
 ghost use Rattle.sup_desk.specs.Results.{IsUpdateResult};
 ghost use Rattle.sup_desk.specs.Audits.{AreNumbered};
 
-use crate::caller::Caller;
+use crate::asker::Asker;
 use crate::desk::Desk;
 use crate::faults::{QueryFault, UpdateFault};
 use crate::journal::{Journal, NoJournal};
 use crate::laws::{Done, Rest, enter, enter_all, give_ticket};
 use crate::name::Name;
+use crate::roll::Claim;
 use std::alloc::{Allocator, Global};
 use std::collections::VecDeque;
 use std::marker::Model;
@@ -39,6 +40,34 @@ pub struct Part<A: Allocator = Global> {
     pub replies: Vec<Reply, A>,
     pub ticket: Option<Ticket>,
     pub fault: UpdateFault,
+}
+
+/// Holds what a handle knows, without a borrow of its desk. It may leave the scope in which a desk is borrowed.
+/// `Desk::bind` makes the handle of it again.
+#[derive(Drop)]
+pub struct Caller<N: Name> {
+    pub(crate) claim: Claim,
+    pub(crate) asker: Asker<N>,
+}
+
+impl<N: Name> Model for Caller<N> {
+    ghost use Rattle.std.specs.Prelude.{◌≡◌};
+    ghost use Rattle.sup_desk.specs.Knowledge.{Knowledge};
+
+    ghost Value = { Knowledge };
+
+    ghost view = { λ c. record { number = c.claim.number; editions = c.asker.editions; front = c.asker.front; calls = c.claim.calls } };
+
+    ghost invariant = { λ c. c.claim.roll ≡ N.roll };
+}
+
+impl<N: Name> Caller<N> {
+    /// Returns its number: 1, 2, 3, .. in the order of making. No other caller of its desk has it.
+    pub fn number(&self) -> u64
+        ensures { result ≡ self.now.number }
+    {
+        self.claim.number()
+    }
 }
 
 /// Calls the desk `D`, which it borrows: it makes updates, and asks by an asker of its own. It may be moved to one
@@ -141,13 +170,8 @@ impl<'d, N: Name, S: Starter + Drop, R: Wait + Drop, J: Journal + Drop> HandleOf
         ensures journal { IfErr result (λ e. (f : JournalFault) → e ≡ UpdateFault.Journal f → J.may_fail f) }
     {
         let desk = self.desk;
-        enter(
-            &mut *desk.book.lock(rt),
-            &desk.starter,
-            self,
-            moment,
-            operation,
-        )
+        let mut book = desk.book.lock(rt);
+        enter(&mut *book, &desk.starter, self, moment, operation)
     }
 
     /// Enters the operations of the queue as updates, from its front on and in order, and publishes them in one step:
@@ -189,24 +213,17 @@ impl<'d, N: Name, S: Starter + Drop, R: Wait + Drop, J: Journal + Drop> HandleOf
                 fault: UpdateFault::OutOfMemory,
             });
         };
-        let desk = self.desk;
-        let entered = enter_all(
-            &mut *desk.book.lock(rt),
-            &desk.starter,
-            self,
-            moment,
-            operations,
-            &mut replies,
-        );
-        let (ticket, fault) = match entered {
-            Ok(ticket) => return Ok(Dones { replies, ticket }),
-            Err(Rest { ticket, fault }) => (ticket, fault),
-        };
-        Err(Part {
-            replies,
-            ticket,
-            fault,
-        })
+        let Desk { book, starter } = self.desk;
+        let mut book = book.lock(rt);
+        let entered = enter_all(&mut *book, starter, self, moment, operations, &mut replies);
+        match entered {
+            Ok(ticket) => Ok(Dones { replies, ticket }),
+            Err(Rest { ticket, fault }) => Err(Part {
+                replies,
+                ticket,
+                fault,
+            }),
+        }
     }
 
     /// Returns a ticket for all of the history, which the handle has then seen. Its calls are all the entries there
@@ -236,8 +253,7 @@ impl<'d, N: Name, D> HandleOf<'d, N, D> {
     pub fn unbind(self) -> (Caller<N>, &'d D)
         ensures { result.0 ≡ self.entry }
     {
-        let HandleOf { caller, desk } = self;
-        (caller, desk)
+        (self.caller, self.desk)
     }
 
     /// Returns whether these are handle 1, handle 2, .., in the order of making, as an audit asks for them.

@@ -13,14 +13,12 @@ ghost use Rattle.sup_desk.specs.Batches.{AreEntered, AreWritten, IsApplied, IsOn
 ghost use Rattle.std.specs.VecDeque.{deque_len};
 
 use crate::asker::Asker;
-use crate::book::Book;
-use crate::caller::Caller;
+use crate::book::{Book, Transaction};
 use crate::desk::Desk;
 use crate::faults::{HandleFault, TicketFault, UpdateFault};
-use crate::handle::HandleOf;
+use crate::handle::{Caller, HandleOf};
 use crate::journal::Journal;
 use crate::name::Name;
-use crate::transaction::Transaction;
 use std::alloc::Allocator;
 use std::collections::VecDeque;
 use std::sync::Wait;
@@ -62,8 +60,6 @@ fn enter_one<N: Name, S: Starter, R: Wait + Drop, J: Journal + Drop>(
     moment: u64,
     operation: &Operation,
 ) -> Result<Reply, UpdateFault>
-    requires met { entries_of book.old.history caller.old.number ≡ caller.old.calls }
-    requires made { IsMade book.old.made caller.old.number }
     ensures entered { IfOk result (λ reply. IsOneEntered S.may_answer N.template book.old caller.old operation.now moment reply book.new caller.new) }
     ensures kept { OnErr result (caller.new ≡ caller.old) }
     ensures left { IfErr result (λ e. IsLeft J.may_fail book.old e book.new) }
@@ -75,13 +71,10 @@ fn enter_one<N: Name, S: Starter, R: Wait + Drop, J: Journal + Drop>(
     if let Some(broken) = book.transaction.fault() {
         return Err(UpdateFault::Journal(broken));
     }
-    let reply = book.transaction.write(
-        starter,
-        caller.number(),
-        caller.calls(),
-        moment,
-        operation,
-    )?;
+    let serial = caller.claim.count();
+    let reply = book
+        .transaction
+        .write(starter, caller.number(), serial, moment, operation)?;
     match book.transaction.commit(caller) {
         Ok(()) => Ok(reply),
         Err(fault) => Err(UpdateFault::Journal(fault)),
@@ -140,23 +133,13 @@ fn write_all<N: Name, S: Starter, R: Wait + Drop, J: Journal + Drop, A: Allocato
     ensures faults { IfSome result (λ e. IsOfStep e) }
 {
     'queue: while let Some(operation) = operations.get(replies.len()) {
-        let serial = caller.calls() + replies.len() as u64;
+        let serial = caller.claim.count() + replies.len() as u64;
         match transaction.write(starter, caller.number(), serial, moment, operation) {
             Ok(reply) => replies.push_reserved(reply),
             Err(fault) => return Some(fault),
         }
     }
     None
-}
-
-/// Takes the first `count` operations out of the queue.
-fn drop_first(operations: &mut VecDeque<Operation>, count: usize)
-    requires { count ≤ length operations.old.items }
-    ensures { operations.new.items ≡ drop count operations.old.items }
-{
-    for _ in 0..count {
-        let _ = operations.pop_front();
-    }
 }
 
 /// Enters the operations of a queue for a caller whose calls are all the entries under its number, and returns the
@@ -173,14 +156,11 @@ fn enter_queue<N: Name, S: Starter, R: Wait + Drop, J: Journal + Drop, A: Alloca
     requires none { vec_len replies.old ≡ 0 }
     requires room { deque_len operations.old ≤ vec_capacity replies.old }
     requires met { entries_of book.old.history caller.old.number ≡ caller.old.calls }
-    requires made { IsMade book.old.made caller.old.number }
     requires within { length book.old.history ≤ N.template.entries }
     ensures entered { IsQueueEntered S.may_answer J.may_fail N.template book.old caller.old (take (length replies.new.items) operations.old.items) moment replies.new.items book.new caller.new }
     ensures rest { operations.new.items ≡ drop (length replies.new.items) operations.old.items }
     ensures all { IfNone result (operations.new.items ≡ []) }
     ensures left { replies.new.items ≡ [] → IfSome result (λ e. IsLeft J.may_fail book.old e book.new) }
-
-    // When a fault comes.
     ensures gone { IfSome result (λ e. e ≡ UpdateFault.Gone → ⊥) }
     ensures full { IfSome result (λ e. e ≡ UpdateFault.HistoryFull → length book.new.history ≡ N.template.entries) }
     ensures room { IfSome result (λ e. e ≡ UpdateFault.OutOfMemory → length book.new.history < N.template.entries) }
@@ -191,14 +171,8 @@ fn enter_queue<N: Name, S: Starter, R: Wait + Drop, J: Journal + Drop, A: Alloca
     if let Some(broken) = book.transaction.fault() {
         return Some(UpdateFault::Journal(broken));
     }
-    let fault = write_all(
-        &mut book.transaction,
-        starter,
-        caller,
-        moment,
-        operations,
-        replies,
-    );
+    let transaction = &mut book.transaction;
+    let fault = write_all(transaction, starter, caller, moment, operations, replies);
     if replies.is_empty() {
         return fault;
     }
@@ -206,7 +180,7 @@ fn enter_queue<N: Name, S: Starter, R: Wait + Drop, J: Journal + Drop, A: Alloca
         replies.clear();
         return Some(UpdateFault::Journal(broken));
     }
-    drop_first(operations, replies.len());
+    drop(operations.drain(..replies.len()));
     fault
 }
 
@@ -250,14 +224,8 @@ pub fn enter_all<N: Name, D, S: Starter, R: Wait + Drop, J: Journal + Drop, A: A
     ensures broken { IfSome book.old.fault (λ f. IfErr result (λ r. r.fault ≡ UpdateFault.Journal f) × IfOk result (λ _. ⊥)) }
 {
     book.transaction.meet(&mut handle.caller);
-    let fault = enter_queue(
-        book,
-        starter,
-        &mut handle.caller,
-        moment,
-        operations,
-        replies,
-    );
+    let caller = &mut handle.caller;
+    let fault = enter_queue(book, starter, caller, moment, operations, replies);
     let ticket = book.transaction.show(&mut handle.caller);
     let Some(fault) = fault else {
         return Ok(ticket);
@@ -284,7 +252,17 @@ pub fn add_handle<N: Name, R: Wait + Drop, J: Journal + Drop>(
     ensures none { (result ≡ Err HandleFault.NoHandle) ↔ (book.old.made ≡ book.old.handles) }
     ensures room { OnOk result (book.old.made < book.old.handles) }
 {
-    book.transaction.add()
+    let transaction = &mut book.transaction;
+    if transaction.made >= transaction.handles {
+        return Err(HandleFault::NoHandle);
+    }
+    let Ok(lens) = transaction.press.lens() else {
+        return Err(HandleFault::NoPlace);
+    };
+    let claim = transaction.roll.open(transaction.made + 1);
+    transaction.made += 1;
+    let asker = Asker::begin(lens);
+    Ok(Caller { claim, asker })
 }
 
 /// Makes an asker. It has seen all of the history, and the book is as it was.
@@ -294,7 +272,7 @@ pub fn add_asker<N: Name, R: Wait + Drop, J: Journal + Drop>(
     ensures ok { IfOk result (λ a. a ≡ record { editions = book.old.editions; front = book.old.history }) }
     ensures same { book.new ≡ book.old }
 {
-    Ok(Asker::begin(book.transaction.lens()?))
+    Ok(Asker::begin(book.transaction.press.lens()?))
 }
 
 /// Lets the handles see all of the history, and shows that it is their calls and nothing else: they are as many as were
@@ -315,7 +293,7 @@ pub fn audit<N: Name, S: Starter + Drop, R: Wait + Drop, J: Journal + Drop>(
     ensures split { (result ≡ Err TicketFault.Split) ↔ ¬ (length handles.new ≡ book.old.made) }
     ensures gone { IfErr result (λ e. e ≡ TicketFault.Gone → ⊥) }
 {
-    if handles.len() as u64 != book.transaction.made() {
+    if handles.len() as u64 != book.transaction.made {
         return Err(TicketFault::Split);
     }
     for handle in handles.iter_mut() {

@@ -40,10 +40,8 @@
 //! The functions of [`laws`] are lent the book: their contracts say what it is afterwards.
 #![tactic(auto)]
 
-mod answers;
 mod asker;
 mod book;
-mod caller;
 mod desk;
 mod faults;
 mod ground;
@@ -54,18 +52,15 @@ mod name;
 mod program;
 mod recovery;
 mod roll;
-mod transaction;
 
 pub use asker::Asker;
-pub use book::Book;
-pub use caller::Caller;
+pub use book::{Book, Closed};
 pub use desk::{Desk, Recovered};
 pub use faults::{DeskFault, HandleFault, QueryFault, TicketFault, UpdateFault};
 pub use ground::Ground;
-pub use handle::{Dones, Handle, HandleOf, Part};
+pub use handle::{Caller, Dones, Handle, HandleOf, Part};
 pub use journal::{Journal, JournalFault, NoJournal};
 pub use laws::{Done, Rest};
 pub use name::Name;
 pub use program::{JournaledProgram, Program, on_desk, on_journaled_desk};
 pub use recovery::{RecoverFault, Recovery};
-pub use transaction::Closed;

@@ -3,14 +3,14 @@ ghost use Rattle.std.specs.Prelude.{◌≡◌, ◌≤◌, ◌↔◌, [], IfOk, I
 ghost use Rattle.sup_desk.specs.Journals.{HasJust};
 ghost use Rattle.sup_desk.specs.Recoveries.{IsCauseOf};
 
-use crate::caller::Caller;
+use crate::book::Closed;
 use crate::desk::{Desk, Recovered};
 use crate::faults::DeskFault;
 use crate::ground::Ground;
+use crate::handle::Caller;
 use crate::journal::Journal;
 use crate::name::Name;
 use crate::recovery::RecoverFault;
-use crate::transaction::Closed;
 use std::alloc::Global;
 use std::marker::Brand;
 use std::sync::Wait;

@@ -6,11 +6,11 @@ ghost use Rattle.sup_desk.specs.Books.{IsMade, grown_by};
 ghost use Rattle.sup_desk.specs.Faults.{recover_fault_number, desk_fault_number};
 ghost use Rattle.sup_desk.specs.Recoveries.{StopsAt};
 
-use crate::book::Book;
-use crate::caller::Caller;
+use crate::book::{Book, Transaction, take};
 use crate::desk::{Desk, Recovered};
 use crate::faults::{DeskFault, HandleFault};
 use crate::ground::Ground;
+use crate::handle::Caller;
 use crate::journal::{Journal, NoJournal};
 use crate::laws::{add_handle, give_ticket};
 use crate::name::Name;
@@ -95,8 +95,14 @@ fn enter_again<N: Name, R: Wait + Drop>(
     ensures full { IfErr result (λ f. f ≡ RecoverFault.HistoryFull → length book.old.history ≡ N.template.entries) }
     ensures faults { IfErr result (λ f. (f ≡ RecoverFault.NoHandle → ⊥) × (f ≡ RecoverFault.BadTemplate → ⊥)) }
 {
-    book.transaction.meet(caller);
-    book.transaction.write_again(entry)?;
+    let Transaction { press, journal, .. } = &mut book.transaction;
+    press.ready();
+    let Some(asked) = press.asks(&entry.operation, entry.moment) else {
+        return Err(RecoverFault::HistoryFull);
+    };
+    if take(press, journal, entry, &asked).is_err() {
+        return Err(RecoverFault::OutOfMemory);
+    }
     match book.transaction.commit(caller) {
         Ok(()) => Ok(()),
         Err(_) => unreachable!(),
@@ -124,7 +130,7 @@ impl<N: Name, R: Wait + Drop> Recovery<N, R> {
         ensures ok { IfOk result (λ r. r ≡ record { history = []; made = 0; handles = ground.handles }) }
         ensures err { IfErr result (λ f. f ≡ RecoverFault.OutOfMemory) }
     {
-        let Ok(callers) = ground.room() else {
+        let Ok(callers) = Vec::with_capacity(ground.alloc, ground.handles as usize) else {
             return Err(RecoverFault::OutOfMemory);
         };
         Ok(Recovery {
@@ -133,25 +139,18 @@ impl<N: Name, R: Wait + Drop> Recovery<N, R> {
         })
     }
 
-    /// Makes one handle more.
-    fn open(&mut self) -> Result<(), HandleFault>
-        ensures ok { OnOk result (self.new ≡ record self.old { made = self.old.made + 1 }) }
-        ensures err { OnErr result (self.new ≡ self.old) }
-        ensures none { IfErr result (λ f. f ≡ HandleFault.NoHandle → self.old.made ≡ self.old.handles) }
-    {
-        let caller = add_handle(&mut self.book)?;
-        self.callers.push_reserved(caller);
-        Ok(())
-    }
-
     /// Makes handles up to this number, in order.
-    fn open_to(&mut self, number: u64) -> Result<(), HandleFault>
+    fn open_to(&mut self, number: u64) -> Result<(), RecoverFault>
         ensures ok { OnOk result (number ≤ self.new.made) }
         ensures same { self.new ≡ record self.old { made = self.new.made } }
-        ensures none { IfErr result (λ f. f ≡ HandleFault.NoHandle → self.old.handles < number) }
+        ensures none { IfErr result (λ f. (f ≡ RecoverFault.NoHandle → self.old.handles < number) × (f ≡ RecoverFault.HistoryFull → ⊥) × (f ≡ RecoverFault.BadTemplate → ⊥)) }
     {
         'opening: while (self.callers.len() as u64) < number {
-            self.open()?;
+            match add_handle(&mut self.book) {
+                Ok(caller) => self.callers.push_reserved(caller),
+                Err(HandleFault::NoHandle) => return Err(RecoverFault::NoHandle),
+                Err(HandleFault::NoPlace) => return Err(RecoverFault::OutOfMemory),
+            }
         }
         Ok(())
     }
@@ -171,11 +170,7 @@ impl<N: Name, R: Wait + Drop> Recovery<N, R> {
         if entry.handle == 0 {
             return Err(RecoverFault::NoHandle);
         }
-        match self.open_to(entry.handle) {
-            Ok(()) => {}
-            Err(HandleFault::NoHandle) => return Err(RecoverFault::NoHandle),
-            Err(HandleFault::NoPlace) => return Err(RecoverFault::OutOfMemory),
-        }
+        self.open_to(entry.handle)?;
         let place = (entry.handle - 1) as usize;
         enter_again(&mut self.book, &mut self.callers[place], entry)
     }

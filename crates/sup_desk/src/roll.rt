@@ -17,17 +17,11 @@ use sup_types::Entry;
 /// What a seat knows. The keeper's has all that was entered, and how many handles were made. That of a claim has its number, and
 /// what was entered under it. No value of it is made.
 pub struct Known {
-    /// Whether the seat is the keeper's.
     pub keeps: bool,
-    /// All that was entered.
     pub history: LinkedList<Entry>,
-    /// How many handles were made.
     pub made: u64,
-    /// Whether the seat has a claim.
     pub claims: bool,
-    /// The number that it claims.
     pub number: u64,
-    /// What was entered under that number.
     pub calls: LinkedList<Entry>,
 }
 
@@ -87,17 +81,8 @@ impl Split<Known> for Hands {
     ghost right = { handed };
 }
 
-/// The keeper compares the claim that it has taken in with all that was entered.
-struct Compares;
-
-impl Play<(), Known> for Compares {
-    ghost use Rattle.sup_desk.specs.Rolls.{Compared};
-
-    ghost then = { Compared };
-}
-
 /// Entries that are added to a roll. Each step picks them.
-trait Added {
+pub trait Added {
     ghost use Rattle.std.specs.Prelude.{List};
     ghost use Rattle.sup_types.specs.declared.history.Entry.{Entry};
 
@@ -110,7 +95,7 @@ impl Added for Brand {
     ghost entries = { [] };
 }
 
-/// The keeper enters these entries under the claim that it has taken in.
+/// The keeper compares the claim that it has taken in with all that was entered, and enters these entries under it.
 struct Enters<E> {
     entries: PhantomData<E>,
 }
@@ -202,37 +187,15 @@ impl Roll {
         }
     }
 
-    /// Shows that what was entered under a number is the calls of its claim, and that a handle with this number was made.
-    pub fn meet(&mut self, claim: &mut Claim)
-        requires { claim.old.roll ≡ self.old.id }
-        ensures met { entries_of self.old.history claim.old.number ≡ claim.old.calls }
-        ensures made { IsMade self.old.made claim.old.number }
-        ensures same { (self.new ≡ self.old) × (claim.new ≡ claim.old) }
-    {
-        let Roll { table, keeper } = self;
-        let spare = table.shared.split_seat::<Spares>(keeper);
-        let seat = replace(&mut claim.seat, spare);
-        table.shared.join_seat::<Takes>(keeper, seat);
-        table.shared.load::<Compares>(keeper, 0);
-        claim.seat = table.shared.split_seat::<Hands>(keeper);
-    }
-
-    /// Enters these entries under the claim's number, which is theirs.
-    pub fn enter(&mut self, claim: &mut Claim, entries: &[Entry])
-        requires roll { claim.old.roll ≡ self.old.id }
-        requires mine { entries_of entries.now claim.old.number ≡ entries.now }
-        requires room { length claim.old.calls + length entries.now < 2 ^ 64 }
-        ensures entered { self.new ≡ record self.old { history = self.old.history ++ entries.now } }
-        ensures claim { claim.new ≡ record claim.old { calls = claim.old.calls ++ entries.now } }
-    {
-        self.enter_by::<Brand>(claim, entries)
-    }
-
-    fn enter_by<E: Added>(&mut self, claim: &mut Claim, entries: &[Entry])
+    /// Enters these entries under the claim's number, which is theirs. What was entered under that number before is the
+    /// calls of the claim, and a handle with this number was made.
+    pub fn enter<E: Added>(&mut self, claim: &mut Claim, entries: &[Entry])
         requires entries { entries.now ≡ E.entries }
         requires roll { claim.old.roll ≡ self.old.id }
         requires mine { entries_of E.entries claim.old.number ≡ E.entries }
-        requires room { length claim.old.calls + length E.entries < 2 ^ 64 }
+        requires room { length self.old.history + length E.entries < 2 ^ 64 }
+        ensures met { entries_of self.old.history claim.old.number ≡ claim.old.calls }
+        ensures made { IsMade self.old.made claim.old.number }
         ensures entered { self.new ≡ record self.old { history = self.old.history ++ E.entries } }
         ensures claim { claim.new ≡ record claim.old { calls = claim.old.calls ++ E.entries } }
     {

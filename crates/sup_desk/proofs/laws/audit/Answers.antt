@@ -19,8 +19,5 @@ loop-handle-preserved g c =
           old.seen within (told_all c.args.book.now.history c.give_ticket.new.handle (told.front.0 ∙ history) told.own);
     }
 
-pub returns-then-handles-made-clause-split : goal.returns-then-handles-made-clause-split
-returns-then-handles-made-clause-split g c = search rules
-
 pub returns-clause-split : goal.returns-clause-split
 returns-clause-split g c = search rules

@@ -6,7 +6,7 @@ use Rattle.sup_types.specs.declared.history.Entry.{Entry}
 use Rattle.sup_core.specs.Account.{reply_after}
 use Rattle.sup_desk.specs.Books.{Written, with_pending}
 use Rattle.sup_desk.specs.Batches.{AreEntered}
-use Rattle.sup_desk.specs.Knowledge.{entries_of, IsEntryOf}
+use Rattle.sup_desk.specs.Knowledge.{Knowledge, entries_of, IsEntryOf}
 use Rattle.sup_desk.specs.BatchLaws.{entered-push, entered-entries, entered-replies, next_of}
 use Rattle.sup_desk.specs.EntryLaws.{entries_le}
 use Rattle.sup_desk.proofs.laws.write_all.Goals as goal
@@ -43,7 +43,8 @@ overflow_add-serial g c =
     let entries : List Entry = old.written.0 in
     omega (
       arith,
-      c.calls.ensures,
+      c.count.ensures,
+      ap (λ (k : Knowledge). length k.calls) c.caller.view_is,
       c.len-in-Some.ensures,
       c.queue.replies.ok.0,
       ap length c.requires.met,
@@ -85,12 +86,13 @@ queue-preserved g c =
     let calls : serial ≡ length c.args.caller.now.calls =
     ap (λ (l : List Entry). length (entries_of (first.published ++ l) number)) c.requires.clean
     ∙ ap (λ (l : List Entry). length (entries_of l number)) (append-nil first.published) ∙ ap length c.requires.met in
-    let sum : ℕ = c.calls.result + c.len-in-Some.result in
+    let sum : ℕ = c.count.result + c.len-in-Some.result in
     let count : sum ≡ serial + length entries =
     omega (
       arith,
       calls,
-      c.calls.ensures,
+      c.count.ensures,
+      ap (λ (k : Knowledge). length k.calls) c.caller.view_is,
       c.len-in-Some.ensures,
       c.queue.replies.ok.0,
       entered-entries may template number c.args.moment before serial (take k operations) entries replies entered,

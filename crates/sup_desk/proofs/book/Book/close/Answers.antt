@@ -1,7 +1,7 @@
-use Rattle.std.proofs.Common.{List, Option, None, Some, ◌≡◌, ap, sym, subst}
+use Rattle.std.proofs.Common.{List, Option, None, Some, ap, ◌∙◌, sym, subst}
 use Rattle.sup_types.specs.declared.history.Entry.{Entry}
 use Rattle.sup_desk.specs.declared.journal.JournalFault.{JournalFault}
-use Rattle.sup_desk.specs.Books.{Kept, Written, IsClean}
+use Rattle.sup_desk.specs.Books.{Kept, IsClean}
 use Rattle.sup_desk.specs.Journals.{IsKept, HasJust}
 use Rattle.sup_desk.proofs.book.Book.close.Goals as goal
 
@@ -14,10 +14,8 @@ pub returns-clause-journal : goal.returns-clause-journal
 returns-clause-journal g c =
     let n = g.N.Name in
     let j = g.J.Journal in
-    let leaf : Written = c.self.inside.transaction in
-    let journal = c.close.result.journal in
-    let fault : Option JournalFault = c.close.result.fault in
-    let history : leaf.published ≡ c.args.self.history = ap (λ (k : Kept). k.history) c.self.view_is in
-    let clean : IsClean fault leaf.pending = subst (λ (f : Option JournalFault). IsClean f leaf.pending) (sym c.close.ensures.fault) c.self.invariant in
-    subst (λ (h : List Entry). HasJust (j.has journal n.template) (j.is_torn journal n.template) j.may_fail fault h) history
-    (just_of (j.has journal n.template) (j.is_torn journal n.template) j.may_fail fault leaf.published leaf.pending c.close.ensures.journal clean)
+    let t = c.self-inside.inside.0.0 in
+    let history = ap (λ b. b.transaction.published) c.self-inside.view_is ∙ ap (λ (k : Kept). k.history) c.self.view_is in
+    let clean : IsClean t.fault t.press.pending = subst (λ b. IsClean b.transaction.fault b.transaction.pending) (sym c.self-inside.view_is) c.self.invariant in
+    subst (λ (h : List Entry). HasJust (j.has t.journal n.template) (j.is_torn t.journal n.template) j.may_fail t.fault h) history
+    (just_of (j.has t.journal n.template) (j.is_torn t.journal n.template) j.may_fail t.fault t.press.published t.press.pending c.self-inside.invariant.8 clean)

@@ -4,7 +4,7 @@ use Rattle.sup_log.specs.Tokens.{Told}
 use Rattle.sup_desk.specs.Books.{Written}
 use Rattle.sup_desk.specs.Knowledge.{Knowledge}
 use Rattle.sup_desk.specs.EntryLaws.{adopted}
-use Rattle.sup_desk.proofs.transaction.Transaction.show.Goals as goal
+use Rattle.sup_desk.proofs.book.Transaction.show.Goals as goal
 
 fronts : {A B C D : Type 0} → (A × B) ⊎ (C × D) → A ⊎ C
 fronts (inl p) = inl p.0

@@ -3,7 +3,7 @@ use Rattle.sup_types.specs.declared.history.Entry.{Entry}
 use Rattle.sup_core.specs.Account.{reply_after}
 use Rattle.sup_log.specs.Tokens.{Record, so_far}
 use Rattle.sup_desk.proofs.Stepped.{with, stepped, but_the_last, the_last}
-use Rattle.sup_desk.proofs.transaction.take.Goals as goal
+use Rattle.sup_desk.proofs.book.take.Goals as goal
 
 pub returns-clause-press : goal.returns-clause-press
 returns-clause-press g c =

@@ -7,17 +7,13 @@ use Rattle.sup_desk.specs.declared.journal.JournalFault.{JournalFault}
 use Rattle.sup_desk.specs.Books.{Written, IsMade}
 use Rattle.sup_desk.specs.Rolls.{IsEnrolled}
 use Rattle.sup_desk.specs.Journals.{IsKept}
-use Rattle.sup_desk.specs.EntryLaws.{entries_le}
 use Rattle.sup_desk.specs.Knowledge.{Knowledge, entries_of}
 use Rattle.sup_desk.proofs.Counted.{own_all}
-use Rattle.sup_desk.proofs.transaction.Transaction.commit.Goals as goal
+use Rattle.sup_desk.proofs.book.Transaction.commit.Goals as goal
 
 pub enter-requires-clause-room : goal.enter-requires-clause-room
 enter-requires-clause-room g c =
-    let fits = entries_le c.args.caller.now.number c.args.self.now.published in
-    let same = ap (λ (w : Written). length w.published) c.self.view_is in
-    let calls = ap (λ (k : Knowledge). length k.calls) c.caller.view_is in
-    omega (arith, ap length c.requires.met, fits, same, calls, ap length c.pending.ensures.items, c.self.invariant.4, g.N.Name.template.in_range.6)
+    omega (arith, ap (λ r. length r.history) c.self.invariant.5.0, ap length c.pending.ensures.items, c.self.invariant.4, g.N.Name.template.in_range.6)
 
 pub invariant_of-self-2 : goal.invariant_of-self-2
 invariant_of-self-2 g c =
@@ -28,7 +24,8 @@ invariant_of-self-2 g c =
     let published : List Entry = l.press.published in
     let pending : List Entry = l.press.pending in
     let number : ℕ = c.args.caller.now.number in
-    let made : IsMade l.made number = (c.requires.made.0, omega (arith, ap (λ (w : Written). w.made) c.self.view_is, c.requires.made.1)) in
+    let is = ap (λ (k : Knowledge). k.number) c.caller.view_is in
+    let made : IsMade l.made number = (omega (arith, is, c.enter.ensures.made.0), omega (arith, is, ap (λ r. r.made) old.5.0, c.enter.ensures.made.1)) in
     let own : entries_of pending number ≡ pending =
     subst (λ (w : Written). entries_of w.pending number ≡ w.pending) (sym c.self.view_is) c.requires.mine in
     let roll : c.enter.new.self ≡ record { id = n.roll; history = published ++ pending; made = l.made } =

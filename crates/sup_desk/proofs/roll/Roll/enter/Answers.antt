@@ -1,7 +1,8 @@
-use Rattle.std.proofs.Common.{rules, ap, ◌∙◌}
+use Rattle.std.proofs.Common.{rules, length, ap, ◌∙◌, arith}
+use Rattle.sup_desk.specs.EntryLaws.{entries_le}
 use Rattle.sup_desk.specs.Knowledge.{entries_of}
 use Rattle.sup_desk.proofs.Enrolling.{spares, takes_as, enters_as, hands}
-use Rattle.sup_desk.proofs.roll.Roll.enter_by.Goals as goal
+use Rattle.sup_desk.proofs.roll.Roll.enter.Goals as goal
 
 pub split_seat-spare-requires : goal.split_seat-spare-requires
 split_seat-spare-requires g c = (search rules, search rules, spares _ _)
@@ -31,5 +32,24 @@ split_seat-requires g c =
     let knows = ap (λ m. m.0.keeps) both ∙ ap (λ v. v.keeps) known in
     let has = ap (λ m. m.0.claims) both ∙ claims in
     let nothing = ap (λ m. m.1) both ∙ ap (λ m. m.1) c.split_seat-spare.ensures.2 ∙ ap (λ m. m.1) c.self.invariant.2 in
-    let after = c.load.ensures.2 in
+    let after = c.load.ensures.2.2 in
     (search rules, search rules, hands _ _ (ap (λ m. m.0.keeps) after ∙ knows) (ap (λ m. m.0.claims) after ∙ has))
+
+-- the claim has no more calls than were entered
+pub overflow_add-claim : goal.overflow_add-claim
+overflow_add-claim g c =
+    let both = c.join_seat.ensures.2 in
+    let known = c.join_seat.new.seat.me.0 in
+    omega (
+      arith,
+      c.requires.room,
+      ap length c.requires.entries,
+      c.claim.invariant.1,
+      ap (λ m. length m.0.calls) both,
+      ap (λ s. length s.me.0.calls) c.replace-seat.ensures.value,
+      ap length c.load.ensures.2.0,
+      entries_le known.number known.history,
+      ap (λ m. length m.0.history) both,
+      ap (λ m. length m.0.history) c.split_seat-spare.ensures.2,
+      ap (λ r. length r.history) c.self.view_is,
+    )

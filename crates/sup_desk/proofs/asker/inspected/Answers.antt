@@ -1,6 +1,6 @@
 use Rattle.std.proofs.Common.{refl, sym, ◌∙◌}
 use Rattle.sup_desk.specs.Asking.{IsAnswered}
-use Rattle.sup_desk.proofs.answers.inspected.Goals as goal
+use Rattle.sup_desk.proofs.asker.inspected.Goals as goal
 
 pub returns : goal.returns
 unfolding IsAnswered
