@@ -10,6 +10,7 @@ use Rattle.sup_types.specs.declared.template.Template.{Template}
 use Rattle.sup_types.specs.declared.history.Entry.{Entry}
 use Rattle.sup_format.specs.Reading.History.{AreEntries, SpellsAs}
 use Rattle.sup_format.specs.declared.fault.Fault.{Fault}
+use Rattle.sup_format.specs.declared.fault.Fault.TheVariants as line_fault
 use Rattle.sup_format.specs.Reading.HistoryReading.{HistoryStops}
 use Rattle.sup_format.specs.Reading.Streams.{HasStreamCause, IsStreamed, IsUnread, Stream}
 use Rattle.sup_format.specs.Reading.Texts.{IsFull, lines_of}
@@ -168,3 +169,18 @@ wrong_of text template line failed f g e none p = elim (subst (λ (h : Fault). S
   | inl wrong ↦ wrong
   | inr cause ↦ absurd (none cause)
 ]
+
+-- a whole line is wrong by what its text is
+pub wrong_line : (text : List ℕ) (template : Template) (line handles : ℕ) (failed : Bool) (f : Fault) → (f ≡ line_fault.BadTemplate) ⊎ (f ≡ line_fault.BadLine) → StopsIn text template line failed f
+    → IsCauseOf (opening.WrongLine (record { fault = f; line = line })) text template handles
+wrong_line text template line handles failed f is p = (wrong.0, sound is, wrong.1) where
+  none : (f ≡ line_fault.BadTemplate) ⊎ (f ≡ line_fault.BadLine) → HasStreamCause failed f → ⊥
+  none (inl e) cause = subst (λ (h : Fault). HasStreamCause failed h) e cause
+  none (inr e) cause = subst (λ (h : Fault). HasStreamCause failed h) e cause
+
+  sound : (f ≡ line_fault.BadTemplate) ⊎ (f ≡ line_fault.BadLine) → ¬ (f ≡ line_fault.OutOfMemory)
+  sound (inl e) memory = absurd (cc (e, memory))
+  sound (inr e) memory = absurd (cc (e, memory))
+
+  wrong : IsWrongIn text template line f
+  wrong = wrong_of text template line failed f f refl (none is) p

@@ -1,7 +1,5 @@
 //! Why a journal was not begun, and why one ended.
 
-use std::fmt;
-use std::fmt::{Debug, Display, Formatter};
 use std::io::ErrorKind;
 use sup_desk::JournalFault;
 use thiserror::Error;
@@ -33,19 +31,12 @@ impl BeginFault {
 }
 
 /// Says why a journal was not begun, and gives its writer back. As an error it shows its fault.
-#[derive(Debug, Drop)]
+#[derive(Debug, Drop, Error)]
+#[error("{fault}")]
 pub struct NotBegun<W> {
     pub fault: BeginFault,
     pub writer: W,
 }
-
-impl<W> Display for NotBegun<W> {
-    fn fmt<V: fmt::Write>(&self, f: &mut Formatter<V>) -> fmt::Result {
-        Display::fmt(&self.fault, f)
-    }
-}
-
-impl<W: Debug + Drop> std::error::Error for NotBegun<W> {}
 
 /// Says what ended a journal.
 #[derive(Clone, Copy, Debug, PartialEq, Eq)]

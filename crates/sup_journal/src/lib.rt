@@ -40,16 +40,14 @@ pub mod laws;
 mod opening;
 mod origin;
 mod program;
-mod reading;
 mod send;
 mod synced;
 mod text_journal;
 
 pub use fault::{BeginFault, NotBegun};
 pub use flushing::Flush;
-pub use opening::{FileJournal, OpenFault, continue_journal, open_journal};
+pub use opening::{FileJournal, OpenFault, continue_journal, open_journal, read_journal};
 pub use origin::{Origin, Unknown};
 pub use program::on_desk_in_file;
-pub use reading::read_journal;
 pub use synced::Synced;
 pub use text_journal::TextJournal;

@@ -1,17 +1,15 @@
-//! A journal in a file that may hold a history already.
+//! Reading a journal again, and continuing in a file that may hold a history already.
 
-ghost use Rattle.std.specs.Prelude.{◌≡◌, ◌<◌, ℕ, List, [], length, Option, IfOk, IfErr};
-ghost use Rattle.std.specs.Io.{StartsWith};
+ghost use Rattle.std.specs.Prelude.{◌≡◌, ◌<◌, ℕ, List, [], length, Option, IfOk, IfErr, MatchResult};
 ghost use Rattle.std.specs.Io.KnownBytes.{IsAtEnd};
 ghost use Rattle.sup_types.specs.declared.template.Template.{Template as ATemplate};
-ghost use Rattle.sup_types.specs.declared.history.Entry.{Entry as AnEntry};
-ghost use Rattle.sup_format.specs.Causes.{IsTextFault};
-ghost use Rattle.sup_format.specs.Reading.History.{SpellsAs};
+ghost use Rattle.sup_format.specs.Reading.History.{Spells, SpellsAs};
+ghost use Rattle.sup_format.specs.Reading.HistoryReading.{HistoryStops};
 ghost use Rattle.sup_format.specs.Reading.Streams.{IsStreamed, IsUnread};
-ghost use Rattle.sup_format.specs.Reading.Texts.{IsFull};
+ghost use Rattle.sup_format.specs.Reading.Texts.{IsEndedPart};
 ghost use Rattle.sup_format.specs.Writing.HistoryTexts.{header_line};
 ghost use Rattle.sup_journal.specs.Faults.{open_fault_number};
-ghost use Rattle.sup_journal.specs.Openings.{EntersAll, IsCauseOf, IsContinued, IsUnbegun, IsWrongIn, StopsIn, WantsCut};
+ghost use Rattle.sup_journal.specs.Openings.{EntersAll, IsCauseOf, IsContinued, StopsIn, WantsCut};
 
 use crate::fault::BeginFault;
 use crate::origin::Unknown;
@@ -22,7 +20,10 @@ use std::fs::{Files, OpenFile, OpenOptions};
 use std::io::{Error as IoError, ErrorKind, Read, Write};
 use std::sync::Wait;
 use sup_desk::{DeskFault, Journal, JournalFault, Name, RecoverFault, Recovery};
-use sup_format::{EntryReader, Fault, HistoryFault, WatchedReader, append_header};
+use sup_format::{
+    EntryReader, Fault, History, HistoryFault, WatchedReader, append_header, ended_part,
+    read_history,
+};
 use sup_types::Template;
 use thiserror::Error;
 
@@ -102,24 +103,19 @@ pub fn open_journal<N: Name, W: Wait + Drop, R: Files, A: Allocator + Copy>(
     requires fresh { recovery.old.history ≡ [] }
     ensures { IfOk result (λ journal. ⟦<TextJournal<Unknown, Synced<R::File>, A> as Journal>⟧.has journal template.now recovery.new.history []) }
 {
-    match open_file(files, path) {
-        Ok(file) => continue_journal(alloc, file, template, recovery),
-        Err(fault) => Err(fault),
-    }
+    let file = open_file(files, path)?;
+    continue_journal(alloc, file, template, recovery)
 }
 
 /// Opens the file at a path to read and to append, or makes it.
 pub(crate) fn open_file<R: Files>(files: &R, path: &str) -> Result<R::File, OpenFault> {
     // In append mode each write goes to the end, wherever the reading stopped.
-    let opened = OpenOptions::new()
+    OpenOptions::new()
         .read(true)
         .append(true)
         .create(true)
-        .open(files, path);
-    match opened {
-        Ok(file) => Ok(file),
-        Err(error) => Err(OpenFault::File(error.kind())),
-    }
+        .open(files, path)
+        .map_err(|error| OpenFault::File(error.kind()))
 }
 
 /// Reads a file from its beginning, enters the entries of its whole lines in the recovery, and continues at its end. The file must
@@ -172,20 +168,14 @@ fn fault_of<F: Read, A: Allocator>(lines: &EntryReader<F, A>, fault: Fault) -> O
 {
     match fault {
         Fault::OutOfMemory => OpenFault::OutOfMemory,
-        Fault::BadTemplate => wrong_line(lines.line(), Fault::BadTemplate),
-        Fault::BadLine => wrong_line(lines.line(), Fault::BadLine),
+        Fault::BadTemplate | Fault::BadLine => {
+            let line = lines.line();
+            OpenFault::WrongLine(HistoryFault { fault, line })
+        }
         Fault::ReadFault | Fault::WriteFault | Fault::TooLong => {
             OpenFault::File(lines.error().unwrap_or(ErrorKind::Other))
         }
     }
-}
-
-/// Returns the fault of a whole line.
-fn wrong_line(line: u64, fault: Fault) -> OpenFault
-    requires { IsTextFault fault }
-    ensures { (text : List ℕ) (template : ATemplate) (handles : ℕ) → IsWrongIn text template line fault → IsCauseOf result text template handles }
-{
-    OpenFault::WrongLine(HistoryFault { fault, line })
 }
 
 /// Begins a file anew that has no ended line.
@@ -208,17 +198,10 @@ fn begin<F: Read + Write + OpenFile + Drop, A: Allocator + Copy>(
     cut(&file, 0)?;
     match TextJournal::new(alloc, Synced::new(file), template) {
         Ok(journal) => Ok(journal),
-        Err(not_begun) => Err(refused(not_begun.fault)),
-    }
-}
-
-/// Returns the fault of a first line that was refused.
-fn refused(fault: BeginFault) -> OpenFault
-    ensures { (text : List ℕ) (template : ATemplate) (handles : ℕ) → IsUnbegun text template → IsCauseOf result text template handles }
-{
-    match fault {
-        BeginFault::OutOfMemory => OpenFault::OutOfMemory,
-        BeginFault::Refused(fault) => OpenFault::Refused(fault),
+        Err(not_begun) => match not_begun.fault {
+            BeginFault::OutOfMemory => Err(OpenFault::OutOfMemory),
+            BeginFault::Refused(fault) => Err(OpenFault::Refused(fault)),
+        },
     }
 }
 
@@ -226,19 +209,19 @@ fn refused(fault: BeginFault) -> OpenFault
 fn cut<F: OpenFile>(file: &F, length: u64) -> Result<(), OpenFault>
     ensures { (text : List ℕ) (template : ATemplate) (handles : ℕ) → WantsCut text template → IfErr result (λ fault. IsCauseOf fault text template handles) }
 {
-    match file.set_len(length) {
-        Ok(()) => Ok(()),
-        Err(error) => match error.kind() {
-            ErrorKind::OutOfMemory => Err(OpenFault::OutOfMemory),
-            kind => Err(OpenFault::Cut(kind)),
-        },
+    let Err(error) = file.set_len(length) else {
+        return Ok(());
+    };
+    match error.kind() {
+        ErrorKind::OutOfMemory => Err(OpenFault::OutOfMemory),
+        kind => Err(OpenFault::Cut(kind)),
     }
 }
 
 /// Enters the entries of a file of which a line is ended, and continues at its end.
 fn go_on<N: Name, W: Wait + Drop, F: Read + Write + OpenFile + Drop, A: Allocator + Copy>(
     alloc: A,
-    lines: EntryReader<F, A>,
+    mut lines: EntryReader<F, A>,
     first: &[u8],
     template: &Template,
     recovery: &mut Recovery<N, W>,
@@ -257,30 +240,19 @@ fn go_on<N: Name, W: Wait + Drop, F: Read + Write + OpenFile + Drop, A: Allocato
     if !lines.ready().starts_with(first) {
         return Err(OpenFault::OtherTemplate);
     }
-    let mut lines = lines;
     match lines.begin() {
-        Ok(_read) => enter_lines(alloc, lines, recovery),
+        Ok(_read) => {
+            enter_all(&mut lines, recovery)?;
+            let torn = lines.torn().len() as u64;
+            let whole = lines.taken().saturating_sub(torn);
+            let file = lines.into_reader().into_reader();
+            if torn > 0 {
+                cut(&file, whole)?;
+            }
+            Ok(TextJournal::reopen(alloc, Synced::new(file)))
+        }
         Err(fault) => Err(fault_of(&lines, fault)),
     }
-}
-
-/// Enters the entries of a file whose first line was given, and continues at its end.
-fn enter_lines<N: Name, W: Wait + Drop, F: Read + Write + OpenFile + Drop, A: Allocator + Copy>(
-    alloc: A,
-    lines: EntryReader<F, A>,
-    recovery: &mut Recovery<N, W>,
-) -> Result<FileJournal<F, A>, OpenFault>
-    requires fresh { recovery.old.history ≡ [] }
-    requires spelled { SpellsAs (header_line N.template) N.template [] }
-    ensures has { (initial : Option (List ℕ)) (read : ATemplate) → IsStreamed initial lines (header_line N.template) read [] →
-        IfOk result (λ journal. ⟦<TextJournal<Unknown, Synced<F>, A> as Journal>⟧.has journal N.template recovery.new.history []) }
-    ensures entries { (initial : Option (List ℕ)) (read : ATemplate) → IsStreamed initial lines (header_line N.template) read [] →
-        IsContinued initial N.template recovery.old.handles recovery.new.history result }
-    ensures handles { recovery.new.handles ≡ recovery.old.handles }
-{
-    let mut lines = lines;
-    enter_all(&mut lines, recovery)?;
-    reopen(alloc, lines)
 }
 
 /// Enters the entries of the lines that are ended, as they are read.
@@ -302,20 +274,11 @@ fn enter_all<N: Name, W: Wait + Drop, F: Read, A: Allocator>(
     }
 }
 
-/// Continues at the end of the lines that were entered.
-fn reopen<F: Read + Write + OpenFile + Drop, A: Allocator + Copy>(
-    alloc: A,
-    lines: EntryReader<F, A>,
-) -> Result<FileJournal<F, A>, OpenFault>
-    ensures has { (template : ATemplate) (entries : List AnEntry) → ((text : List ℕ) × SpellsAs text template entries) →
-        IfOk result (λ journal. ⟦<TextJournal<Unknown, Synced<F>, A> as Journal>⟧.has journal template entries []) }
-    ensures cut { (text : List ℕ) (template : ATemplate) (handles : ℕ) → (0 < length lines.torn → ¬ IsFull text) → IfErr result (λ fault. IsCauseOf fault text template handles) }
+/// Reads what a journal wrote: the history that its whole lines spell. A torn last line is left out. The error is the first fault
+/// by line, as with `read_history`.
+pub fn read_journal<A: Allocator + Copy>(alloc: A, text: &[u8]) -> Result<History<A>, HistoryFault>
+    ensures { (whole : List ℕ) × IsEndedPart text.now whole
+        × MatchResult result (λ history. Spells whole history.template history.entries.items) (λ e. HistoryStops whole e.line e.fault) }
 {
-    let torn = lines.torn().len() as u64;
-    let whole = lines.taken().saturating_sub(torn);
-    let file = lines.into_reader().into_reader();
-    if torn > 0 {
-        cut(&file, whole)?;
-    }
-    Ok(TextJournal::reopen(alloc, Synced::new(file)))
+    read_history(alloc, ended_part(text))
 }

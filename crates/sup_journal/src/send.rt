@@ -1,8 +1,5 @@
 //! Writing all of some bytes.
 
-ghost use Rattle.std.specs.Prelude.{ℕ, ◌<◌, ◌≤◌, length, take, IfErr, MatchResult};
-ghost use Rattle.std.specs.Io.KnownBytes.{Appends, Keeps};
-ghost use Rattle.sup_journal.specs.Ends.{IsStopped};
 ghost use Rattle.sup_journal.specs.Records.{IsSentOrCut, IsPut};
 
 use crate::fault::End;
@@ -15,20 +12,11 @@ pub fn put<W: Write>(writer: &mut W, bytes: &[u8], flushes: bool) -> Result<(), 
 {
     send(writer, bytes)?;
     if flushes {
-        flush(writer)?;
+        if let Err(error) = writer.flush() {
+            return Err(End::NotFlushed(error.kind()));
+        }
     }
     Ok(())
-}
-
-/// Flushes the writer.
-fn flush<W: Write>(writer: &mut W) -> Result<(), End>
-    ensures bytes { Keeps (W.contents writer.old) (W.contents writer.new) }
-    ensures err { IfErr result (λ e. ¬ IsStopped e) }
-{
-    match writer.flush() {
-        Ok(()) => Ok(()),
-        Err(error) => Err(End::NotFlushed(error.kind())),
-    }
 }
 
 /// Writes all of the bytes, in one write if the writer takes them at once, or says what stopped it.
@@ -37,24 +25,11 @@ pub fn send<W: Write>(writer: &mut W, bytes: &[u8]) -> Result<(), End>
 {
     let mut taken = 0;
     while taken < bytes.len() {
-        match write(writer, &bytes[taken..]) {
+        match writer.write(&bytes[taken..]) {
+            Ok(0) => return Err(End::TookNothing),
             Ok(count) => taken += count,
-            Err(end) => return Err(end),
+            Err(error) => return Err(End::Error(error.kind())),
         }
     }
     Ok(())
-}
-
-/// Writes once. Returns how many bytes the writer took, at least one, or why it took none.
-fn write<W: Write>(writer: &mut W, bytes: &[u8]) -> Result<usize, End>
-    requires { 0 < length bytes.now }
-    ensures { MatchResult result
-        (λ n. (0 < n) × (n ≤ length bytes.now) × Appends (W.contents writer.old) (W.contents writer.new) (take n bytes.now))
-        (λ e. IsStopped e × Keeps (W.contents writer.old) (W.contents writer.new)) }
-{
-    match writer.write(bytes) {
-        Ok(0) => Err(End::TookNothing),
-        Ok(count) => Ok(count),
-        Err(error) => Err(End::Error(error.kind())),
-    }
 }

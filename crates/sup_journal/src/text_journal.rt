@@ -38,14 +38,13 @@ impl<O: Origin, W: Write, A: Allocator> TextJournal<O, W, A> {
     /// writer comes back: it took nothing if memory was refused, and else a part of the first line.
     pub fn new(
         alloc: A,
-        writer: W,
+        mut writer: W,
         template: &Template,
     ) -> Result<TextJournal<O, W, A>, NotBegun<W>>
         requires { Keeps O.held (W.contents writer) }
         ensures ok { IfOk result (λ journal. ⟦<TextJournal<O, W, A> as Journal>⟧.has journal template.now [] []) }
         ensures err { IfErr result (λ e. Leaves e.fault (W.contents writer) (W.contents e.writer) template.now) }
     {
-        let mut writer = writer;
         let mut text = Vec::new(alloc);
         if append_header(template, &mut text).is_err() {
             let fault = BeginFault::OutOfMemory;
@@ -56,21 +55,14 @@ impl<O: Origin, W: Write, A: Allocator> TextJournal<O, W, A> {
             return Err(NotBegun { fault, writer });
         }
         text.clear();
-        Ok(TextJournal {
-            writer,
-            text,
-            ready: 0,
-            flush: Flush::Never,
-            end: None,
-            origin: PhantomData,
-        })
+        Ok(TextJournal::with_room(writer, text))
     }
 
     /// Makes a journal that continues a recorded history: the writer takes the text of that history. After a refusal the writer
     /// comes back: it took nothing if memory was refused, and else a part of that text.
     pub fn resume(
         alloc: A,
-        writer: W,
+        mut writer: W,
         template: &Template,
         entries: &[Entry],
     ) -> Result<TextJournal<O, W, A>, NotBegun<W>>
@@ -80,8 +72,7 @@ impl<O: Origin, W: Write, A: Allocator> TextJournal<O, W, A> {
         ensures ok { IfOk result (λ journal. ⟦<TextJournal<O, W, A> as Journal>⟧.has journal template.now entries.now []) }
         ensures err { IfErr result (λ e. LeavesText e.fault (W.contents writer) (W.contents e.writer) template.now entries.now) }
     {
-        let mut writer = writer;
-        let Ok(mut before) = write_history(alloc, template, entries) else {
+        let Ok(before) = write_history(alloc, template, entries) else {
             let fault = BeginFault::OutOfMemory;
             return Err(NotBegun { fault, writer });
         };
@@ -89,15 +80,7 @@ impl<O: Origin, W: Write, A: Allocator> TextJournal<O, W, A> {
             let fault = BeginFault::Refused(end.fault());
             return Err(NotBegun { fault, writer });
         }
-        before.clear();
-        Ok(TextJournal {
-            writer,
-            text: before,
-            ready: 0,
-            flush: Flush::Never,
-            end: None,
-            origin: PhantomData,
-        })
+        Ok(TextJournal::reopen(alloc, writer))
     }
 
     /// Makes a journal that continues in a writer which holds the text of a history: that is what it has recorded. The writer must
@@ -107,9 +90,18 @@ impl<O: Origin, W: Write, A: Allocator> TextJournal<O, W, A> {
             → ⟦<TextJournal<O, W, A> as Journal>⟧.has result template entries [] }
         ensures writer { result.writer ≡ writer }
     {
+        TextJournal::with_room(writer, Vec::new(alloc))
+    }
+
+    /// Makes a journal that continues in this writer, with this list as room for the text of its records.
+    fn with_room(writer: W, text: Vec<u8, A>) -> TextJournal<O, W, A>
+        requires { text.items ≡ [] }
+        ensures has { (template : Template) (entries : List Entry) → HasText O.held (W.contents writer) template entries → ⟦<TextJournal<O, W, A> as Journal>⟧.has result template entries [] }
+        ensures writer { result.writer ≡ writer }
+    {
         TextJournal {
             writer,
-            text: Vec::new(alloc),
+            text,
             ready: 0,
             flush: Flush::Never,
             end: None,
@@ -118,16 +110,15 @@ impl<O: Origin, W: Write, A: Allocator> TextJournal<O, W, A> {
     }
 
     /// Returns the same journal, which flushes its writer after these records from now on. A new one never does.
-    pub fn with_flush(self, flush: Flush) -> TextJournal<O, W, A>
+    pub fn with_flush(mut self, flush: Flush) -> TextJournal<O, W, A>
         ensures has { (template : Template) (recorded ready : List Entry) → ⟦<TextJournal<O, W, A> as Journal>⟧.has self template recorded ready
             → ⟦<TextJournal<O, W, A> as Journal>⟧.has result template recorded ready }
         ensures torn { (template : Template) (recorded ready : List Entry) → ⟦<TextJournal<O, W, A> as Journal>⟧.is_torn self template recorded ready
             → ⟦<TextJournal<O, W, A> as Journal>⟧.is_torn result template recorded ready }
         ensures flush { result ≡ record self { flush = flush } }
     {
-        let mut journal = self;
-        journal.flush = flush;
-        journal
+        self.flush = flush;
+        self
     }
 
     /// Returns the kind of the error that ended it, if an error did.
@@ -144,15 +135,7 @@ impl<O: Origin, W: Write, A: Allocator> TextJournal<O, W, A> {
     pub fn into_writer(self) -> W
         ensures { result ≡ self.writer }
     {
-        let TextJournal {
-            writer,
-            text: _,
-            ready: _,
-            flush: _,
-            end: _,
-            origin: _,
-        } = self;
-        writer
+        self.writer
     }
 }
 

@@ -13,7 +13,10 @@ returns-in-Ok-clause-entries g c = λ initial handles u end.
     let starts = begins_with c.args.first.now c.torn.result.now c.starts_with.result c.starts_with.ensures.value c.if-not-starts_with.false in
     (u.given, c.args.lines.left, u.took, (end, inr (unbegun initial c.args.lines c.args.template.now u c.requires.spelled c.requires.none (rw (c.requires.first, c.torn.ensures) at starts), refl)))
 
-pub returns-in-Err-clause-entries : goal.returns-in-Err-clause-entries
-returns-in-Err-clause-entries g c = λ initial handles u end.
+pub returns-in-OutOfMemory-clause-entries : goal.returns-in-OutOfMemory-clause-entries
+returns-in-OutOfMemory-clause-entries g c = λ initial handles u end. (u.given, c.args.lines.left, u.took, tt)
+
+pub returns-clause-entries : goal.returns-clause-entries
+returns-clause-entries g c = λ initial handles u end.
     let starts = begins_with c.args.first.now c.torn.result.now c.starts_with.result c.starts_with.ensures.value c.if-not-starts_with.false in
-    (u.given, c.args.lines.left, u.took, c.refused.ensures u.given c.args.template.now handles (unbegun initial c.args.lines c.args.template.now u c.requires.spelled c.requires.none (rw (c.requires.first, c.torn.ensures) at starts)))
+    (u.given, c.args.lines.left, u.took, unbegun initial c.args.lines c.args.template.now u c.requires.spelled c.requires.none (rw (c.requires.first, c.torn.ensures) at starts))

@@ -9,11 +9,12 @@ loop-taken-preserved g c =
     let taken = c.loop-taken.taken in
     let rest = drop taken bytes in
     let all = take_all (length bytes - taken) rest (omega (arith, length-drop taken bytes)) in
-    let took = rw all at c.in-Ok.ensures in
+    let low = rw all at c.in-Ok.ensures.bound in
+    let took = rw all at c.in-Ok.ensures.bytes in
     record {
-      inside = omega (arith, took.1, length-drop taken bytes, c.loop-taken.invariant.inside);
-      wrote = taken_more _ _ _ bytes taken c.in-Ok.count c.loop-taken.invariant.wrote took.2;
+      inside = omega (arith, low, length-drop taken bytes, c.loop-taken.invariant.inside);
+      wrote = taken_more _ _ _ bytes taken c.in-Ok.count c.loop-taken.invariant.wrote took;
     }
 
 pub returns-in-Err : goal.returns-in-Err
-returns-in-Err g c = (c.in-Err.ensures.0, took_part _ _ _ c.args.bytes.now c.loop-taken.taken c.loop-taken-test.true c.loop-taken.invariant.wrote c.in-Err.ensures.1)
+returns-in-Err g c = (tt, took_part _ _ _ c.args.bytes.now c.loop-taken.taken c.loop-taken-test.true c.loop-taken.invariant.wrote c.in-Err.ensures.bytes)

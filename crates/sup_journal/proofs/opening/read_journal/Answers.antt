@@ -1,6 +1,6 @@
 -- The search is bound to what is named, so that a mutant is refused soon.
 use Rattle.std.proofs.Common.{rules}
-use Rattle.sup_journal.proofs.reading.read_journal.Goals as goal
+use Rattle.sup_journal.proofs.opening.read_journal.Goals as goal
 
 pub returns : goal.returns
 returns g c = search rules
