@@ -86,8 +86,8 @@ module _ {N : Type 0} {G : Ghosts N} where
         refl,
       )
 
-  pub takes : (port : ℕ) (v : Permission) → 0 < v.parts → Pops (Balanced {N = N} {G = G}) port v (λ x w. w ≡ permission v.parts v.put (v.taken ++ child_of x ∷ []))
-  takes port v some_part x items views b at =
+  moves : (port : ℕ) (v : Permission) → 0 < v.parts → Pops (Balanced {N = N} {G = G}) port v (λ x w. w ≡ permission v.parts v.put (v.taken ++ child_of x ∷ []))
+  moves port v some_part x items views b at =
       let w = permission v.parts v.put (v.taken ++ child_of x ∷ []) in (
         w,
         (
@@ -137,21 +137,25 @@ module _ {N : Type 0} {G : Ghosts N} where
         idle_set vs other z (λ _. (refl, refl)) (idle_set views port w (λ none. absurd (omega (arith, none))) b.2),
       )
 
-  pub learns : (port : ℕ) (v : Permission) → v.parts ≡ 1024 → Learns (Balanced {N = N} {G = G}) port v (λ items. (h : Child → ℕ) → weigh h v.put ≡ weigh h v.taken + weigh h (children_of items))
-  learns port v all items views b at h =
+  -- who has every part knows all that the queue holds
+  pub learns : (port : ℕ) (v : Permission) → Learns (Balanced {N = N} {G = G}) port v (λ items. v.parts ≡ 1024 → (h : Child → ℕ) → weigh h v.put ≡ weigh h v.taken + weigh h (children_of items))
+  learns port v items views b at all h =
       let every = b.0 ∙ sym all in
       let p = only (λ u. weigh h u.put) views port v at every (λ j u there none. ap (weigh h) (b.2 j u there none).0) in
       let t = only (λ u. weigh h u.taken) views port v at every (λ j u there none. ap (weigh h) (b.2 j u there none).1) in
       let e = b.1 h in
       omega (arith, p, t, e)
 
-  pub reads : (port : ℕ) (v : Permission) → v.parts ≡ 1024 → Pops (Balanced {N = N} {G = G}) port v (λ x w. (w ≡ permission v.parts v.put (v.taken ++ child_of x ∷ [])) × (length w.taken ≤ length w.put))
-  reads port v all x items views b at =
-      let step = takes port v (omega (arith, all)) x items views b at in
-      let e = learns port v all (x ∷ items) views b at (λ _. 1) in
+  pub takes : (port : ℕ) (v : Permission) → 0 < v.parts → Pops (Balanced {N = N} {G = G}) port v (λ x w. (w ≡ permission v.parts v.put (v.taken ++ child_of x ∷ [])) × (v.parts ≡ 1024 → length w.taken ≤ length w.put))
+  takes port v some_part x items views b at =
+      let step = moves port v some_part x items views b at in
+      let few : v.parts ≡ 1024 → length step.0.taken ≤ length step.0.put = λ all.
+      let e = learns port v (x ∷ items) views b at all (λ _. 1) in
       let p = weigh-one v.put in
       let t = weigh-one v.taken in
       let l = length-append v.taken (child_of x ∷ []) in
       let a = ap (λ (w : Permission). length w.taken) step.2 in
       let c = ap (λ (w : Permission). length w.put) step.2 in
-      (step.0, step.1, (step.2, omega (arith, e, p, t, l, a, c)))
+      omega (arith, e, p, t, l, a, c)
+      in
+      (step.0, step.1, (step.2, few))

@@ -10,6 +10,7 @@ use Rattle.sup_types.specs.declared.reason.Reason.{Reason}
 use Rattle.sup_desk.specs.Knowledge.{Knowledge}
 use Rattle.sup_crew.specs.declared.run.RunOutcome.{RunOutcome}
 use Rattle.sup_crew.specs.declared.run.Parts.{Parts}
+use Rattle.sup_crew.specs.declared.closing.Buffers.{Buffers}
 use Rattle.sup_crew.specs.Jobs.{permission}
 use Rattle.sup_crew.specs.Drivers.{DriverModel, HasDriven, IsCause, Run}
 use Rattle.sup_inbox.specs.Ends.{Posting, AreFrom, AreNew}
@@ -27,6 +28,12 @@ AreFrom-prop inbox first (p ∷ ps) =
 AreNew-prop : (ps : List Posting) → IsProp (AreNew ps)
 AreNew-prop [] = Unit-prop
 AreNew-prop (p ∷ ps) = let none : IsProp (p.posted ≡ []) = Prim.hlevel props in ×_prop none (AreNew-prop ps)
+
+-- empty lists, with room for what a run of so many workers hands over, and for the notes of an inbox and of a drain
+abbrev pub HasRoom : ℕ → ℕ → Buffers → Type 0
+HasRoom workers inbox b =
+    ((b.posters.items ≡ []) × (b.unposted.items ≡ []) × (b.inbox.items ≡ []) × (b.held.items ≡ []))
+    × (workers ≤ vec_capacity b.posters) × (workers ≤ vec_capacity b.unposted) × (inbox ≤ vec_capacity b.inbox) × (64 ≤ vec_capacity b.held)
 
 module _ {N : Type 0} where
   -- an endpoint that knows all of the queue, all ends of the inbox, which did nothing yet, and room for what each worker hands back

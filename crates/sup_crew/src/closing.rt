@@ -1,9 +1,9 @@
 //! The end of a run: what its workers had is collected, and what was counted is reported.
-ghost use Rattle.std.specs.Prelude.{◌≡◌, ◌+◌, ◌<◌, ◌≤◌, [], ◌++◌, drop, length, IfOk, vec_len, vec_capacity};
+ghost use Rattle.std.specs.Prelude.{◌≡◌, ◌+◌, ◌<◌, ◌≤◌, [], ◌++◌, drop, length, vec_len, vec_capacity};
 ghost use Rattle.sup_crew.specs.Jobs.{weigh, children_of};
 ghost use Rattle.sup_crew.specs.Joins.{AreEndpoints, note_in, posters_of, taken_of, unposted_of};
 ghost use Rattle.sup_crew.specs.Reports.{IsRun};
-ghost use Rattle.sup_crew.specs.Runs.{IsRunOutcome};
+ghost use Rattle.sup_crew.specs.Runs.{IsRunOutcome, HasRoom};
 
 use crate::crew::Crew;
 use crate::drain::HELD;
@@ -13,11 +13,10 @@ use crate::queue::{Endpoint, Jobs};
 use crate::run::RunOutcome;
 use crate::worker::Finished;
 use arrayvec::ArrayVec;
-use std::alloc::Global;
 use std::sync::Wait;
 use sup_desk::Name;
 use sup_inbox::{Note, Poster, settle};
-use sup_types::{OutOfMemory, Text};
+use sup_types::Text;
 
 /// Holds room for what the end of a run hands over. It is made before the run, so that its end takes no memory.
 #[derive(Drop)]
@@ -30,21 +29,6 @@ pub struct Buffers {
     pub inbox: Vec<Note>,
     /// For the notes that the drain holds.
     pub held: Vec<Note>,
-}
-
-impl Buffers {
-    /// Makes room for a run of this number of workers over an inbox of this capacity, or returns OutOfMemory.
-    pub fn new(alloc: Global, workers: usize, inbox: usize) -> Result<Buffers, OutOfMemory>
-        ensures empty { IfOk result (λ r. (r.posters.items ≡ []) × (r.unposted.items ≡ []) × (r.inbox.items ≡ []) × (r.held.items ≡ [])) }
-        ensures room { IfOk result (λ r. (workers ≤ vec_capacity r.posters) × (workers ≤ vec_capacity r.unposted) × (inbox ≤ vec_capacity r.inbox) × (64 ≤ vec_capacity r.held)) }
-    {
-        Ok(Buffers {
-            posters: Vec::with_capacity(alloc, workers)?,
-            unposted: Vec::with_capacity(alloc, workers)?,
-            inbox: Vec::with_capacity(alloc, inbox)?,
-            held: Vec::with_capacity(alloc, HELD)?,
-        })
-    }
 }
 
 /// Returns the notes that are held, in a list that has room for them.
@@ -125,7 +109,7 @@ fn read_all<N: Name, R: Wait>(
     let mut endpoint = endpoint;
     let mut left = left;
     for _ in rt.forever() {
-        match endpoint.read(rt, jobs) {
+        match endpoint.take(rt, jobs) {
             Some(job) => left.push_reserved(job),
             None => return left,
         }
@@ -138,15 +122,13 @@ pub fn close<N: Name, B: Body, R: Wait>(
     rt: &R,
     crew: Crew<N>,
     body: &B,
-    workers: usize,
     outcome: RunOutcome<N>,
     buffers: Buffers,
 ) -> Report<N>
-    requires outcome { (run : _) × (after : _) × IsRunOutcome (B.may_end body.now) run crew.jobs crew.inbox.id workers crew.children.items after outcome }
-    requires workers { workers < 1024 }
-    requires empty { (buffers.posters.items ≡ []) × (buffers.unposted.items ≡ []) × (buffers.inbox.items ≡ []) × (buffers.held.items ≡ []) }
-    requires room { (workers ≤ vec_capacity buffers.posters) × (workers ≤ vec_capacity buffers.unposted) × (crew.inbox.capacity ≤ vec_capacity buffers.inbox) × (64 ≤ vec_capacity buffers.held) }
-    ensures { (run : _) (after : _) → IsRunOutcome (B.may_end body.now) run crew.jobs crew.inbox.id workers crew.children.items after outcome → IsRun (B.may_end body.now) run crew.children.items after result }
+    requires outcome { (run : _) × (after : _) × IsRunOutcome (B.may_end body.now) run crew.jobs crew.inbox.id crew.plan.workers crew.plan.children.items after outcome }
+    requires workers { crew.plan.workers < 1024 }
+    requires room { HasRoom crew.plan.workers crew.inbox.capacity buffers }
+    ensures { (run : _) (after : _) → IsRunOutcome (B.may_end body.now) run crew.jobs crew.inbox.id crew.plan.workers crew.plan.children.items after outcome → IsRun (B.may_end body.now) run crew.plan.children.items after result }
 {
     let (taker, held) = outcome.drain.end();
     let (endpoint, left) = outcome.jobs.end();
@@ -165,7 +147,7 @@ pub fn close<N: Name, B: Body, R: Wait>(
         driver: outcome.driver,
         ticket: outcome.ticket,
         tally: outcome.tally,
-        unstarted: without_first(crew.children, outcome.started),
+        unstarted: without_first(crew.plan.children, outcome.started),
         held: list_held(held, buffers.held),
         inbox: settled.left,
         unposted,

@@ -1,11 +1,12 @@
 //! What the driver and the workers of a run share, and how they wake each other.
+
+use crate::plan::Plan;
 use crate::queue::Jobs;
 use std::sync::atomic::{AtomicBool, Ordering};
 use std::sync::{Condvar, Wait};
 use std::time::Duration;
 use sup_desk::Name;
 use sup_inbox::Inbox;
-use sup_types::Text;
 
 /// Holds what the driver and the workers of a run share. It is made before the first thread, and taken apart once all were joined.
 #[derive(Drop)]
@@ -16,17 +17,13 @@ pub struct Crew<N: Name> {
     pub inbox: Inbox,
     /// How they wake each other, and whether the run is over.
     pub signals: Signals,
-    /// The arguments of the children that are to be started, in order.
-    pub children: Vec<Text>,
-    /// How often a post is tried, and how many turns in a row the driver finds nothing before it gives up.
-    pub turns: u64,
-    /// The moment of all updates.
-    pub moment: u64,
+    /// What the run is to do.
+    pub plan: Plan,
 }
 
 /// Holds the signals of a run, and whether it is over. A thread that waits counts the notifications, looks for what it needs, and
 /// sleeps if it is not there. A notification after the count ends the sleep, so none is missed.
-#[derive(Drop)]
+#[derive(Default, Drop)]
 pub struct Signals {
     /// A job was queued, or the run is over.
     pub queued: Condvar,
@@ -43,16 +40,6 @@ pub fn sleep<R: Wait>(rt: &R, signal: &Condvar, noted: u64) {
 }
 
 impl Signals {
-    /// Returns the signals of a run that begins.
-    pub fn new() -> Signals {
-        Signals {
-            queued: Condvar::new(),
-            posted: Condvar::new(),
-            drained: Condvar::new(),
-            over: AtomicBool::new(false),
-        }
-    }
-
     /// Returns whether the run is over.
     pub fn is_over(&self) -> bool {
         self.over.load(Ordering::SeqCst)

@@ -60,11 +60,11 @@ impl<'d, N: Name, S: Starter + Drop, P: Wait + Drop, J: Journal + Drop> Driver<'
         requires { self.old.jobs.queue ≡ crew.now.jobs }
         ensures same { IsSameDriver self.old self.new }
         ensures cause { IfSome result.1 (λ e. IsCause N.template self.new.knows e) }
-        ensures started { Starts N.template N.press crew.now.moment (take result.0 crew.now.children.items) self.old self.new }
-        ensures all { IfNone result.1 (result.0 ≡ length crew.now.children.items) }
-        ensures few { result.0 ≤ length crew.now.children.items }
+        ensures started { Starts N.template N.press crew.now.plan.moment (take result.0 crew.now.plan.children.items) self.old self.new }
+        ensures all { IfNone result.1 (result.0 ≡ length crew.now.plan.children.items) }
+        ensures few { result.0 ≤ length crew.now.plan.children.items }
     {
-        let children = crew.children.as_slice();
+        let children = crew.plan.children.as_slice();
         for place in 0..children.len() {
             if let Err(fault) = self.start_one(rt, crew, &children[place]) {
                 return (place, Some(fault));
@@ -78,13 +78,13 @@ impl<'d, N: Name, S: Starter + Drop, P: Wait + Drop, J: Journal + Drop> Driver<'
         requires { self.old.jobs.queue ≡ crew.now.jobs }
         ensures same { IsSameDriver self.old self.new }
         ensures cause { IfErr result (λ e. IsCause N.template self.new.knows e) }
-        ensures ok { IfOk result (λ _. Starts N.template N.press crew.now.moment (arg.now ∷ []) self.old self.new) }
-        ensures err { OnErr result (GoesOn N.template N.press crew.now.moment self.old self.new) }
+        ensures ok { IfOk result (λ _. Starts N.template N.press crew.now.plan.moment (arg.now ∷ []) self.old self.new) }
+        ensures err { OnErr result (GoesOn N.template N.press crew.now.plan.moment self.old self.new) }
     {
         if self.jobs.make_room(1).is_err() {
             return Err(UpdateFault::OutOfMemory);
         }
-        let done = self.handle.start_child(rt, crew.moment, *arg)?;
+        let done = self.handle.start_child(rt, crew.plan.moment, *arg)?;
         self.note_start(rt, crew, arg, done);
         Ok(())
     }
@@ -123,7 +123,7 @@ impl<'d, N: Name, S: Starter + Drop, P: Wait + Drop, J: Journal + Drop> Driver<'
         ensures same { IsSameDriver self.old self.new }
         ensures stays { IsSome fault → IsSome result }
         ensures cause { IfSome result (λ e. IsCause N.template self.new.knows e) }
-        ensures drained { GoesOn N.template N.press crew.now.moment self.old self.new }
+        ensures drained { GoesOn N.template N.press crew.now.plan.moment self.old self.new }
     {
         if fault.is_some() {
             return fault;
@@ -164,12 +164,16 @@ impl<'d, N: Name, S: Starter + Drop, P: Wait + Drop, J: Journal + Drop> Driver<'
         requires { IsAtWork crew.now.jobs crew.now.inbox.id self.old }
         ensures same { IsSameDriver self.old self.new }
         ensures cause { IfSome result.1 (λ e. IsCause N.template self.new.knows e) }
-        ensures drained { GoesOn N.template N.press crew.now.moment self.old self.new }
+        ensures drained { GoesOn N.template N.press crew.now.plan.moment self.old self.new }
     {
         if self.jobs.make_room(HELD).is_err() {
             return (0, Some(UpdateFault::OutOfMemory));
         }
-        match self.drain.drain(rt, alloc, &crew.inbox, &mut self.handle, crew.moment, HELD) {
+        let moment = crew.plan.moment;
+        match self
+            .drain
+            .drain(rt, alloc, &crew.inbox, &mut self.handle, moment, HELD)
+        {
             Ok(done) => (self.note_exits(rt, crew, done), None),
             Err(DrainFault { done, fault }) => (self.note_exits(rt, crew, done), Some(fault)),
         }

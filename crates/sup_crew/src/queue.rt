@@ -1,6 +1,6 @@
 //! The queue of jobs, under the rule that each queued job is in one place, with whoever took it or in the queue; and the driver's
 //! side of it.
-ghost use Rattle.std.specs.Prelude.{◌≡◌, ℕ, ◌+◌, ◌<◌, ◌≤◌, [], ◌∷◌, ◌++◌, length, IfOk, MatchResult, MatchOption, None, Some, vec_len, vec_capacity};
+ghost use Rattle.std.specs.Prelude.{◌≡◌, ℕ, ◌+◌, ◌<◌, ◌≤◌, [], ◌∷◌, ◌++◌, length, IfOk, MatchResult, MatchOption, IfNone, IfSome, None, vec_len, vec_capacity};
 ghost use Rattle.std.specs.Global.{Global};
 ghost use Rattle.crossbeam_queue.specs.SegTies.{SegId};
 ghost use Rattle.sup_crew.specs.Jobs.{Balanced, weigh, permission, child_of, children_of};
@@ -61,26 +61,15 @@ impl<N: Name> Outcome<Job<N>, Permission> for PutsJob {
     ghost then = { λ v x w. w ≡ permission v.parts (v.put ++ child_of x ∷ []) v.taken };
 }
 
-/// A job is taken.
+/// A job is taken. The one that has every part learns that no more were taken than queued, and which the queue holds.
 pub struct TakesJob;
 
 impl<N: Name> Outcome<Job<N>, Permission> for TakesJob {
-    ghost then = { λ v x w. w ≡ permission v.parts v.put (v.taken ++ child_of x ∷ []) };
+    ghost then = { λ v x w. (w ≡ permission v.parts v.put (v.taken ++ child_of x ∷ [])) × (v.parts ≡ 1024 → length w.taken ≤ length w.put) };
 }
 
 impl<N: Name> Lesson<Job<N>, Permission> for TakesJob {
-    ghost fact = { λ v items. Unit {0} };
-}
-
-/// A job is read out by the one who has every part.
-pub struct ReadsJob;
-
-impl<N: Name> Outcome<Job<N>, Permission> for ReadsJob {
-    ghost then = { λ v x w. (w ≡ permission v.parts v.put (v.taken ++ child_of x ∷ [])) × (length w.taken ≤ length w.put) };
-}
-
-impl<N: Name> Lesson<Job<N>, Permission> for ReadsJob {
-    ghost fact = { λ v items. (h : _) → weigh h v.put ≡ weigh h v.taken + weigh h (children_of items) };
+    ghost fact = { λ v items. v.parts ≡ 1024 → (h : _) → weigh h v.put ≡ weigh h v.taken + weigh h (children_of items) };
 }
 
 type Line<N> = RuledSegQueue<Job<N>, Permission, JobRule>;
@@ -156,21 +145,15 @@ impl<N: Name> Endpoint<N> {
         jobs.line.push_as::<PutsJob, R>(rt, &mut self.pass, job)
     }
 
-    /// Takes the oldest job, or returns `None` if there is none.
+    /// Takes the oldest job, or returns `None` if there is none. Once every endpoint was joined, that is only if each job that was
+    /// queued was taken.
     pub fn take<R: Wait>(&mut self, rt: &R, jobs: &Jobs<N>) -> Option<Job<N>>
         requires { (self.old.queue ≡ jobs.now) × (0 < self.old.permission.parts) }
-        ensures { MatchOption result (self.new ≡ self.old) (λ job. self.new ≡ record { queue = jobs.now; permission = permission self.old.permission.parts self.old.permission.put (self.old.permission.taken ++ child_of job ∷ []) }) }
+        ensures job { MatchOption result (self.new ≡ self.old) (λ job. self.new ≡ record { queue = jobs.now; permission = permission self.old.permission.parts self.old.permission.put (self.old.permission.taken ++ child_of job ∷ []) }) }
+        ensures few { self.old.permission.parts ≡ 1024 → IfSome result (λ _. length self.new.permission.taken ≤ length self.new.permission.put) }
+        ensures end { self.old.permission.parts ≡ 1024 → IfNone result ((h : _) → weigh h self.old.permission.put ≡ weigh h self.old.permission.taken) }
     {
         jobs.line.pop_as::<TakesJob, R>(rt, &mut self.pass)
-    }
-
-    /// Reads out a job, once every endpoint was joined. Returns `None` only if each job that was queued was taken.
-    pub fn read<R: Wait>(&mut self, rt: &R, jobs: &Jobs<N>) -> Option<Job<N>>
-        requires { (self.old.queue ≡ jobs.now) × (self.old.permission.parts ≡ 1024) }
-        ensures job { MatchOption result (self.new ≡ self.old) (λ job. (self.new ≡ record { queue = jobs.now; permission = permission 1024 self.old.permission.put (self.old.permission.taken ++ child_of job ∷ []) }) × (length self.new.permission.taken ≤ length self.new.permission.put)) }
-        ensures end { MatchOption result ((h : _) → weigh h self.old.permission.put ≡ weigh h self.old.permission.taken) (λ _. Unit {0}) }
-    {
-        jobs.line.pop_as::<ReadsJob, R>(rt, &mut self.pass)
     }
 }
 
@@ -247,11 +230,6 @@ impl<N: Name> Dispatcher<N> {
         ensures kept { children_of result.1.items ≡ self.kept }
         ensures room { vec_len result.1 + length self.put ≤ vec_capacity result.1 }
     {
-        let Dispatcher {
-            endpoint,
-            queued: _,
-            kept,
-        } = self;
-        (endpoint, kept)
+        (self.endpoint, self.kept)
     }
 }

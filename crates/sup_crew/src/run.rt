@@ -1,12 +1,12 @@
 //! Runs: what they need, the workers in their threads, and the driver.
-ghost use Rattle.std.specs.Prelude.{◌≡◌, ◌<◌, ◌≤◌, ◌^◌, [], IfOk, IfErr, OnErr, vec_len, vec_capacity, MatchResult};
+ghost use Rattle.std.specs.Prelude.{◌≡◌, ◌<◌, ◌≤◌, ◌^◌, IfOk, IfErr, OnErr, vec_len, MatchResult};
 ghost use Rattle.sup_crew.specs.Drivers.{run_of, HasNotCalled};
 ghost use Rattle.sup_crew.specs.Reports.{IsRun, IsRunOfItsOwn};
-ghost use Rattle.sup_crew.specs.Runs.{IsRunOutcome, AreParts, AreParts-prop};
+ghost use Rattle.sup_crew.specs.Runs.{IsRunOutcome, HasRoom, AreParts, AreParts-prop};
 
 use crate::closing::{Buffers, close};
 use crate::crew::{Crew, Signals};
-use crate::drain::Drain;
+use crate::drain::{Drain, HELD};
 use crate::driver::{Driver, Tally};
 use crate::fault::CrewFault;
 use crate::job::Body;
@@ -34,14 +34,6 @@ pub struct Parts<N: Name> {
     pub taker: Taker,
     /// Room for what the workers hand back.
     pub finished: Vec<Finished<N>>,
-}
-
-/// What a run needs. It is made before the first update: a run that has no memory for it has entered nothing.
-#[derive(Drop)]
-struct Prepared<N: Name> {
-    crew: Crew<N>,
-    parts: Parts<N>,
-    buffers: Buffers,
 }
 
 /// Holds a run that is to begin: what its threads share, and its parts, which are of its queue and its inbox.
@@ -75,29 +67,30 @@ pub struct RunOutcome<N: Name> {
     pub finished: Vec<Finished<N>>,
 }
 
-/// Makes what a run of this plan needs.
-fn prepare<N: Name>(alloc: Global, plan: Plan) -> Result<Prepared<N>, OutOfMemory>
+/// Makes what a run of this plan needs. It is made before the first update: a run that has no memory for it has entered nothing.
+fn prepare<N: Name>(alloc: Global, plan: Plan) -> Result<(Crew<N>, Parts<N>, Buffers), OutOfMemory>
     requires { (plan.workers < 1024) × (1 ≤ plan.inbox) }
-    ensures crew { IfOk result (λ p. (p.crew.children.items ≡ plan.children.items) × (p.crew.moment ≡ plan.moment) × (p.crew.inbox.capacity ≡ plan.inbox)) }
-    ensures parts { IfOk result (λ p. AreParts p.crew.jobs p.crew.inbox.id p.parts) }
-    ensures workers { IfOk result (λ p. vec_len p.parts.posters ≡ plan.workers) }
-    ensures empty { IfOk result (λ p. (p.buffers.posters.items ≡ []) × (p.buffers.unposted.items ≡ []) × (p.buffers.inbox.items ≡ []) × (p.buffers.held.items ≡ [])) }
-    ensures room { IfOk result (λ p. (plan.workers ≤ vec_capacity p.buffers.posters) × (plan.workers ≤ vec_capacity p.buffers.unposted) × (plan.inbox ≤ vec_capacity p.buffers.inbox) × (64 ≤ vec_capacity p.buffers.held)) }
+    ensures crew { IfOk result (λ p. p.0.plan ≡ plan) }
+    ensures parts { IfOk result (λ p. AreParts p.0.jobs p.0.inbox.id p.1 × (vec_len p.1.posters ≡ p.0.plan.workers)) }
+    ensures room { IfOk result (λ p. HasRoom p.0.plan.workers p.0.inbox.capacity p.2 × (p.0.plan.workers < 1024)) }
 {
     let (inbox, root) = Inbox::new(alloc, plan.inbox)?;
     let Ok((posters, taker)) = root.split(alloc, &inbox, plan.workers) else {
         return Err(OutOfMemory);
     };
-    let buffers = Buffers::new(alloc, plan.workers, plan.inbox)?;
+    let buffers = Buffers {
+        posters: Vec::with_capacity(alloc, plan.workers)?,
+        unposted: Vec::with_capacity(alloc, plan.workers)?,
+        inbox: Vec::with_capacity(alloc, plan.inbox)?,
+        held: Vec::with_capacity(alloc, HELD)?,
+    };
     let finished = Vec::with_capacity(alloc, plan.workers)?;
     let (jobs, endpoint) = Jobs::new(alloc)?;
     let crew = Crew {
         jobs,
         inbox,
-        signals: Signals::new(),
-        children: plan.children,
-        turns: plan.turns,
-        moment: plan.moment,
+        signals: Signals::default(),
+        plan,
     };
     let parts = Parts {
         endpoint,
@@ -105,11 +98,7 @@ fn prepare<N: Name>(alloc: Global, plan: Plan) -> Result<Prepared<N>, OutOfMemor
         taker,
         finished,
     };
-    Ok(Prepared {
-        crew,
-        parts,
-        buffers,
-    })
+    Ok((crew, parts, buffers))
 }
 
 /// Does what the driver does inside the scope of the threads.
@@ -129,7 +118,7 @@ where
     J: Journal + Drop + Send + 's,
     B: Body + Sync,
     R: Threads + Wait + Sync,
-    ensures outcome { MatchResult result.1 (λ j. IsRunOutcome (B.may_end body.now) (run_of N.template N.press run.entry.crew.now.moment caller) run.entry.crew.now.jobs run.entry.crew.now.inbox.id (vec_len run.entry.parts.posters) run.entry.crew.now.children.items result.0 j) (λ _. HasNotCalled caller result.0) }
+    ensures outcome { MatchResult result.1 (λ j. IsRunOutcome (B.may_end body.now) (run_of N.template N.press run.entry.crew.now.plan.moment caller) run.entry.crew.now.jobs run.entry.crew.now.inbox.id (vec_len run.entry.parts.posters) run.entry.crew.now.plan.children.items result.0 j) (λ _. HasNotCalled caller result.0) }
     ensures place { IfErr result.1 (λ e. e ≡ CrewFault.NoHandle → ⊥) }
 {
     let Beginning { crew, parts } = run;
@@ -144,7 +133,7 @@ where
         Drain::new(parts.taker),
     );
     let (started, fault) = driver.start_all(rt, crew);
-    let fault = driver.drain_all(rt, alloc, crew, crew.turns, fault);
+    let fault = driver.drain_all(rt, alloc, crew, crew.plan.turns, fault);
     crew.signals.end();
     let finished = join_all(rt, crew, body, workers, parts.finished);
     let fault = driver.drain_all(rt, alloc, crew, 1, fault);
@@ -184,7 +173,7 @@ where
     J: Journal + Drop + Send,
     B: Body + Sync,
     R: Threads + Wait + Sync,
-    ensures outcome { IfOk result.1 (λ j. IsRunOutcome (B.may_end body.now) (run_of N.template N.press run.entry.crew.now.moment handle.entry) run.entry.crew.now.jobs run.entry.crew.now.inbox.id (vec_len run.entry.parts.posters) run.entry.crew.now.children.items result.0 j) }
+    ensures outcome { IfOk result.1 (λ j. IsRunOutcome (B.may_end body.now) (run_of N.template N.press run.entry.crew.now.plan.moment handle.entry) run.entry.crew.now.jobs run.entry.crew.now.inbox.id (vec_len run.entry.parts.posters) run.entry.crew.now.plan.children.items result.0 j) }
     ensures kept { OnErr result.1 (HasNotCalled handle.entry result.0) }
     ensures place { IfErr result.1 (λ e. e ≡ CrewFault.NoHandle → ⊥) }
 {
@@ -212,7 +201,7 @@ where
     J: Journal + Drop + Send,
     B: Body + Sync,
     R: Threads + Wait + Sync,
-    ensures outcome { IfOk result (λ j. IsRunOutcome (B.may_end body.now) (run_of N.template N.press run.entry.crew.now.moment driver.old) run.entry.crew.now.jobs run.entry.crew.now.inbox.id (vec_len run.entry.parts.posters) run.entry.crew.now.children.items driver.new j) }
+    ensures outcome { IfOk result (λ j. IsRunOutcome (B.may_end body.now) (run_of N.template N.press run.entry.crew.now.plan.moment driver.old) run.entry.crew.now.jobs run.entry.crew.now.inbox.id (vec_len run.entry.parts.posters) run.entry.crew.now.plan.children.items driver.new j) }
     ensures kept { OnErr result (HasNotCalled driver.old driver.new) }
     ensures place { IfErr result (λ e. e ≡ CrewFault.NoHandle → ⊥) }
 {
@@ -255,14 +244,9 @@ where
     ensures kept { OnErr result ((driver.new.calls ≡ driver.old.calls) × (driver.new.number ≡ driver.old.number)) }
     ensures place { IfErr result (λ e. e ≡ CrewFault.NoHandle → ⊥) }
 {
-    let Prepared {
-        crew,
-        parts,
-        buffers,
-    } = prepare(alloc, plan)?;
-    let workers = parts.posters.len();
+    let (crew, parts, buffers) = prepare(alloc, plan)?;
     let outcome = run_lent(rt, alloc, Beginning { crew: &crew, parts }, body, driver)?;
-    Ok(close(rt, crew, body, workers, outcome, buffers))
+    Ok(close(rt, crew, body, outcome, buffers))
 }
 
 /// Does the same with a handle that is made for the run and not given back, so that an audit then lacks it. `NoHandle` if all

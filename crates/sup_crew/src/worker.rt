@@ -1,6 +1,5 @@
 //! Workers: what one does, and its thread.
 ghost use Rattle.std.specs.Prelude.{◌≡◌, [], ◌++◌, ◌∷◌, length, MatchResult, ℕ, ◌+◌, ◌<◌, ◌≤◌, IfOk, IfErr, IfNone, vec_len, vec_capacity, slice_index_or};
-ghost use Rattle.sup_crew.specs.Births.{IsBorn};
 ghost use Rattle.sup_crew.specs.Jobs.{permission};
 ghost use Rattle.sup_crew.specs.Work.{IsNext, IsWorked, AreWorked};
 ghost use Rattle.sup_inbox.specs.Ends.{AreFrom, AreNew};
@@ -41,7 +40,7 @@ fn post_until<N: Name, R: Wait>(
     ensures posted { MatchResult result (λ _. poster.new.posted ≡ poster.old.posted ++ note ∷ []) (λ back. (back ≡ note) × (poster.new.posted ≡ poster.old.posted)) }
 {
     let signals = &crew.signals;
-    for _ in 0..crew.turns {
+    for _ in 0..crew.plan.turns {
         let noted = signals.drained.notifications();
         let reason = note.reason;
         if let Ok(()) = poster.post(rt, &crew.inbox, note.number, note.arg, reason) {
@@ -98,22 +97,15 @@ pub fn work<N: Name, B: Body, R: Wait>(
     unreachable!()
 }
 
-/// Learns the job's ticket: the asker has then seen that the child was made.
-fn see_birth<N: Name>(asker: &mut Asker<N>, job: &Job<N>)
-    ensures { IsBorn N.template asker.new.front job.now.number }
-{
-    let _ = asker.learn(&job.ticket);
-}
-
-/// Learns the job's ticket, and runs the body. Returns the note of its exit, which is the poster's next.
+/// Learns the job's ticket, by which the asker has seen that the child was made, and runs the body. Returns the note of its exit,
+/// which is the poster's next.
 fn run_job<N: Name, B: Body>(body: &B, job: Job<N>, asker: &mut Asker<N>, poster: &Poster) -> Note
     ensures child { (result.number ≡ job.number) × (result.arg ≡ job.arg) }
     ensures reason { B.may_end body.now job.number job.arg result.reason }
     ensures next { IsNext poster.now result }
 {
-    let number = job.number;
-    let arg = job.arg;
-    see_birth(asker, &job);
+    let (number, arg) = (job.number, job.arg);
+    let _ = asker.learn(&job.ticket);
     let reason = body.run(job, asker);
     Note {
         poster: poster.number(),
@@ -125,6 +117,7 @@ fn run_job<N: Name, B: Body>(body: &B, job: Job<N>, asker: &mut Asker<N>, poster
 }
 
 /// The promise of a worker: it hands back all that it took.
+#[derive(Drop)]
 pub struct Works<'a, N: Name, B> {
     /// What it shares with the others.
     pub crew: &'a Crew<N>,
@@ -132,16 +125,6 @@ pub struct Works<'a, N: Name, B> {
     pub body: &'a B,
     /// The number of its poster.
     pub number: u64,
-}
-
-impl<'a, N: Name, B> Drop for Works<'a, N, B> {
-    fn drop(self) {
-        let Works {
-            crew: _,
-            body: _,
-            number: _,
-        } = self;
-    }
 }
 
 impl<'a, N: Name, B: Body> Promise<Finished<N>> for Works<'a, N, B> {

@@ -7,12 +7,12 @@ use Rattle.sup_crew.proofs.closing.read_all.Goals as goal
 pub loop-preserved : goal.loop-preserved
 loop-preserved g c =
     let i = c.loop.invariant in
-    let e = c.in-Some-read.ensures.job.0 in
-    let job = c.in-Some-read.job in
+    let e = c.in-Some-take.ensures.job in
+    let job = c.in-Some-take.job in
     let t = ap (λ v. v.permission.taken) e in
     let old = c.loop.endpoint.permission.taken in
     record {
-      endpoint = (ap (λ v. v.queue) e, ap (λ v. v.permission.parts) e, ap (λ v. v.permission.put) e ∙ i.endpoint.2);
+      endpoint = (ap (λ v. v.queue) e, ap (λ v. v.permission.parts) e ∙ i.endpoint.1, ap (λ v. v.permission.put) e ∙ i.endpoint.2);
       account = λ h.
           let a = ap (weigh h) t ∙ weigh-append h old (child_of job ∷ []) in
           let b = ap (λ l. weigh h (children_of l)) c.push_reserved.ensures.items ∙ weigh-job h (vec_items c.loop.left) job in

@@ -17,7 +17,7 @@ returns-clause-outcome g c =
     let view = c.driver.view_is in
     let it = c.driver.inside in
     let end = c.drain_all-fault-2.new.self in
-    let run = run_of g.N.Name.template g.N.Name.press c.args.run.crew.now.moment c.args.caller in
+    let run = run_of g.N.Name.template g.N.Name.press c.args.run.crew.now.plan.moment c.args.caller in
     let begins : HasDriven run [] c.new-driver.result =
     driven_begins run c.new-driver.result (ap (λ (d : DriverModel). d.knows) new ∙ c.bind.ensures) (ap (λ (d : DriverModel). d.ticket) new) (ap (λ (d : DriverModel). d.tally) new)
     (ap (λ (d : DriverModel). d.drain.entered) new ∙ ap (λ d. d.entered) c.new-2.ensures ∙ ap (λ t. t.taken) taker)
@@ -28,7 +28,7 @@ returns-clause-outcome g c =
     in
     record {
       driver = c.number.ensures;
-      driven = subst (HasDriven run (take c.start_all-started.result.0 c.args.run.crew.now.children.items)) (sym last) (d.drained _ _ (f.drained _ _ (s.started _ [] begins)));
+      driven = subst (HasDriven run (take c.start_all-started.result.0 c.args.run.crew.now.plan.children.items)) (sym last) (d.drained _ _ (f.drained _ _ (s.started _ [] begins)));
       of_queue = (
         ap (λ (d : DriverModel). d.jobs.queue) view ∙ d.same.0.0 ∙ f.same.0.0 ∙ s.same.0.0 ∙ ap (λ (d : DriverModel). d.jobs.queue) new ∙ jobs.0 ∙ ap (λ v. v.queue) h.endpoint.0,
         (let p = ap (λ (d : DriverModel). d.jobs.parts) view ∙ d.same.0.1 ∙ f.same.0.1 ∙ s.same.0.1 ∙ ap (λ (d : DriverModel). d.jobs.parts) new ∙ jobs.1 in let r = h.endpoint.1 in omega (arith, p, r)),

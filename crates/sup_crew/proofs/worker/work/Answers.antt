@@ -10,7 +10,7 @@ use Rattle.sup_crew.proofs.worker.work.Goals as goal
 pub returns-in-Err : goal.returns-in-Err
 returns-in-Err g c =
     let i = c.loop.invariant in
-    let e = c.in-Some-take.ensures in
+    let e = c.in-Some-take.ensures.job in
     let t = ap (λ v. v.permission.taken) e in
     let p = c.in-Err.ensures in
     let x = c.run_job-note.ensures in
@@ -33,7 +33,7 @@ returns-in-Err g c =
 pub loop-preserved : goal.loop-preserved
 loop-preserved g c =
     let i = c.loop.invariant in
-    let e = c.in-Some-take.ensures in
+    let e = c.in-Some-take.ensures.job in
     let t = ap (λ v. v.permission.taken) e in
     let p = c.in_default-post_until.ensures in
     let x = c.run_job-note.ensures in

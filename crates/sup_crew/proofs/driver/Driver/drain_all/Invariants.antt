@@ -5,5 +5,5 @@ abbrev pub invariant-loop : goal.invariant-loop
 invariant-loop g l = record {
   same : IsSameDriver l.fn.self l.self;
   at_work : IsAtWork l.crew.jobs l.crew.inbox.id l.self;
-  drained : GoesOn g.N.Name.template g.N.Name.press l.crew.moment l.fn.self l.self;
+  drained : GoesOn g.N.Name.template g.N.Name.press l.crew.plan.moment l.fn.self l.self;
 }

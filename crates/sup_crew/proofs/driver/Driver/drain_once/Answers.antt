@@ -9,7 +9,7 @@ use Rattle.sup_crew.proofs.driver.Driver.drain_once.Goals as goal
 
 pub returns-then-is_err-clause-drained : goal.returns-then-is_err-clause-drained
 returns-then-is_err-clause-drained g c before begun driven =
-    let run = run_of g.N.Name.template g.N.Name.press c.args.crew.now.moment before in
+    let run = run_of g.N.Name.template g.N.Name.press c.args.crew.now.plan.moment before in
     let it = c.self.inside in
     let old : DriverModel = record { knows = it.handle; jobs = it.jobs; drain = it.drain; ticket = it.ticket; tally = it.tally } in
     let new : DriverModel = record { knows = it.handle; jobs = c.make_room.new.self; drain = it.drain; ticket = it.ticket; tally = it.tally } in
@@ -18,16 +18,16 @@ returns-then-is_err-clause-drained g c before begun driven =
 
 pub note_exits-requires-clause-born : goal.note_exits-requires-clause-born
 note_exits-requires-clause-born g c =
-    entered-born g.S.Starter.may_answer g.N.Name.template g.N.Name.press c.self.inside.handle c.drain.new.handle c.in-Ok.done.pairs.items c.args.crew.now.moment c.in-Ok.done.ticket c.in-Ok.ensures.ok
+    entered-born g.S.Starter.may_answer g.N.Name.template g.N.Name.press c.self.inside.handle c.drain.new.handle c.in-Ok.done.pairs.items c.args.crew.now.plan.moment c.in-Ok.done.ticket c.in-Ok.ensures.ok
 
 pub note_exits-requires-in-Err-clause-born : goal.note_exits-requires-in-Err-clause-born
 note_exits-requires-in-Err-clause-born g c =
     let done = c.in-Err.field-0.done in
-    entered-born g.S.Starter.may_answer g.N.Name.template g.N.Name.press c.self.inside.handle c.drain.new.handle done.pairs.items c.args.crew.now.moment done.ticket c.in-Err.ensures.err
+    entered-born g.S.Starter.may_answer g.N.Name.template g.N.Name.press c.self.inside.handle c.drain.new.handle done.pairs.items c.args.crew.now.plan.moment done.ticket c.in-Err.ensures.err
 
 pub returns-in-Ok-clause-drained : goal.returns-in-Ok-clause-drained
 returns-in-Ok-clause-drained g c before begun driven =
-    let run = run_of g.N.Name.template g.N.Name.press c.args.crew.now.moment before in
+    let run = run_of g.N.Name.template g.N.Name.press c.args.crew.now.plan.moment before in
     let it = c.self.inside in
     let old : DriverModel = record { knows = it.handle; jobs = it.jobs; drain = it.drain; ticket = it.ticket; tally = it.tally } in
     let last = c.note_exits.new.self in
@@ -42,7 +42,7 @@ returns-in-Ok-clause-drained g c before begun driven =
 
 pub returns-in-Err-clause-drained : goal.returns-in-Err-clause-drained
 returns-in-Err-clause-drained g c before begun driven =
-    let run = run_of g.N.Name.template g.N.Name.press c.args.crew.now.moment before in
+    let run = run_of g.N.Name.template g.N.Name.press c.args.crew.now.plan.moment before in
     let it = c.self.inside in
     let old : DriverModel = record { knows = it.handle; jobs = it.jobs; drain = it.drain; ticket = it.ticket; tally = it.tally } in
     let last = c.note_exits-in-Err.new.self in

@@ -7,5 +7,5 @@ abbrev pub invariant-loop-place : goal.invariant-loop-place
 invariant-loop-place g l = record {
   same : IsSameDriver l.fn.self l.self;
   queue : l.self.jobs.queue ≡ l.crew.jobs;
-  started : Starts g.N.Name.template g.N.Name.press l.crew.moment (take l.place (vec_items l.crew.children)) l.fn.self l.self;
+  started : Starts g.N.Name.template g.N.Name.press l.crew.plan.moment (take l.place (vec_items l.crew.plan.children)) l.fn.self l.self;
 }

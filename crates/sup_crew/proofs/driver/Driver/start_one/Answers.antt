@@ -10,7 +10,7 @@ use Rattle.sup_crew.proofs.driver.Driver.start_one.Goals as goal
 
 pub returns-then-is_err-clause-err : goal.returns-then-is_err-clause-err
 returns-then-is_err-clause-err g c before begun driven =
-    let run = run_of g.N.Name.template g.N.Name.press c.args.crew.now.moment before in
+    let run = run_of g.N.Name.template g.N.Name.press c.args.crew.now.plan.moment before in
     let it = c.self.inside in
     let old : DriverModel = record { knows = it.handle; jobs = it.jobs; drain = it.drain; ticket = it.ticket; tally = it.tally } in
     let new : DriverModel = record { knows = it.handle; jobs = c.make_room.new.self; drain = it.drain; ticket = it.ticket; tally = it.tally } in
@@ -21,7 +21,7 @@ pub returns-in_err-done-clause-err : goal.returns-in_err-done-clause-err
 returns-in_err-done-clause-err g c =
     on_err-any c.from_residual.result _
     (λ before begun driven.
-    let run = run_of g.N.Name.template g.N.Name.press c.args.crew.now.moment before in
+    let run = run_of g.N.Name.template g.N.Name.press c.args.crew.now.plan.moment before in
     let it = c.self.inside in
     let old : DriverModel = record { knows = it.handle; jobs = it.jobs; drain = it.drain; ticket = it.ticket; tally = it.tally } in
     let new : DriverModel = record { knows = c.start_child.new.self; jobs = c.make_room.new.self; drain = it.drain; ticket = it.ticket; tally = it.tally } in
@@ -31,11 +31,11 @@ returns-in_err-done-clause-err g c =
 
 pub note_start-requires-clause-born : goal.note_start-requires-clause-born
 note_start-requires-clause-born g c =
-    updated-born g.S.Starter.may_answer g.N.Name.template g.N.Name.press c.self.inside.handle c.start_child.new.self _ c.args.crew.now.moment c.in_ok-done.done.reply c.in_ok-done.done.ticket c.in_ok-done.ensures.result.ok
+    updated-born g.S.Starter.may_answer g.N.Name.template g.N.Name.press c.self.inside.handle c.start_child.new.self _ c.args.crew.now.plan.moment c.in_ok-done.done.reply c.in_ok-done.done.ticket c.in_ok-done.ensures.result.ok
 
 pub returns-clause-ok : goal.returns-clause-ok
 returns-clause-ok g c before begun driven =
-    let run = run_of g.N.Name.template g.N.Name.press c.args.crew.now.moment before in
+    let run = run_of g.N.Name.template g.N.Name.press c.args.crew.now.plan.moment before in
     let it = c.self.inside in
     let old : DriverModel = record { knows = it.handle; jobs = it.jobs; drain = it.drain; ticket = it.ticket; tally = it.tally } in
     let last = c.note_start.new.self in
