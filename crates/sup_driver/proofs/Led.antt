@@ -23,6 +23,8 @@ use Rattle.sup_ledger.specs.declared.child.Child.{Child}
 use Rattle.sup_ledger.specs.declared.exit.Exit.{Exit as Exited}
 use Rattle.sup_ledger.specs.Endings.{is_ending, AreEndings}
 use Rattle.sup_ledger.specs.Exits.{children_of, operations_of}
+use Rattle.sup_yard.specs.Clocks.{AreGiven}
+use Rattle.sup_yard.specs.ClockLaws.{given_applied}
 use Rattle.sup_yard.specs.Starts.{HasReplies}
 use Rattle.sup_yard.specs.ReplyLaws.{each_of, seen_more, applied}
 use Rattle.sup_driver.specs.Restarts.{restarted_as, number_restarted, restarted_among, numbers_of}
@@ -110,20 +112,21 @@ take-within (suc j) (suc k) (x ∷ xs) h = ap (λ l. x ∷ l) (take-within j k x
 -- ---- one batch more
 
 -- nothing was entered
-pub entered_none : (template : Template) (before after : Knowledge) (held : List Exited) (k : ℕ) (replies : List Reply) → IsPrefix before.front after.front → k ≡ 0 → replies ≡ [] → after.calls ≡ before.calls → after.number ≡ before.number
-    → HasEntered template before after (take k held) replies
-entered_none template before after held k replies more n r calls number =
+pub entered_none : (template : Template) (second : ℕ) (before after : Knowledge) (held : List Exited) (k : ℕ) (replies : List Reply) → IsPrefix before.front after.front → k ≡ 0 → replies ≡ [] → after.calls ≡ before.calls → after.number ≡ before.number
+    → HasEntered template second before after (take k held) replies
+entered_none template second before after held k replies more n r calls number =
     record {
       front = more;
       exits_are = ap exits_among calls ∙ sym (append-nil (exits_among before.calls)) ∙ ap (λ j. exits_among before.calls ++ operations_of (take j held)) (sym n);
       driven = λ h. ap are_driven calls ∙ h;
+      given = λ may_give is h. subst (AreGiven may_give) (sym calls) h;
       restarted = λ numbers h. subst (HasReplies number_restarted template after) (sym (append-nil numbers) ∙ ap (λ l. numbers ++ restarted_among l) (sym r)) (seen_more number_restarted template before after numbers h more calls number);
     }
 
 module _ (may : Text → ℕ → Answer → Type 0) (template : Template) (press : Book) (before after : Knowledge) (moment : ℕ) where
   -- these exits, each with its reply
   entered_all : (exits : List Exited) (operations : List Operation) (replies : List Reply) (told : Told) → IsPrefix before.front after.front → operations ≡ operations_of exits
-      → IsApplied may template press before operations moment after replies told → HasEntered template before after exits replies
+      → IsApplied may template press before operations moment after replies told → HasEntered template moment before after exits replies
   entered_all exits operations replies told more are e =
       let entered = subst (λ o. AreEntered may template before.number moment e.front (length before.calls) o e.entries replies) are e.entered in
       let n = entered-replies may template before.number moment e.front (length before.calls) (operations_of exits) e.entries replies entered ∙ operations-length exits in
@@ -135,6 +138,7 @@ module _ (may : Text → ℕ → Answer → Type 0) (template : Template) (press
         driven = λ h.
             ap (λ (k : Knowledge). are_driven k.calls) e.after_is ∙ driven-append before.calls e.entries
             ∙ both (are_driven before.calls) (are_driven e.entries) h (entered-driven may template before.number moment e.front (length before.calls) exits e.entries replies entered);
+        given = λ may_give is h. given_applied may_give may template moment is press before after h operations replies told e;
         restarted = λ numbers h.
             subst (λ l. HasReplies number_restarted template after (numbers ++ l)) (ap (λ o. each_of number_restarted o replies) are ∙ each_restarted exits replies n)
             (applied number_restarted may template press before numbers operations moment after replies told h e);
@@ -145,14 +149,14 @@ module _ (may : Text → ℕ → Answer → Type 0) (template : Template) (press
 
   -- all of the first exits
   pub entered_ok : (held : List Exited) (count k : ℕ) (operations : List Operation) (replies : List Reply) (told : Told) → IsPrefix before.front after.front → operations ≡ operations_of (take count held) → k ≡ count
-      → IsApplied may template press before operations moment after replies told → HasEntered template before after (take k held) replies
+      → IsApplied may template press before operations moment after replies told → HasEntered template moment before after (take k held) replies
   entered_ok held count k operations replies told more are n e = entered_all (take k held) operations replies told more (are ∙ ap (λ j. operations_of (take j held)) (sym n)) e
 
   -- some of them, or none
   pub entered_part : (held : List Exited) (count k : ℕ) (operations : List Operation) (replies : List Reply) (ticket : Option Told) → IsPrefix before.front after.front → operations ≡ operations_of (take count held) → k ≡ length replies
       → k ≤ count → IfSome ticket (λ t. IsApplied may template press before (take (length replies) operations) moment after replies t × (0 < length replies))
-      → IfNone ticket ((replies ≡ []) × (after.calls ≡ before.calls) × (after.number ≡ before.number)) → HasEntered template before after (take k held) replies
-  entered_part held count k operations replies None more are n low some none = entered_none template before after held k replies more (n ∙ ap length none.0) none.0 none.1 none.2
+      → IfNone ticket ((replies ≡ []) × (after.calls ≡ before.calls) × (after.number ≡ before.number)) → HasEntered template moment before after (take k held) replies
+  entered_part held count k operations replies None more are n low some none = entered_none template moment before after held k replies more (n ∙ ap length none.0) none.0 none.1 none.2
   entered_part held count k operations replies (Some t) more are n low some none =
       let first : take (length replies) operations ≡ operations_of (take k held) =
       ap (λ j. take j operations) (sym n) ∙ ap (take k) are ∙ operations-take k (take count held) ∙ ap operations_of (take-within k count held low) in

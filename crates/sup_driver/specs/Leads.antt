@@ -12,6 +12,7 @@ use Rattle.sup_ledger.specs.declared.child.Child.{Child}
 use Rattle.sup_ledger.specs.declared.exit.Exit.{Exit as Exited}
 use Rattle.sup_ledger.specs.Endings.{is_ending, AreEndings}
 use Rattle.sup_ledger.specs.Exits.{children_of, operations_of}
+use Rattle.sup_yard.specs.Clocks.{AreGiven}
 use Rattle.sup_yard.specs.Starts.{HasReplies}
 use Rattle.sup_driver.specs.Restarts.{number_restarted, restarted_among}
 
@@ -63,9 +64,10 @@ HasTold may_end calls paid unpaid told = (exits_among calls ≡ operations_of (t
 abbrev pub IsLed : (Reason → Bool) → List Entry → List Child → List Exited → Type 0
 IsLed may_end calls paid unpaid = HasTold may_end calls paid unpaid (told_by (exits_among calls) paid)
 
--- These exits were entered: they are the only ones among the calls that were made, and so are the restarts by the replies
-pub record HasEntered (template : Template) (before after : Knowledge) (exits : List Exited) (replies : List Reply) : Type 0 where
+-- These exits were entered at this second: they are the only ones among the calls that were made, and so are the restarts by the replies
+pub record HasEntered (template : Template) (second : ℕ) (before after : Knowledge) (exits : List Exited) (replies : List Reply) : Type 0 where
   pub front : IsPrefix before.front after.front
   pub exits_are : exits_among after.calls ≡ exits_among before.calls ++ operations_of exits
   pub driven : are_driven before.calls ≡ true → are_driven after.calls ≡ true
+  pub given : (may_give : ℕ → Bool) → may_give second ≡ true → AreGiven may_give before.calls → AreGiven may_give after.calls
   pub restarted : (numbers : List ℕ) → HasReplies number_restarted template before numbers → HasReplies number_restarted template after (numbers ++ restarted_among replies)

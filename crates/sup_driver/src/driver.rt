@@ -1,7 +1,8 @@
 //! The driver: it enters exits, begins the children that were restarted, and tries failed restarts again.
-ghost use Rattle.std.specs.Prelude.{◌≡◌, ◌≤◌, [], true, length};
+ghost use Rattle.std.specs.Prelude.{◌≡◌, ◌≤◌, ◌/◌, [], true, length};
 ghost use Rattle.std.specs.VecDeque.{deque_capacity};
 ghost use Rattle.sup_ledger.specs.Accounts.{IsNew};
+ghost use Rattle.sup_yard.specs.Clocks.{AreGiven};
 ghost use Rattle.sup_yard.specs.Starts.{HasReplies};
 ghost use Rattle.sup_driver.specs.Leads.{are_driven, IsLed};
 ghost use Rattle.sup_driver.specs.Restarts.{number_restarted, numbers_of};
@@ -20,8 +21,9 @@ use sup_yard::{Behaviour, Crew, Host, Hub, Moment};
 /// For how long the driver sleeps at most while something is to be done later.
 const DOZE_MILLIS: u64 = 100;
 
-/// A driver in the middle of a run. By its type, its handle's calls are exits, later tries and the stop, and its exits are those that
-/// were paid, in order and each once. Each child that was restarted by these calls was made.
+/// A driver in the middle of a run. By its type, its handle's calls are exits, later tries and the stop, each at a moment that the
+/// crew's clock gave, and its exits are those that were paid, in order and each once. Each child that was restarted by these calls
+/// was made.
 #[derive(Drop)]
 pub struct Driver<'d, N: Name, D, I: Office> {
     handle: HandleOf<'d, N, D>,
@@ -39,6 +41,7 @@ pub struct Driver<'d, N: Name, D, I: Office> {
     ghost at: { length entered.places ≡ 1 },
     ghost restarted: { HasReplies number_restarted N.template handle (numbers_of witness.shown) },
     ghost driven: { are_driven handle.calls ≡ true },
+    ghost given: { AreGiven I.may_give handle.calls },
     ghost led: { IsLed I.may_end handle.calls entered.paid [] },
     ghost room: { 64 ≤ deque_capacity held },
 }
@@ -62,6 +65,7 @@ pub struct Driven<N: Name, I: Office> {
     ghost at: { length entered.places ≡ 1 },
     ghost restarted: { HasReplies number_restarted N.template caller (numbers_of witness.shown) },
     ghost driven: { are_driven caller.calls ≡ true },
+    ghost given: { AreGiven I.may_give caller.calls },
     ghost led: { IsLed I.may_end caller.calls entered.paid [] },
 }
 
@@ -131,7 +135,9 @@ impl<'d, N: Name, S: Starter + Drop, Q: Wait + Drop, J: Journal + Drop, I: Offic
         yard: &Crew<'_, I, B, P>,
         moment: Moment,
         retry: &Retry,
-    ) -> Result<Reply, UpdateFault> {
+    ) -> Result<Reply, UpdateFault>
+        requires { I.may_give (moment.millis / 1000) ≡ true }
+    {
         let rt = &yard.hub.rt;
         match self.handle.retry(rt, moment.seconds(), retry.child.number) {
             Ok(done) => {
@@ -146,7 +152,9 @@ impl<'d, N: Name, S: Starter + Drop, Q: Wait + Drop, J: Journal + Drop, I: Offic
     }
 
     /// Tries again the restarts whose moment has come. One that is refused stays the first.
-    fn retry_due<B: Behaviour, P: Host>(&mut self, yard: &Crew<'_, I, B, P>, moment: Moment) {
+    fn retry_due<B: Behaviour, P: Host>(&mut self, yard: &Crew<'_, I, B, P>, moment: Moment)
+        requires { I.may_give (moment.millis / 1000) ≡ true }
+    {
         for _ in 0..self.restarts.len() {
             let Some(retry) = self.restarts.first_due(moment) else {
                 return;
@@ -169,7 +177,9 @@ impl<'d, N: Name, S: Starter + Drop, Q: Wait + Drop, J: Journal + Drop, I: Offic
 
     /// Takes exits, enters them, and does what the replies ask for. Returns whether any was entered. Those that were not are held, and
     /// come first next time.
-    fn enter<B: Behaviour, P: Host>(&mut self, yard: &Crew<'_, I, B, P>, moment: Moment) -> bool {
+    fn enter<B: Behaviour, P: Host>(&mut self, yard: &Crew<'_, I, B, P>, moment: Moment) -> bool
+        requires { I.may_give (moment.millis / 1000) ≡ true }
+    {
         if self.fault.is_some() || yard.hub.is_suspended() {
             return false;
         }
@@ -182,7 +192,8 @@ impl<'d, N: Name, S: Starter + Drop, Q: Wait + Drop, J: Journal + Drop, I: Offic
         }
         let (rt, alloc, held) = (&yard.hub.rt, yard.alloc, &mut self.held);
         let (handle, operations) = (&mut self.handle, &mut self.operations);
-        let (replies, fault) = enter(rt, alloc, handle, moment, held, count, operations);
+        let second = moment.seconds();
+        let (replies, fault) = enter(rt, alloc, handle, second, held, count, operations);
         let any = !replies.is_empty();
         let (witness, entered, restarts) = (
             &mut self.witness,

@@ -61,7 +61,8 @@ fn list<I: Office>(
     Ok(())
 }
 
-/// Enters the first exits, in order and in one step. Returns the replies to those that were entered, and why the others were not.
+/// Enters the first exits, in order and in one step, at this moment, in seconds. Returns the replies to those that were entered, and
+/// why the others were not.
 pub(crate) fn enter<
     N: Name,
     S: Starter + Drop,
@@ -73,7 +74,7 @@ pub(crate) fn enter<
     rt: &R,
     alloc: Global,
     handle: &mut Handle<'_, N, S, Q, J>,
-    moment: Moment,
+    second: u64,
     held: &VecDeque<OwedExit<I>>,
     count: usize,
     operations: &mut VecDeque<Operation>,
@@ -81,12 +82,12 @@ pub(crate) fn enter<
     requires { (1 ≤ count) × (count ≤ deque_len held.now) }
     ensures all { IfNone result.1 (vec_len result.0 ≡ count) }
     ensures few { vec_len result.0 ≤ count }
-    ensures entered { HasEntered N.template handle.old handle.new (take (vec_len result.0) held.now.items) result.0.items }
+    ensures entered { HasEntered N.template second handle.old handle.new (take (vec_len result.0) held.now.items) result.0.items }
 {
     if list(held, count, operations).is_err() {
         return (Vec::new(alloc), Some(UpdateFault::OutOfMemory));
     }
-    match handle.apply_all(rt, alloc, moment.seconds(), operations) {
+    match handle.apply_all(rt, alloc, second, operations) {
         Ok(Dones { replies, .. }) => (replies, None),
         Err(Part { replies, fault, .. }) => (replies, Some(fault)),
     }

@@ -1,8 +1,9 @@
 //! Offices: what the exits of one crew have in common.
 use std::marker::Brand;
 
-/// Names a ledger, and says how many places it has, and for which reasons the children may end whose exits it has. A value
-/// behind a lock is known by its type alone, so the type says to which ledger it belongs.
+/// Names a ledger, and says how many places it has, for which reasons the children may end whose exits it has, and which moments
+/// the crew's clock may give, in seconds. A value behind a lock is known by its type alone, so the type says to which ledger it
+/// belongs.
 pub trait Office {
     ghost use Rattle.std.specs.Prelude.{ℕ, Bool};
     ghost use Rattle.atomic_table.specs.Seated.{TableId};
@@ -13,6 +14,8 @@ pub trait Office {
     ghost places: { ℕ };
 
     ghost may_end: { Reason → Bool };
+
+    ghost may_give: { ℕ → Bool };
 }
 
 impl Office for Brand {
@@ -24,4 +27,6 @@ impl Office for Brand {
     ghost places = { 0 };
 
     ghost may_end = { λ reason. true };
+
+    ghost may_give = { λ moment. true };
 }

@@ -1,5 +1,5 @@
 //! Queues of exits, with room for that of each child that is alive.
-ghost use Rattle.std.specs.Prelude.{◌≡◌, ◌+◌, ◌-◌, ◌≤◌, ◌⊎◌, [], ◌∷◌, ◌++◌, length, max, OnOk, OnErr};
+ghost use Rattle.std.specs.Prelude.{◌≡◌, ◌+◌, ◌-◌, ◌<◌, ◌≤◌, ◌⊎◌, [], ◌∷◌, ◌++◌, length, max, OnOk, OnErr};
 ghost use Rattle.std.specs.VecDeque.{deque_len, deque_capacity};
 ghost use mathlib.Core.List.{IsPrefix};
 
@@ -70,7 +70,8 @@ impl<I: Office> ExitQueue<I> {
         requires { ledger.now.id ≡ I.ledger }
         ensures due { result.0.debt ≡ record { ledger = I.ledger; child = child } }
         ensures witness { result.1 ≡ record { ledger = I.ledger; shown = child ∷ [] } }
-        ensures same { self.new.waiting.items ≡ self.old.waiting.items }
+        ensures place { result.0.place ≡ place }
+        ensures same { (self.new.waiting.items ≡ self.old.waiting.items) × (self.new.children ≡ self.old.children) }
     {
         let (debt, witness) = ledger.make(rt, &mut self.account, child);
         let of = PhantomData;
@@ -80,7 +81,8 @@ impl<I: Office> ExitQueue<I> {
     /// Lets an exit wait as the last. If memory was refused, which cannot be if room was made for it, it is let go, and stays
     /// owed.
     pub fn put(&mut self, exit: OwedExit<I>)
-        ensures { (self.new.waiting.items ≡ self.old.waiting.items ++ exit ∷ []) ⊎ (deque_capacity self.old.waiting ≤ deque_len self.old.waiting) }
+        ensures put { (self.new.waiting.items ≡ self.old.waiting.items ++ exit ∷ []) ⊎ (deque_capacity self.old.waiting ≤ deque_len self.old.waiting) }
+        ensures rooms { self.new.children ≡ self.old.children }
     {
         let _ = self.waiting.push_back(exit);
     }
@@ -91,12 +93,11 @@ impl<I: Office> ExitQueue<I> {
         ensures moved { list.new.items ++ self.new.waiting.items ≡ list.old.items ++ self.old.waiting.items }
         ensures kept { IsPrefix list.old.items list.new.items }
         ensures len { deque_len list.new ≤ max limit (deque_len list.old) }
+        ensures all { deque_len list.new < limit → self.new.waiting.items ≡ [] }
         ensures room { deque_capacity list.new ≡ deque_capacity list.old }
+        ensures rooms { self.new.children ≡ self.old.children }
     {
-        for _ in 0..limit {
-            if list.len() >= limit {
-                return;
-            }
+        'giving: while list.len() < limit {
             match self.waiting.pop_front() {
                 Some(exit) => list.push_back_reserved(exit),
                 None => return,

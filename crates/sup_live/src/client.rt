@@ -1,5 +1,5 @@
 //! Clients of a live crew, and what is done with one.
-ghost use Rattle.std.specs.Prelude.{◌≡◌, ◌<◌, ◌⊎◌, ◌↔◌, ℕ, [], ◌∷◌, length, IfOk, IfErr, IfSome, MatchResult, OnErr, IsOk, IsTrue};
+ghost use Rattle.std.specs.Prelude.{◌≡◌, ◌<◌, ◌⊎◌, ◌↔◌, ℕ, [], ◌∷◌, length, IfOk, IfErr, IfSome, MatchResult, OnErr, IsOk, IsTrue, true};
 ghost use mathlib.Core.List.{IsPrefix};
 ghost use Rattle.sup_core.specs.State.{MatchSeen};
 ghost use Rattle.sup_core.specs.Queries.{which, count, child};
@@ -19,14 +19,14 @@ use sup_types::{Counts, Operation, Row, Seen, Text};
 use sup_yard::{Behaviour, ChildRef};
 
 /// A client of a live crew whose children do what `B` says. It starts children, sends to them, ends them and asks about them, and it
-/// stays in its thread. Its updates are entered at the moment of the crew's clock, and wait for the desk's lock. Its queries take no
+/// stays in its thread. Its updates are entered at moments that the crew's clock gives, and wait for the desk's lock. Its queries take no
 /// lock and never wait.
 ///
 /// A client knows a front of the history: all that it has seen, learnt or done. An update is answered at the end of a front that
 /// begins with it, and so is a query. A refused update leaves the history and every published answer as they were. A journal that
 /// breaks off refuses the update and all later ones.
 pub trait LiveClient<B: Behaviour>: Drop {
-    ghost use Rattle.std.specs.Prelude.{ℕ};
+    ghost use Rattle.std.specs.Prelude.{ℕ, Bool};
     ghost use Rattle.logbook.specs.Pages.{Book};
     ghost use Rattle.sup_types.specs.declared.text.Text.{Text};
     ghost use Rattle.sup_types.specs.declared.history.Answer.{Answer};
@@ -46,6 +46,9 @@ pub trait LiveClient<B: Behaviour>: Drop {
     /// How the journal may fail.
     ghost may_fail: { JournalFault → Type 0 };
 
+    /// Which moments the crew's clock may give, in seconds. Each update is entered at one.
+    ghost may_give: { ℕ → Bool };
+
     /// What it knows: its number, its front, and the updates that it made.
     ghost knows: { Self → Knowledge };
 
@@ -61,7 +64,7 @@ pub trait LiveClient<B: Behaviour>: Drop {
     /// Starts a child with this argument, which owns this. At `Started` it runs, and is sent to by its address. Room for its exit
     /// is made first. What it was to own comes back if no child was made.
     fn start_child(&mut self, arg: Text, own: B::Own) -> Result<Started<B>, NotStarted<B::Own>>
-        ensures ok { IfOk result (λ d. (moment : ℕ) × IsUpdated may_answer template press (knows self.old) (Operation.Start arg) moment (record { number = (knows self.new).number; editions = d.ticket.editions; front = d.ticket.front; calls = (knows self.new).calls }) d.reply d.ticket) }
+        ensures ok { IfOk result (λ d. (moment : ℕ) × (may_give moment ≡ true) × IsUpdated may_answer template press (knows self.old) (Operation.Start arg) moment (record { number = (knows self.new).number; editions = d.ticket.editions; front = d.ticket.front; calls = (knows self.new).calls }) d.reply d.ticket) }
         ensures seen { IfOk result (λ d. IsPrefix d.ticket.front (knows self.new).front) }
         ensures child { IfOk result (λ d. IfSome d.child (λ address. started_as d.reply ≡ address.number ∷ [])) }
         ensures own { MatchResult result (λ d. d.own ≡ given_back own d.reply) (λ e. e.own ≡ own) }
@@ -75,7 +78,7 @@ pub trait LiveClient<B: Behaviour>: Drop {
     /// Ends the child with this number. At `Ended` it is asked to end, and is let go when its grace is over. Its exit is entered
     /// later, and changes nothing.
     fn terminate_child(&mut self, number: u64) -> Result<Done, UpdateFault>
-        ensures result { (moment : ℕ) × IsUpdateResult may_answer template press (knows self.old) (Operation.Terminate number) moment (knows self.new) result }
+        ensures result { (moment : ℕ) × (may_give moment ≡ true) × IsUpdateResult may_answer template press (knows self.old) (Operation.Terminate number) moment (knows self.new) result }
         ensures journal { IfErr result (λ e. (f : Fault) → e ≡ UpdateFault.Journal f → may_fail f) };
 
     /// Ends the child as [`LiveClient::terminate_child`] does, and at `Ended` returns once the child is gone, as OTP's does. Until
@@ -83,12 +86,12 @@ pub trait LiveClient<B: Behaviour>: Drop {
     /// the crew closes. It does not wait for a child that another thread has yet to make, which is asked to end as soon as it
     /// is there. A child has no client, so none can wait for its own end. One whose `poll` waits for this thread would.
     fn terminate_child_and_wait(&mut self, number: u64) -> Result<Done, UpdateFault>
-        ensures result { (moment : ℕ) × IsUpdateResult may_answer template press (knows self.old) (Operation.Terminate number) moment (knows self.new) result }
+        ensures result { (moment : ℕ) × (may_give moment ≡ true) × IsUpdateResult may_answer template press (knows self.old) (Operation.Terminate number) moment (knows self.new) result }
         ensures journal { IfErr result (λ e. (f : Fault) → e ≡ UpdateFault.Journal f → may_fail f) };
 
     /// Ends all children, and the supervisor. They are asked to end.
     fn stop(&mut self) -> Result<Done, UpdateFault>
-        ensures result { (moment : ℕ) × IsUpdateResult may_answer template press (knows self.old) Operation.Stop moment (knows self.new) result }
+        ensures result { (moment : ℕ) × (may_give moment ≡ true) × IsUpdateResult may_answer template press (knows self.old) Operation.Stop moment (knows self.new) result }
         ensures journal { IfErr result (λ e. (f : Fault) → e ≡ UpdateFault.Journal f → may_fail f) };
 
     /// Sends to the child with this number. The message comes back if no such child is alive, if it was asked to end, or if memory

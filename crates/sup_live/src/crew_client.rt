@@ -132,6 +132,8 @@ impl<
 
     ghost may_fail = { J.may_fail };
 
+    ghost may_give = { I.may_give };
+
     ghost knows = { λ c. c };
 
     fn number(&self) -> u64 {

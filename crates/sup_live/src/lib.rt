@@ -45,4 +45,4 @@ pub use report::Report;
 pub use run::run_live;
 pub use started::{NotStarted, Started};
 pub use sup_driver::Tally;
-pub use sup_yard::{Behaviour, ChildRef, End, Exit, Gone, Mailbox, Moments};
+pub use sup_yard::{Behaviour, ChildRef, End, Exit, Gone, Mailbox, Moment, Moments, Timer};

@@ -21,7 +21,7 @@ use sup_desk::{
 use sup_driver::Tally;
 use sup_log::Ticket;
 use sup_types::{AlwaysRunning, Entry, Starter, Template};
-use sup_yard::{Behaviour, Exit, Moments};
+use sup_yard::{Behaviour, Exit, Moments, Timer};
 
 /// How many handles a crew takes beside those of its peers: the driver's, and that of the program's client.
 const OWN_HANDLES: u64 = 2;
@@ -141,11 +141,11 @@ fn handles_of(plan: &Plan, peers: usize) -> Result<u64, LiveFault>
 ///
 /// # Errors
 /// Those of [`run_live`].
-pub fn run_over<N, S, Q, J, B, T, U, R>(
+pub fn run_over<N, S, Q, J, B, T, U, R, M>(
     rt: &R,
     desk: &Desk<N, S, Q, J>,
     behaviour: &B,
-    moments: Moments<'_>,
+    moments: M,
     plan: Plan,
     program: T,
     peers: Vec<U>,
@@ -164,6 +164,7 @@ where
     U: Program<B> + Drop + Send,
     U::Outcome: Send,
     R: Threads + Wait + Clock + RandomSource + AllocGlobal + Sync,
+    M: Timer + Drop + Send + Sync,
     requires workers { (1 ≤ plan.workers) × (plan.workers ≤ 64) }
     ensures { IfOk result (λ r. IsCrewReport (B.may_end behaviour.now) N.template r) }
 {

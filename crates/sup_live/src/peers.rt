@@ -8,7 +8,7 @@ use crate::crew_client::{Client, Returned};
 use std::marker::PhantomData;
 use std::sync::Wait;
 use std::thread::{JoinHandle, Scope};
-use sup_desk::{Caller, Desk, HandleFault, Journal, Name};
+use sup_desk::{Caller, Desk, Handle, HandleFault, Journal, Name};
 use sup_ledger::Witness;
 use sup_types::Starter;
 use sup_yard::{Behaviour, Crew, Host, Hub, Office};
@@ -75,6 +75,34 @@ impl<N: Name, I: Office, T: Drop> Left<N, I, T> {
     }
 }
 
+/// Runs a program by a client of this handle, which has made no call. Returns what came of it, the handle, and a witness that shows the
+/// children that the client started.
+pub(crate) fn run_by_client<'d, N, S, Q, J, I, B, P, T>(
+    desk: &'d Desk<N, S, Q, J>,
+    handle: Handle<'d, N, S, Q, J>,
+    yard: &Crew<'_, I, B, P>,
+    returned: &Returned<N>,
+    program: T,
+) -> (T::Outcome, Caller<N>, Witness)
+where
+    N: Name,
+    S: Starter + Drop,
+    Q: Wait + Drop,
+    J: Journal + Drop,
+    I: Office,
+    B: Behaviour,
+    P: Host,
+    T: Program<B>,
+    requires { handle.calls ≡ [] }
+    ensures ledger { result.2.ledger ≡ I.ledger }
+    ensures started { HasStarted N.template result.1 result.2.shown }
+{
+    let mut client = Client::new(desk, handle, yard, returned);
+    let outcome = program.run(&mut client);
+    let (caller, witness) = client.parts();
+    (outcome, caller, witness)
+}
+
 /// Runs a peer by a client of its own.
 fn attend<N, S, Q, J, I, B, P, U>(
     desk: &Desk<N, S, Q, J>,
@@ -94,9 +122,7 @@ where
 {
     match desk.handle(&yard.hub.rt) {
         Ok(handle) => {
-            let mut client = Client::new(desk, handle, yard, returned);
-            let outcome = peer.run(&mut client);
-            let (caller, witness) = client.parts();
+            let (outcome, caller, witness) = run_by_client(desk, handle, yard, returned, peer);
             Left::of_run(outcome, caller, witness)
         }
         Err(fault) => Left::of_none(NotRun::NoHandle(fault), yard.hub.ledger.witness()),

@@ -1,6 +1,7 @@
 //! What a crew did.
 ghost use Rattle.std.specs.Prelude.{◌≡◌, ◌↔◌, true, IsTrue, length, map, vec_len};
 ghost use Rattle.sup_ledger.specs.Endings.{AreEndings};
+ghost use Rattle.sup_yard.specs.Clocks.{AreGiven};
 ghost use Rattle.sup_driver.specs.Leads.{exits_among, are_driven, AreExitsEnding};
 ghost use Rattle.sup_live.specs.Accounts.{IsToldOf};
 ghost use Rattle.sup_live.specs.Peers.{caller_of, AreStartedBy};
@@ -67,6 +68,7 @@ pub(crate) fn make_report<N: Name, I: Office, B: Behaviour, P: Host, T: Drop, U:
 ) -> Report<N, T, U>
     requires attended { AreStartedBy N.template (map caller_of joined.peers.items) joined.others.shown }
     ensures driven { are_driven result.driver.calls ≡ true }
+    ensures given { AreGiven I.may_give result.driver.calls }
     ensures counted { result.exits ≡ length (exits_among result.driver.calls) }
     ensures endings { AreExitsEnding I.may_end (exits_among result.driver.calls) × AreEndings I.may_end result.left.items }
     ensures account { IsToldOf N.template result.caller result.driver (map caller_of result.peers.items) result.left.items result.made result.owed }

@@ -1,6 +1,7 @@
 //! Runs.
 ghost use Rattle.std.specs.Prelude.{◌≡◌, ◌<◌, ◌≤◌, ◌+◌, map, IfOk, vec_len};
 ghost use Rattle.sup_ledger.specs.Accounts.{IsNew};
+ghost use Rattle.sup_yard.specs.Clocks.{AreGiven};
 ghost use Rattle.sup_live.specs.Peers.{caller_of, AreStartedBy};
 ghost use Rattle.sup_live.specs.Wholes.{IsReport};
 
@@ -21,7 +22,7 @@ use sup_desk::{Desk, Journal, Name};
 use sup_driver::Driver;
 use sup_ledger::{Account, Ledger};
 use sup_types::Starter;
-use sup_yard::{Behaviour, Crew, Host, Hub, Moments, Office, Yard};
+use sup_yard::{Behaviour, Crew, Host, Hub, Office, Timed, Timer, Yard};
 
 /// Ends a yard. It stands apart, over any future, since the borrow checker of this kit sees no lifetime of a yard's children
 /// outlive the function that made it.
@@ -63,12 +64,12 @@ where
 }
 
 /// Runs the crew of an office.
-fn run_office<N, S, Q, J, I, B, T, U, R>(
+fn run_office<N, S, Q, J, I, B, T, U, R, M>(
     rt: &R,
     alloc: Global,
     desk: &Desk<N, S, Q, J>,
     behaviour: &B,
-    moments: Moments<'_>,
+    moments: M,
     plan: Plan,
     program: T,
     peers: Vec<U>,
@@ -89,15 +90,19 @@ where
     U: Program<B> + Drop + Send,
     U::Outcome: Send,
     R: Threads + Wait + Clock + RandomSource + AllocGlobal + Sync,
+    M: Timer + Drop + Send + Sync,
     requires ledger { (ledger.id ≡ I.ledger) × (ledger.places ≡ I.places) }
     requires workers { (0 < plan.workers) × (plan.workers + 1 ≡ I.places) }
     requires root { IsNew I.ledger I.places root }
     requires ends { I.may_end ≡ B.may_end behaviour.now }
-    ensures { IfOk result (λ r. IsReport (B.may_end behaviour.now) N.template (vec_len peers) r) }
+    requires given { I.may_give ≡ M.may_give }
+    ensures report { IfOk result (λ r. IsReport (B.may_end behaviour.now) N.template (vec_len peers) r) }
+    ensures given { IfOk result (λ r. AreGiven M.may_give r.driver.calls) }
 {
     let Plan { workers, grace, .. } = plan;
-    let (hub, account): (Hub<I, B, &R>, Account) = Hub::new(
-        rt, alloc, ledger, root, grace, workers,
+    let timed = Timed { rt, timer: moments };
+    let (hub, account): (Hub<I, B, Timed<&R, M>>, Account) = Hub::new(
+        timed, alloc, ledger, root, grace, workers,
     )?;
     let returned = Mutex::new(Vec::new(alloc));
     let handle = desk.handle(rt)?;
@@ -105,7 +110,7 @@ where
     let driver = Driver::new(alloc, handle, account, witness, plan.retry_after)?;
     let handle = desk.handle(rt)?;
     let ends = Ends { driver, handle };
-    let yard: Crew<'_, I, B, &R> = Yard::new(rt, alloc, &hub, behaviour, moments, workers)?;
+    let yard: Crew<'_, I, B, Timed<&R, M>> = Yard::new(rt, alloc, &hub, behaviour, workers)?;
     let joined = resume_threads(desk, &yard, &returned, ends, program, peers, workers);
     end_yard(yard);
     match joined {
@@ -122,6 +127,9 @@ where
 /// The desk may have a journal. One that breaks off refuses the updates of all clients, and queries go on. If an update of the
 /// driver's is refused, for any cause but memory, the driver enters nothing more: every child is asked to end and is let go as at a
 /// close, the report has the fault and the exits that were not entered, and the program runs until it returns.
+///
+/// The moments give the moment of each update: each that a client makes (see [`LiveClient`](crate::LiveClient)), and each that the
+/// driver made.
 ///
 /// Each exit that the driver entered has a reason for which the behaviour's children may end, or one of the crew's own: `killed` of
 /// a child that was let go, `not_run` of one that could not be run. So has each exit that the report says was left.
@@ -140,12 +148,12 @@ where
 /// # Errors
 /// Nothing was entered, and neither the program nor a peer was run: `OutOfMemory`; `NoThread`; `NoHandle` and `NoPlace` if the desk
 /// has not two more handles.
-pub fn run_live<N, S, Q, J, B, T, U, R>(
+pub fn run_live<N, S, Q, J, B, T, U, R, M>(
     rt: &R,
     alloc: Global,
     desk: &Desk<N, S, Q, J>,
     behaviour: &B,
-    moments: Moments<'_>,
+    moments: M,
     plan: Plan,
     program: T,
     peers: Vec<U>,
@@ -163,11 +171,13 @@ where
     U: Program<B> + Drop + Send,
     U::Outcome: Send,
     R: Threads + Wait + Clock + RandomSource + AllocGlobal + Sync,
+    M: Timer + Drop + Send + Sync,
     requires workers { (1 ≤ plan.workers) × (plan.workers ≤ 64) }
-    ensures { IfOk result (λ r. IsReport (B.may_end behaviour.now) N.template (vec_len peers) r) }
+    ensures report { IfOk result (λ r. IsReport (B.may_end behaviour.now) N.template (vec_len peers) r) }
+    ensures given { IfOk result (λ r. AreGiven M.may_give r.driver.calls) }
 {
     let (ledger, root) = Ledger::new(alloc, plan.workers as u64 + 1)?;
-    run_office::<N, S, Q, J, Brand, B, T, U, R>(
+    run_office::<N, S, Q, J, Brand, B, T, U, R, M>(
         rt, alloc, desk, behaviour, moments, plan, program, peers, ledger, root,
     )
 }

@@ -5,8 +5,8 @@ ghost use Rattle.sup_yard.specs.Starts.{HasStarted};
 ghost use Rattle.sup_live.specs.Peers.{caller_of, AreStartedBy};
 
 use crate::client::Program;
-use crate::crew_client::{Client, Returned};
-use crate::peers::{Peer, join_peers, start_peers};
+use crate::crew_client::Returned;
+use crate::peers::{Peer, join_peers, run_by_client, start_peers};
 use crate::plan::LiveFault;
 use std::sync::Wait;
 use std::thread;
@@ -136,13 +136,11 @@ where
                 Err(fault) => return Err(fault),
             };
             let threads = start_peers(scope, desk, yard, returned, peers, threads);
-            let mut client = Client::new(desk, handle, yard, returned);
-            let outcome = program.run(&mut client);
+            let (outcome, caller, witness) = run_by_client(desk, handle, yard, returned, program);
             let (peers, others) = join_peers(hub, threads, room);
             hub.close();
             let driven = driving.join(&hub.rt);
             drop(holds);
-            let (caller, witness) = client.parts();
             Ok(Joined {
                 driven,
                 caller,

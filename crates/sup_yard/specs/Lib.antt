@@ -1,3 +1,5 @@
+pub mod ClockLaws
+pub mod Clocks
 pub mod Ends
 pub mod ReplyLaws
 pub mod Starts

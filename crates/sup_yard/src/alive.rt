@@ -4,7 +4,8 @@ ghost use Rattle.sup_ledger.specs.Endings.{killed, not_run};
 ghost use Rattle.sup_yard.specs.Ends.{EndsBy};
 
 use crate::behaviour::{Behaviour, End};
-use crate::hub::{Host, Hub};
+use crate::host::Host;
+use crate::hub::Hub;
 use futures::Future;
 use futures::future::{Abortable, Aborted};
 use futures::task::{Context, Poll};

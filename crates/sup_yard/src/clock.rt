@@ -1,5 +1,5 @@
 //! Moments, and where they come from.
-ghost use Rattle.std.specs.Prelude.{◌≡◌, ◌+◌, ◌-◌, ◌/◌, ◌^◌, min};
+ghost use Rattle.std.specs.Prelude.{◌≡◌, ◌+◌, ◌-◌, ◌/◌, ◌^◌, min, true};
 ghost use Rattle.std.specs.Duration.{as_nanos};
 
 use std::sync::atomic::{AtomicU64, Ordering};
@@ -39,7 +39,19 @@ impl Moment {
     }
 }
 
-/// Where the moments of a crew's updates come from.
+/// Gives the moments of a crew's updates.
+pub trait Timer {
+    ghost use Rattle.std.specs.Prelude.{ℕ, Bool};
+
+    /// Whether it may give a moment of this second.
+    ghost may_give: { ℕ → Bool };
+
+    /// Returns the moment now.
+    fn now<R: Clock>(&self, rt: &R) -> Moment
+        ensures { may_give (result.millis / 1000) ≡ true };
+}
+
+/// Where the moments of a crew's updates come from. They may be any.
 #[derive(Clone, Copy)]
 pub enum Moments<'c> {
     /// The clock of the runtime that never goes back. One that can't be read says 0.
@@ -67,9 +79,12 @@ impl<'c> Moments<'c> {
             Err(_) => Moments::Monotonic,
         }
     }
+}
 
-    /// Returns the moment now.
-    pub fn now<R: Clock>(&self, rt: &R) -> Moment {
+impl<'c> Timer for Moments<'c> {
+    ghost may_give = { λ moment. true };
+
+    fn now<R: Clock>(&self, rt: &R) -> Moment {
         let millis = match self {
             Moments::Monotonic => monotonic(rt),
             Moments::Later(by) => monotonic(rt).saturating_add(*by),

@@ -11,6 +11,7 @@ ghost use Rattle.sup_yard.specs.Totals.{IsAccounted};
 
 use crate::behaviour::{Behaviour, End};
 use crate::clock::Moment;
+use crate::host::Host;
 use crate::mailbox::ChildRef;
 use crate::news::News;
 use crate::registry::Registry;
@@ -18,15 +19,10 @@ use std::alloc::Global;
 use std::collections::VecDeque;
 use std::sync::atomic::{AtomicBool, AtomicU64, Ordering};
 use std::sync::{Condvar, Mutex, Wait};
-use std::thread::{Parker, Threads};
-use std::time::{Clock, Duration};
+use std::thread::Parker;
+use std::time::Duration;
 use sup_ledger::{Account, Child, Due, Exit, ExitQueue, Ledger, Office, OwedExit, Totals, Witness};
 use sup_types::OutOfMemory;
-
-/// What a crew runs by: threads, waits and a clock.
-pub trait Host: Threads + Wait + Clock + Drop {}
-
-impl<R: Threads + Wait + Clock + Drop> Host for R {}
 
 /// What the threads of a crew share: the queues of exits, the ledger of the children, and the registry of those that are alive. No
 /// contract can say what its counts hold while other threads count as well.

@@ -7,7 +7,7 @@
 //! the driver that enters exits.
 //!
 //! ```text
-//! let yard = Yard::new(&rt, rt.alloc(), &hub, &behaviour, Moments::Monotonic, 4)?;
+//! let yard = Yard::new(&rt, rt.alloc(), &hub, &behaviour, 4)?;
 //! let place = hub.make_room()?;
 //! let (address, witness) = yard.begin(&mut handle, moment, Child { number, arg }, Some(own), place);
 //! // in another thread, which runs the child
@@ -26,6 +26,7 @@
 mod alive;
 mod behaviour;
 mod clock;
+mod host;
 mod hub;
 mod mailbox;
 mod news;
@@ -34,8 +35,9 @@ mod yard;
 
 pub use alive::Alive;
 pub use behaviour::{Behaviour, End};
-pub use clock::{Moment, Moments};
-pub use hub::{Host, Hub};
+pub use clock::{Moment, Moments, Timer};
+pub use host::{Host, Timed};
+pub use hub::Hub;
 pub use mailbox::{ChildRef, Gone, Mailbox};
 pub use news::News;
 pub use sup_ledger::{Exit, Office};

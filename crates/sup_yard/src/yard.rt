@@ -1,13 +1,14 @@
 //! Yards: where children run.
-ghost use Rattle.std.specs.Prelude.{◌≡◌, [], ◌∷◌, ◌++◌, IfOk, IfSome};
+ghost use Rattle.std.specs.Prelude.{◌≡◌, ◌/◌, [], ◌∷◌, ◌++◌, IfOk, IfSome, true};
 ghost use mathlib.Core.List.{IsPrefix};
 ghost use Rattle.sup_yard.specs.Ends.{EndsBy};
 ghost use Rattle.sup_yard.specs.Starts.{child_started, given_back, started_as};
 
 use crate::alive::{Alive, not_run};
 use crate::behaviour::Behaviour;
-use crate::clock::{Moment, Moments};
-use crate::hub::{Host, Hub};
+use crate::clock::Moment;
+use crate::host::Host;
+use crate::hub::Hub;
 use crate::mailbox::{ChildRef, opened};
 use futures::Future;
 use futures::executor::TaskSet;
@@ -31,18 +32,20 @@ pub struct Yard<'h, I: Office, B: Behaviour, P: Host, F: Future> {
     /// What the threads of the crew share.
     pub hub: &'h Hub<I, B, P>,
     behaviour: &'h B,
-    moments: Moments<'h>,
     tasks: TaskSet<F>,
     ghost ends: { I.may_end ≡ B.may_end behaviour.now },
+    ghost given: { I.may_give ≡ P.may_give },
 }
 
 /// A yard whose children are those of the behaviour.
 pub type Crew<'h, I, B, P> = Yard<'h, I, B, P, Alive<'h, I, B, P>>;
 
 impl<'h, I: Office, B: Behaviour, P: Host, F: Future> Yard<'h, I, B, P, F> {
-    /// Returns the moment now.
-    pub fn now(&self) -> Moment {
-        self.moments.now(&self.hub.rt)
+    /// Returns the moment now, which the crew's clock gave.
+    pub fn now(&self) -> Moment
+        ensures { I.may_give (result.millis / 1000) ≡ true }
+    {
+        self.hub.rt.now()
     }
 
     /// Tells the behaviour that the child with this number was restarted as this one.
@@ -85,10 +88,10 @@ impl<'h, I: Office, B: Behaviour, P: Host> Yard<'h, I, B, P, Alive<'h, I, B, P>>
         alloc: Global,
         hub: &'h Hub<I, B, P>,
         behaviour: &'h B,
-        moments: Moments<'h>,
         workers: usize,
     ) -> Result<Yard<'h, I, B, P, Alive<'h, I, B, P>>, OutOfMemory>
-        requires { I.may_end ≡ B.may_end behaviour.now }
+        requires ends { I.may_end ≡ B.may_end behaviour.now }
+        requires given { I.may_give ≡ P.may_give }
     {
         // A worker takes the next child of its own queue at once. It leaves the only one of another queue to that queue's workers
         // for a while, though they may all be asleep.
@@ -100,7 +103,6 @@ impl<'h, I: Office, B: Behaviour, P: Host> Yard<'h, I, B, P, Alive<'h, I, B, P>>
             alloc,
             hub,
             behaviour,
-            moments,
             tasks,
         })
     }

@@ -1,5 +1,6 @@
-use Rattle.std.proofs.Common.{take, ◌++◌, ap, rules, ◌∙◌}
+use Rattle.std.proofs.Common.{take, ◌++◌, ap, sym, rules, ◌∙◌, subst}
 use Rattle.std.specs.Prelude.{vec_len}
+use Rattle.sup_yard.specs.Clocks.{AreGiven}
 use Rattle.sup_driver.specs.Leads.{are_driven}
 use Rattle.sup_driver.specs.Restarts.{restarted_among, numbers_of}
 use Rattle.sup_driver.proofs.Led.{led_entered, restarted_shown}
@@ -22,6 +23,7 @@ invariant_of-self-2 g c =
       at = b.ledger.2;
       restarted = restarted_shown template c.enter-replies.new.handle c.answer_all.new.handle (shown ++ restarted_among c.enter-replies.result.0.items) (numbers_of c.answer_all.new.witness.shown) (e.restarted shown was.restarted) b.front b.calls.0 b.calls.1 b.shown;
       driven = ap are_driven b.calls.0 ∙ e.driven was.driven;
+      given = subst (AreGiven g.I.Office.may_give) (sym b.calls.0) (e.given g.I.Office.may_give (ap g.I.Office.may_give c.seconds-second.ensures ∙ c.requires) was.given);
       led = b.led;
       room = search rules;
     }

@@ -1,6 +1,7 @@
 -- It has entered nothing, and restarted no child.
 use Rattle.std.proofs.Common.{ap, sym, subst}
 use Rattle.sup_yard.specs.Starts.{HasReplies}
+use Rattle.sup_yard.specs.ClockLaws.{given_none}
 use Rattle.sup_yard.specs.ReplyLaws.{none_yet}
 use Rattle.sup_driver.specs.Restarts.{number_restarted, numbers_of}
 use Rattle.sup_driver.proofs.Led.{led_none}
@@ -13,3 +14,6 @@ invariant_of-result-clause-restarted g c =
 
 pub invariant_of-result-clause-led : goal.invariant_of-result-clause-led
 invariant_of-result-clause-led g c = led_none g.I.Office.may_end c.args.handle.calls c.args.account.paid c.requires.handle c.requires.account.3
+
+pub invariant_of-result-clause-given : goal.invariant_of-result-clause-given
+invariant_of-result-clause-given g c = given_none g.I.Office.may_give c.args.handle.calls c.requires.handle
