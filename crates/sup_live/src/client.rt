@@ -13,10 +13,10 @@ ghost use Rattle.sup_live.specs.Clients.{HasAsked};
 
 use crate::started::{NotStarted, Started};
 use std::time::Duration;
-use sup_desk::{Done, HandleFault, QueryFault, UpdateFault};
-use sup_log::{Ticket, View};
+use sup_desk::{Asker, Done, HandleFault, Name, QueryFault, UpdateFault};
+use sup_log::{NoPlace, Ticket, View};
 use sup_types::{Counts, Operation, Row, Seen, Text};
-use sup_yard::{Behaviour, ChildRef};
+use sup_yard::{Behaviour, ChildRef, Gone};
 
 /// A client of a live crew whose children do what `B` says. It starts children, sends to them, ends them and asks about them, and it
 /// stays in its thread. Its updates are entered at moments that the crew's clock gives, and wait for the desk's lock. Its queries take no
@@ -51,6 +51,9 @@ pub trait LiveClient<B: Behaviour>: Drop {
 
     /// What it knows: its number, its front, and the updates that it made.
     ghost knows: { Self → Knowledge };
+
+    /// The name of the crew's desk, which its askers have.
+    type Name: Name;
 
     /// Returns the number of its handle: 1, 2, 3, .. in the order of making.
     fn number(&self) -> u64
@@ -96,7 +99,15 @@ pub trait LiveClient<B: Behaviour>: Drop {
 
     /// Sends to the child with this number. The message comes back if no such child is alive, if it was asked to end, or if memory
     /// runs out.
-    fn send(&self, number: u64, message: B::Message) -> Result<(), B::Message>;
+    final fn send(&self, number: u64, message: B::Message) -> Result<(), B::Message> {
+        match self.address(number) {
+            Some(address) => match address.send(message) {
+                Ok(()) => Ok(()),
+                Err(Gone(message)) => Err(message),
+            },
+            None => Err(message),
+        }
+    }
 
     /// Returns the address of the child with this number, if it is alive. What is sent by it takes no lock of the crew.
     fn address(&self, number: u64) -> Option<ChildRef<B::Message>>
@@ -108,9 +119,16 @@ pub trait LiveClient<B: Behaviour>: Drop {
         ensures answer { IfOk result (λ answer. answer ≡ count template (knows self.new).front) };
 
     /// Returns whether the supervisor is down at such a front: it gave up, shut down or was stopped. It never goes up again.
-    fn is_down(&mut self) -> Result<bool, sup_log::Gone>
+    final fn is_down(&mut self) -> Result<bool, sup_log::Gone>
         ensures asked { HasAsked (knows self.old) (knows self.new) }
-        ensures answer { IfOk result (λ down. IsTrue down ↔ (count template (knows self.new).front ≡ Seen.Down)) };
+        ensures answer { IfOk result (λ down. IsTrue down ↔ (count template (knows self.new).front ≡ Seen.Down)) }
+    {
+        match self.count_children() {
+            Ok(Seen::Up(_)) => Ok(false),
+            Ok(Seen::Down) => Ok(true),
+            Err(gone) => Err(gone),
+        }
+    }
 
     /// Sleeps until the counts are not these, the supervisor is down, or the time has passed. Returns the counts at a front as that of
     /// [`LiveClient::count_children`]. Each update, and each exit that is entered, wakes it to look. A clock that can't be read ends
@@ -147,6 +165,13 @@ pub trait LiveClient<B: Behaviour>: Drop {
         ensures answered { IsOk result }
         ensures asked { HasAsked (knows self.old) (knows self.new) }
         ensures learnt { IsPrefix ticket.now.front (knows self.new).front × IsPrefix ticket.now.editions (knows self.new).editions };
+
+    /// Returns an asker of the crew's desk. It makes no update and no audit counts it. It takes a place of the desk until it is let go.
+    ///
+    /// # Errors
+    /// `NoPlace` if no place is free.
+    fn asker(&self) -> Result<Asker<Self::Name>, NoPlace>
+        ensures { (Self.Name.press ≡ press) × (Self.Name.template ≡ template) };
 
     /// Returns another client of the crew, which has made no update.
     fn another(&self) -> Result<Self, HandleFault>

@@ -8,11 +8,13 @@ use futures::Future;
 use std::marker::Model;
 use std::sync::{Mutex, Wait};
 use std::time::{Clock, Duration, Instant};
-use sup_desk::{Caller, Desk, Done, HandleFault, HandleOf, Journal, Name, QueryFault, UpdateFault};
+use sup_desk::{
+    Asker, Caller, Desk, Done, HandleFault, HandleOf, Journal, Name, QueryFault, UpdateFault,
+};
 use sup_ledger::Witness;
-use sup_log::{Ticket, View};
+use sup_log::{NoPlace, Ticket, View};
 use sup_types::{Counts, Reply, Row, Seen, Starter, Text};
-use sup_yard::{Alive, Behaviour, ChildRef, Gone, Host, Office, Yard};
+use sup_yard::{Alive, Behaviour, ChildRef, Host, Office, Yard};
 
 /// Where the clients that clients made leave their handles, for an audit.
 pub(crate) type Returned<N> = Mutex<Vec<Caller<N>>>;
@@ -136,6 +138,8 @@ impl<
 
     ghost knows = { λ c. c };
 
+    type Name = N;
+
     fn number(&self) -> u64 {
         self.handle.number()
     }
@@ -202,16 +206,6 @@ impl<
         Ok(done)
     }
 
-    fn send(&self, number: u64, message: B::Message) -> Result<(), B::Message> {
-        match self.yard.hub.address(number) {
-            Some(address) => match address.send(message) {
-                Ok(()) => Ok(()),
-                Err(Gone(message)) => Err(message),
-            },
-            None => Err(message),
-        }
-    }
-
     fn address(&self, number: u64) -> Option<ChildRef<B::Message>> {
         self.yard.hub.address(number)
     }
@@ -219,14 +213,6 @@ impl<
     #[tactic(auto, using(sup_yard::specs::ReplyLaws::seen_more))]
     fn count_children(&mut self) -> Result<Seen<Counts>, sup_log::Gone> {
         self.handle.count_children()
-    }
-
-    fn is_down(&mut self) -> Result<bool, sup_log::Gone> {
-        match self.count_children() {
-            Ok(Seen::Up(_)) => Ok(false),
-            Ok(Seen::Down) => Ok(true),
-            Err(gone) => Err(gone),
-        }
     }
 
     fn await_change(
@@ -267,6 +253,10 @@ impl<
     #[tactic(auto, using(sup_yard::specs::ReplyLaws::seen_more))]
     fn learn(&mut self, ticket: &Ticket) -> Result<(), sup_log::Gone> {
         self.handle.learn(ticket)
+    }
+
+    fn asker(&self) -> Result<Asker<N>, NoPlace> {
+        self.desk.asker(&self.yard.hub.rt)
     }
 
     fn another(&self) -> Result<Self, HandleFault> {
