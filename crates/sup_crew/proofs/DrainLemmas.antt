@@ -123,6 +123,25 @@ part-length may template press before after moment operations replies (Some t) s
     let le = take-le (length replies) operations in
     omega (arith, n, le)
 
+-- how many replies there are, where these operations are the exits of the first of the held notes
+pub all-replies : (may : Text → ℕ → Answer → Type 0) (template : Template) (press : Book) (before after : Knowledge) (moment : ℕ) (operations : List Operation) (replies : List Reply) (told : Told) (count : ℕ) (held : List Note)
+    → IsApplied may template press before operations moment after replies told → operations ≡ exits (take count held) → count ≤ length held → length replies ≡ count
+all-replies may template press before after moment operations replies told count held h are low =
+    applied-length may template press before after operations moment replies told h ∙ ap (λ (l : List Operation). length l) are ∙ exits-count count held low
+
+pub few-replies : (may : Text → ℕ → Answer → Type 0) (template : Template) (press : Book) (before after : Knowledge) (moment : ℕ) (operations : List Operation) (replies : List Reply) (ticket : Option Told) (count : ℕ) (held : List Note)
+    → IfSome ticket (λ t. IsApplied may template press before (take (length replies) operations) moment after replies t × (0 < length replies))
+    → IfNone ticket ((replies ≡ []) × (after.calls ≡ before.calls) × (after.number ≡ before.number))
+    → operations ≡ exits (take count held) → count ≤ length held → length replies ≤ count
+few-replies may template press before after moment operations replies ticket count held some none are low =
+    let n = part-length may template press before after moment operations replies ticket some none in
+    let m = ap (λ (l : List Operation). length l) are ∙ exits-count count held low in
+    omega (arith, n, m)
+
+-- a drain enters no more than the limit, of what is held
+pub within : (len count limit : ℕ) → count ≡ min len limit → (count ≤ len) × (count ≤ limit)
+within len count limit is = dite (dec_le limit len) (λ h. (omega (arith, h, is), omega (arith, h, is))) (λ h. (omega (arith, h, is), omega (arith, h, is)))
+
 -- the operations that were entered are the exits of the notes that were paired
 pub first-exits : (count : ℕ) (operations : List Operation) (pairs : List (Note × Reply)) (held rest : List Note) (replies : List Reply) → operations ≡ exits (take count held) → length replies ≤ count → notes_of pairs ++ rest ≡ held → replies_of pairs ≡ replies
     → take (length replies) operations ≡ exits (notes_of pairs)

@@ -1,5 +1,5 @@
 -- One step more of a driver.
-use Rattle.std.proofs.Common.{◌≡◌, ℕ, zero, suc, ◌+◌, ◌≤◌, length, drop, length-append, List, [], ◌∷◌, ◌++◌, Option, Some, None, refl, ap, sym, ◌∙◌, subst, arith, append_assoc, append-nil}
+use Rattle.std.proofs.Common.{◌≡◌, ℕ, zero, suc, ◌+◌, ◌≤◌, length, drop, length-append, List, [], ◌∷◌, ◌++◌, Option, Some, None, false, refl, ap, sym, ◌∙◌, subst, arith, append_assoc, append-nil}
 use mathlib.Core.List.{IsPrefix}
 use Rattle.sup_types.specs.declared.text.Text.{Text}
 use Rattle.sup_types.specs.declared.template.Template.{Template}
@@ -17,7 +17,7 @@ use Rattle.sup_desk.specs.Batches.{IsApplied}
 use Rattle.sup_inbox.specs.declared.note.Note.{Note}
 use Rattle.sup_crew.specs.declared.job.Child.{Child}
 use Rattle.sup_crew.specs.Jobs.{weigh}
-use Rattle.sup_crew.specs.Tallies.{tally_of, with_start, with_exits}
+use Rattle.sup_crew.specs.Tallies.{tally_of, with_reply, with_exits}
 use Rattle.sup_crew.proofs.Tallied.{tally-start, tally-exits}
 use Rattle.sup_crew.specs.Calls.{Call, calls_of, answered, exits_in, starts_in, start_of, job_made, notes_after, jobs_made, AreDriven}
 use Rattle.sup_crew.specs.Exits.{exit_of, exits}
@@ -168,7 +168,7 @@ module _ (may : Text → ℕ → Answer → Type 0) (run : Run) (begun : List Te
       }
 
   pub driven-started : (now : Told) (arg : Text) (reply : Reply) → IsUpdated may template run.press before (Start arg) run.moment after reply now
-      → new.ticket ≡ Some now → new.drain.entered ≡ old.drain.entered → new.tally ≡ with_start old.tally reply → HasDispatched old.jobs new.jobs (started_job arg reply)
+      → new.ticket ≡ Some now → new.drain.entered ≡ old.drain.entered → new.tally ≡ with_reply old.tally false reply → HasDispatched old.jobs new.jobs (started_job arg reply)
       → HasDriven run (begun ++ arg ∷ []) new
   driven-started now arg reply h ticket entered t account =
       let ds : List Call = record { operation = Start arg; reply = reply } ∷ [] in
@@ -179,7 +179,7 @@ module _ (may : Text → ℕ → Answer → Type 0) (run : Run) (begun : List Te
       (updated-since may template run.press before after (Start arg) run.moment reply now h)
       (since_more template run.before before old.ticket run.moment h.front ds driven.called driven.whole h.met.more_front h.met.own)
       (tt, tt) refl refl (append-nil (job_made (Start arg) reply []) ∙ job_start arg reply)
-      (λ e. t ∙ ap (λ u. with_start u reply) e ∙ sym (tally-start cs arg reply)) account
+      (λ e. t ∙ ap (λ u. with_reply u false reply) e ∙ sym (tally-start cs arg reply)) account
 
   driven-applied : (now : Told) (pairs : List (Note × Reply)) → IsApplied may template run.press before (exits (notes_of pairs)) run.moment after (replies_of pairs) now
       → new.ticket ≡ Some now → new.drain.entered ≡ old.drain.entered ++ notes_of pairs → new.tally ≡ with_exits old.tally (replies_of pairs) → HasDispatched old.jobs new.jobs (restarted_jobs pairs)

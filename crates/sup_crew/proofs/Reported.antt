@@ -1,5 +1,5 @@
 -- What the account of a run says of the calls of its driver.
-use Rattle.std.proofs.Common.{◌≡◌, ℕ, suc, ◌+◌, List, [], ◌∷◌, ◌++◌, length, drop, Option, Some, None, refl, ap, sym, ◌∙◌, subst, arith}
+use Rattle.std.proofs.Common.{◌≡◌, ℕ, suc, ◌+◌, List, [], ◌∷◌, ◌++◌, length, take, drop, take-append-drop, Option, Some, None, refl, ap, sym, ◌∙◌, subst, arith}
 use Rattle.std.specs.Prelude.{IfNone}
 use Rattle.std.proofs.lemmas.List.{drop_all}
 use Rattle.sup_types.specs.declared.text.Text.{Text}
@@ -122,6 +122,10 @@ module _ (items : List Item) (cs : List Call) (right : AreRightCalls items cs) (
 
   pub agree : (h : Child → ℕ) → weigh h (children_made items cs) ≡ weigh h (children_ended items cs) + weigh h (ended others) + weigh h left
   agree h = let a = made h in let b = ap (weigh h) (all_told items cs entered told own_entered) in omega (arith, a, b)
+
+-- what was started and what was not are the plan
+pub all_planned : (begun : List Text) (started : ℕ) (plan unstarted : List Text) → begun ≡ take started plan → unstarted ≡ drop started plan → begun ++ unstarted ≡ plan
+all_planned begun started plan unstarted b u = (λ i. b i ++ u i) ∙ take-append-drop started plan
 
 -- if all were started, none remains
 pub none_unstarted : {F : Type 0} (fault : Option F) (started : ℕ) (plan rest : List Text) → rest ≡ drop started plan → IfNone fault (started ≡ length plan) → IfNone fault (rest ≡ [])

@@ -1,6 +1,6 @@
 -- The ends told by each poster's notes, added up, are the ends told by all the notes.
 use Rattle.std.proofs.Common.{◌≡◌, ℕ, zero, suc, ◌+◌, ◌<◌, ◌≤◌, List, [], ◌∷◌, ◌++◌, length, refl, sym, ap, ◌∙◌, subst, arith, Option, Some, None}
-use Rattle.std.specs.Prelude.{All}
+use Rattle.std.specs.Prelude.{All, MatchOption}
 use native.Mathlib.Decide.{ℕ_discrete}
 use mathlib.Core.Logic.{dite}
 use Rattle.std.specs.Global.{Global}
@@ -19,6 +19,11 @@ use Rattle.sup_crew.specs.Work.{AreWorked, ended_of, ended, untold, AreEnds, IsE
 use Rattle.sup_crew.specs.Joins.{note_in, posters_of, taken_of, unposted_of, AreEndpoints}
 use Rattle.sup_crew.specs.JobLaws.{weigh-append, weigh-one}
 use Rattle.sup_crew.specs.WorkLaws.{ended-append}
+
+-- a note that may be there, as a list of one at most
+pub note_is : (note : Option Note) (list : List Note) → MatchOption note (list ≡ []) (λ n. list ≡ n ∷ []) → (list ≡ note_in note) × (length list ≤ 1)
+note_is None list e = let n = ap (λ (l : List Note). length l) e in (e, omega (arith, n))
+note_is (Some note) list e = let n = ap (λ (l : List Note). length l) e in (e, omega (arith, n))
 
 -- the weight of what notes tell
 abbrev told : (Child → ℕ) → List Note → ℕ

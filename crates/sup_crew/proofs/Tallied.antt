@@ -1,5 +1,5 @@
 -- The tally of one call more.
-use Rattle.std.proofs.Common.{◌≡◌, ◌+◌, Bool, true, false, cond, List, [], ◌∷◌, ◌++◌, refl, ap, sym, ◌∙◌, append_assoc, append-nil, arith}
+use Rattle.std.proofs.Common.{◌≡◌, ◌+◌, Bool, true, false, cond, List, [], ◌∷◌, ◌++◌, refl, ap, sym, ◌∙◌, append_assoc, append-nil}
 use Rattle.std.specs.Prelude.{not, ◌&&◌, count_by}
 use Rattle.std.proofs.lemmas.List.Sums.{fold_push}
 use Rattle.sup_types.specs.declared.text.Text.{Text}
@@ -11,7 +11,7 @@ use Rattle.sup_crew.specs.declared.driver.Tally.{Tally}
 use Rattle.sup_crew.specs.Calls.{Call, answered}
 use Rattle.sup_crew.specs.Exits.{exits}
 use Rattle.sup_crew.specs.Drains.{notes_of, replies_of}
-use Rattle.sup_crew.specs.Tallies.{is_start, is_exit, is_stray, is_down, is_restart, is_giving_up, bit, tally_of, with_start, with_exit, with_exits}
+use Rattle.sup_crew.specs.Tallies.{is_start, is_exit, is_stray, is_down, is_restart, is_giving_up, bit, tally_of, with_reply, with_exits}
 
 count_push : (p : Call → Bool) (cs : List Call) (c : Call) → count_by p (cs ++ c ∷ []) ≡ count_by p cs + bit (p c)
 count_push p cs c = fold_push (λ a x. a + cond (p x) 1 0) 0 cs c ∙ ap (λ n. count_by p cs + n) (one (p c))
@@ -20,37 +20,26 @@ count_push p cs c = fold_push (λ a x. a + cond (p x) 1 0) 0 cs c ∙ ap (λ n. 
     one true = refl
     one false = refl
 
--- a call that is not counted
-count_past : (p : Call → Bool) (cs : List Call) (c : Call) → p c ≡ false → count_by p (cs ++ c ∷ []) ≡ count_by p cs
-count_past p cs c e = let a = count_push p cs c in let b = ap bit e in omega (arith, a, b)
-
-pub tally-start : (cs : List Call) (arg : Text) (reply : Reply) → tally_of (cs ++ record { operation = Start arg; reply = reply } ∷ []) ≡ with_start (tally_of cs) reply
-tally-start cs arg reply =
-    let c : Call = record { operation = Start arg; reply = reply } in
+tally-more : (cs : List Call) (c : Call) (exits : Bool) → is_exit c.operation ≡ exits → is_start c.operation ≡ not exits → tally_of (cs ++ c ∷ []) ≡ with_reply (tally_of cs) exits c.reply
+tally-more cs c exits e s =
     let made = count_push (λ c. makes_child c.reply) cs c in
-    let exits = count_past (λ c. is_exit c.operation) cs c refl in
-    let strays = count_past (λ c. is_exit c.operation && is_stray c.reply) cs c refl in
-    let downs = count_past (λ c. is_exit c.operation && is_down c.reply) cs c refl in
-    let restarts = count_past (λ c. is_exit c.operation && is_restart c.reply) cs c refl in
-    let given_up = count_past (λ c. is_exit c.operation && is_giving_up c.reply) cs c refl in
-    let refused = count_push (λ c. is_start c.operation && not (makes_child c.reply)) cs c in
-    λ i. record { made = made i; exits = exits i; strays = strays i; downs = downs i; restarts = restarts i; given_up = given_up i; refused = refused i }
+    let counts = count_push (λ c. is_exit c.operation) cs c ∙ ap (λ b. count_by (λ c. is_exit c.operation) cs + bit b) e in
+    let strays = count_push (λ c. is_exit c.operation && is_stray c.reply) cs c ∙ ap (λ b. count_by (λ c. is_exit c.operation && is_stray c.reply) cs + bit (b && is_stray c.reply)) e in
+    let downs = count_push (λ c. is_exit c.operation && is_down c.reply) cs c ∙ ap (λ b. count_by (λ c. is_exit c.operation && is_down c.reply) cs + bit (b && is_down c.reply)) e in
+    let restarts = count_push (λ c. is_exit c.operation && is_restart c.reply) cs c ∙ ap (λ b. count_by (λ c. is_exit c.operation && is_restart c.reply) cs + bit (b && is_restart c.reply)) e in
+    let given_up = count_push (λ c. is_exit c.operation && is_giving_up c.reply) cs c ∙ ap (λ b. count_by (λ c. is_exit c.operation && is_giving_up c.reply) cs + bit (b && is_giving_up c.reply)) e in
+    let refused = count_push (λ c. is_start c.operation && not (makes_child c.reply)) cs c ∙ ap (λ b. count_by (λ c. is_start c.operation && not (makes_child c.reply)) cs + bit (b && not (makes_child c.reply))) s in
+    λ i. record { made = made i; exits = counts i; strays = strays i; downs = downs i; restarts = restarts i; given_up = given_up i; refused = refused i }
 
-tally-exit : (cs : List Call) (note : Note) (reply : Reply) → tally_of (cs ++ record { operation = Exit note.number note.reason; reply = reply } ∷ []) ≡ with_exit (tally_of cs) reply
-tally-exit cs note reply =
-    let c : Call = record { operation = Exit note.number note.reason; reply = reply } in
-    let made = count_push (λ c. makes_child c.reply) cs c in
-    let exits = count_push (λ c. is_exit c.operation) cs c in
-    let strays = count_push (λ c. is_exit c.operation && is_stray c.reply) cs c in
-    let downs = count_push (λ c. is_exit c.operation && is_down c.reply) cs c in
-    let restarts = count_push (λ c. is_exit c.operation && is_restart c.reply) cs c in
-    let given_up = count_push (λ c. is_exit c.operation && is_giving_up c.reply) cs c in
-    let refused = count_past (λ c. is_start c.operation && not (makes_child c.reply)) cs c refl in
-    λ i. record { made = made i; exits = exits i; strays = strays i; downs = downs i; restarts = restarts i; given_up = given_up i; refused = refused i }
+pub tally-start : (cs : List Call) (arg : Text) (reply : Reply) → tally_of (cs ++ record { operation = Start arg; reply = reply } ∷ []) ≡ with_reply (tally_of cs) false reply
+tally-start cs arg reply = tally-more cs (record { operation = Start arg; reply = reply }) false refl refl
+
+tally-exit : (cs : List Call) (note : Note) (reply : Reply) → tally_of (cs ++ record { operation = Exit note.number note.reason; reply = reply } ∷ []) ≡ with_reply (tally_of cs) true reply
+tally-exit cs note reply = tally-more cs (record { operation = Exit note.number note.reason; reply = reply }) true refl refl
 
 pub tally-exits : (t : Tally) (cs : List Call) (pairs : List (Note × Reply)) → t ≡ tally_of cs → with_exits t (replies_of pairs) ≡ tally_of (cs ++ answered (exits (notes_of pairs)) (replies_of pairs))
 tally-exits t cs [] e = e ∙ ap tally_of (sym (append-nil cs))
 tally-exits t cs (p ∷ ps) e =
     let c : Call = record { operation = Exit p.0.number p.0.reason; reply = p.1 } in
-    tally-exits (with_exit t p.1) (cs ++ c ∷ []) ps (ap (λ u. with_exit u p.1) e ∙ sym (tally-exit cs p.0 p.1))
+    tally-exits (with_reply t true p.1) (cs ++ c ∷ []) ps (ap (λ u. with_reply u true p.1) e ∙ sym (tally-exit cs p.0 p.1))
     ∙ ap tally_of (append_assoc cs (c ∷ []) (answered (exits (notes_of ps)) (replies_of ps)))

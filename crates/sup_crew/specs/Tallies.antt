@@ -49,31 +49,19 @@ abbrev pub bit : Bool → ℕ
 bit true = 1
 bit false = 0
 
--- one call more
-abbrev pub with_start : Tally → Reply → Tally
-with_start t reply =
+-- one call more: an exit, or else a start
+abbrev pub with_reply : Tally → Bool → Reply → Tally
+with_reply t exits reply =
     record {
       made = t.made + bit (makes_child reply);
-      exits = t.exits;
-      strays = t.strays;
-      downs = t.downs;
-      restarts = t.restarts;
-      given_up = t.given_up;
-      refused = t.refused + bit (not (makes_child reply));
-    }
-
-abbrev pub with_exit : Tally → Reply → Tally
-with_exit t reply =
-    record {
-      made = t.made + bit (makes_child reply);
-      exits = t.exits + bit true;
-      strays = t.strays + bit (is_stray reply);
-      downs = t.downs + bit (is_down reply);
-      restarts = t.restarts + bit (is_restart reply);
-      given_up = t.given_up + bit (is_giving_up reply);
-      refused = t.refused;
+      exits = t.exits + bit exits;
+      strays = t.strays + bit (exits && is_stray reply);
+      downs = t.downs + bit (exits && is_down reply);
+      restarts = t.restarts + bit (exits && is_restart reply);
+      given_up = t.given_up + bit (exits && is_giving_up reply);
+      refused = t.refused + bit (not exits && not (makes_child reply));
     }
 
 abbrev pub with_exits : Tally → List Reply → Tally
 with_exits t [] = t
-with_exits t (reply ∷ replies) = with_exits (with_exit t reply) replies
+with_exits t (reply ∷ replies) = with_exits (with_reply t true reply) replies

@@ -31,37 +31,13 @@ pub struct Buffers {
     pub held: Vec<Note>,
 }
 
-/// Returns the notes that are held, in a list that has room for them.
-fn list_held(held: ArrayVec<Note, HELD>, room: Vec<Note>) -> Vec<Note>
-    requires { (room.items ≡ []) × (64 ≤ vec_capacity room) }
-    ensures { result.items ≡ held.items }
-{
-    let mut list = room;
-    for note in held {
-        // Names the reason: the borrow checker of this kit asks where its type is declared.
-        let reason = note.reason;
-        list.push_reserved(Note { reason, ..note });
-    }
-    list
-}
-
-/// Returns the children without the first ones.
-fn without_first(children: Vec<Text>, started: usize) -> Vec<Text>
-    requires { started ≤ vec_len children }
-    ensures { result.items ≡ drop started children.items }
-{
-    let mut rest = children;
-    drop(rest.drain(..started));
-    rest
-}
-
 /// Takes back what the workers had: their endpoints, their posters and the notes that they could not post.
 fn collect<N: Name>(
     jobs: &Jobs<N>,
-    endpoint: Endpoint<N>,
+    mut endpoint: Endpoint<N>,
     finished: Vec<Finished<N>>,
-    posters: Vec<Poster>,
-    unposted: Vec<Note>,
+    mut posters: Vec<Poster>,
+    mut unposted: Vec<Note>,
 ) -> (Endpoint<N>, Vec<Poster>, Vec<Note>)
     requires endpoint { (endpoint.queue ≡ jobs.now) × (0 < endpoint.permission.parts) }
     requires endpoints { AreEndpoints jobs.now finished.items }
@@ -71,43 +47,27 @@ fn collect<N: Name>(
     ensures posters { result.1.items ≡ posters_of finished.items }
     ensures unposted { result.2.items ≡ unposted_of finished.items }
 {
-    let mut endpoint = endpoint;
-    let mut posters = posters;
-    let mut unposted = unposted;
     for one in finished {
         endpoint.join(jobs, one.endpoint);
-        keep(&mut unposted, one.unposted);
+        let Ok(()) = unposted.extend_from_slice(one.unposted.as_slice()) else {
+            unreachable!()
+        };
         posters.push_reserved(one.poster);
     }
     (endpoint, posters, unposted)
-}
-
-/// Keeps the note that could not be posted, if there is one.
-fn keep(unposted: &mut Vec<Note>, back: Option<Note>)
-    requires { vec_len unposted.old < vec_capacity unposted.old }
-    ensures items { unposted.new.items ≡ unposted.old.items ++ note_in back }
-    ensures room { (vec_capacity unposted.new ≡ vec_capacity unposted.old) × (vec_len unposted.new ≤ vec_len unposted.old + 1) }
-{
-    if let Some(note) = back {
-        // Names the reason: the borrow checker of this kit asks where its type is declared.
-        let reason = note.reason;
-        unposted.push_reserved(Note { reason, ..note });
-    }
 }
 
 /// Reads out the jobs that nobody took.
 fn read_all<N: Name, R: Wait>(
     rt: &R,
     jobs: &Jobs<N>,
-    endpoint: Endpoint<N>,
-    left: Vec<Job<N>>,
+    mut endpoint: Endpoint<N>,
+    mut left: Vec<Job<N>>,
 ) -> Vec<Job<N>>
     requires endpoint { (endpoint.queue ≡ jobs.now) × (endpoint.permission.parts ≡ 1024) }
     requires room { vec_len left + length endpoint.permission.put ≤ vec_capacity left }
     ensures { (h : _) → weigh h endpoint.permission.put + weigh h (children_of left.items) ≡ weigh h endpoint.permission.taken + weigh h (children_of result.items) }
 {
-    let mut endpoint = endpoint;
-    let mut left = left;
     for _ in rt.forever() {
         match endpoint.take(rt, jobs) {
             Some(job) => left.push_reserved(job),
@@ -143,12 +103,18 @@ pub fn close<N: Name, B: Body, R: Wait>(
         unreachable!()
     };
     let left = read_all(rt, &crew.jobs, endpoint, left);
+    let mut list = buffers.held;
+    let Ok(()) = list.extend_from_slice(held.as_slice()) else {
+        unreachable!()
+    };
+    let mut unstarted = crew.plan.children;
+    drop(unstarted.drain(..outcome.started));
     Report {
         driver: outcome.driver,
         ticket: outcome.ticket,
         tally: outcome.tally,
-        unstarted: without_first(crew.plan.children, outcome.started),
-        held: list_held(held, buffers.held),
+        unstarted,
+        held: list,
         inbox: settled.left,
         unposted,
         left,

@@ -12,11 +12,12 @@ use std::alloc::Global;
 use std::collections::VecDeque;
 use std::fmt;
 use std::marker::Model;
+use std::mem::replace;
 use std::sync::Wait;
-use sup_desk::{Dones, Handle, Journal, Name, Part, UpdateFault};
+use sup_desk::{Dones, Handle, Journal, Name, UpdateFault};
 use sup_inbox::{Inbox, Note, Taker};
 use sup_log::Ticket;
-use sup_types::{Operation, OutOfMemory, Reply, Starter};
+use sup_types::{Operation, Reply, Starter};
 use thiserror::Error;
 
 /// How many notes a drain holds at most.
@@ -27,13 +28,7 @@ pub const HELD: usize = 64;
 pub struct Drain {
     taker: Taker,
     held: ArrayVec<Note, HELD>,
-    room: Option<Room>,
-}
-
-/// Room for the exits that a drain enters, and for its pairs. The first drain that finds a note makes it, and each later one
-/// uses it again.
-#[derive(Drop)]
-struct Room {
+    // Room that the first drain which finds a note makes, and each later one uses again.
     operations: VecDeque<Operation>,
     pairs: Vec<(Note, Reply)>,
 }
@@ -119,25 +114,6 @@ fn fill<R: Wait>(
     }
 }
 
-/// Empties the room of an earlier drain, or makes room for as many notes as a drain holds.
-fn make_room(alloc: Global, room: Option<Room>) -> Result<Room, OutOfMemory>
-    ensures empty { IfOk result (λ r. (r.operations.items ≡ []) × (deque_len r.operations ≡ 0) × (r.pairs.items ≡ [])) }
-    ensures room { IfOk result (λ r. (64 ≤ deque_capacity r.operations) × (64 ≤ vec_capacity r.pairs)) }
-{
-    let mut room = match room {
-        Some(room) => room,
-        None => Room {
-            operations: VecDeque::new(alloc),
-            pairs: Vec::new(alloc),
-        },
-    };
-    room.operations.clear();
-    room.operations.reserve(HELD)?;
-    room.pairs.clear();
-    room.pairs.reserve(HELD)?;
-    Ok(room)
-}
-
 /// Lists the exits that the first notes report.
 #[tactic(auto, using(crate::proofs::DrainLemmas::exits_more))]
 fn list_exits(held: &ArrayVec<Note, HELD>, count: usize, operations: &mut VecDeque<Operation>)
@@ -155,14 +131,13 @@ fn list_exits(held: &ArrayVec<Note, HELD>, count: usize, operations: &mut VecDeq
 fn pair_up(
     held: &mut ArrayVec<Note, HELD>,
     replies: Vec<Reply>,
-    pairs: Vec<(Note, Reply)>,
+    mut pairs: Vec<(Note, Reply)>,
 ) -> Vec<(Note, Reply)>
     requires room { (pairs.items ≡ []) × (vec_len replies ≤ vec_capacity pairs) }
     requires notes { vec_len replies ≤ array_vec_len held.old }
     ensures replies { replies_of result.items ≡ replies.items }
     ensures notes { notes_of result.items ++ held.new.items ≡ held.old.items }
 {
-    let mut pairs = pairs;
     let count = replies.len();
     let mut rest = replies.into_iter();
     for note in held.drain(..count) {
@@ -176,69 +151,16 @@ fn pair_up(
     pairs
 }
 
-/// Enters these exits of the first notes that are held, in order and in one step. Those that were entered are held no more.
-fn enter_held<N: Name, S: Starter + Drop, P: Wait + Drop, J: Journal + Drop, R: Wait>(
-    rt: &R,
-    alloc: Global,
-    handle: &mut Handle<'_, N, S, P, J>,
-    moment: u64,
-    held: &mut ArrayVec<Note, HELD>,
-    count: usize,
-    operations: &mut VecDeque<Operation>,
-    pairs: Vec<(Note, Reply)>,
-) -> Result<Drained, DrainFault>
-    requires count { (1 ≤ count) × (count ≤ array_vec_len held.old) }
-    requires exits { operations.old.items ≡ exits (take count held.old.items) }
-    requires room { (pairs.items ≡ []) × (count ≤ vec_capacity pairs) }
-    ensures ok { IfOk result (λ d. IsEntered S.may_answer N.template N.press handle.old handle.new moment d.pairs.items d.ticket) }
-    ensures all { IfOk result (λ d. (notes_of d.pairs.items ++ held.new.items ≡ held.old.items) × (vec_len d.pairs ≡ count)) }
-    ensures err { IfErr result (λ e. IsEntered S.may_answer N.template N.press handle.old handle.new moment e.done.pairs.items e.done.ticket) }
-    ensures part { IfErr result (λ e. notes_of e.done.pairs.items ++ held.new.items ≡ held.old.items) }
-    ensures few { IfErr result (λ e. vec_len e.done.pairs ≤ count) }
-    ensures front { IsPrefix handle.old.front handle.new.front }
-    ensures gone { IfErr result (λ e. e.fault ≡ UpdateFault.Gone → ⊥) }
-    ensures full { IfErr result (λ e. e.fault ≡ UpdateFault.HistoryFull → length handle.new.front ≡ N.template.entries) }
-{
-    match handle.apply_all(rt, alloc, moment, operations) {
-        Ok(Dones { replies, ticket }) => Ok(Drained {
-            pairs: pair_up(held, replies, pairs),
-            ticket: Some(ticket),
-        }),
-        Err(
-            Part {
-                replies,
-                ticket,
-                fault,
-            },
-        ) => {
-            let pairs = pair_up(held, replies, pairs);
-            Err(DrainFault {
-                done: Drained { pairs, ticket },
-                fault,
-            })
-        }
-    }
-}
-
-/// Returns that nothing was entered.
-fn nothing(alloc: Global) -> Drained
-    ensures { (result.pairs.items ≡ []) × (vec_len result.pairs ≡ 0) × (result.ticket ≡ None) }
-{
-    Drained {
-        pairs: Vec::new(alloc),
-        ticket: None,
-    }
-}
-
 impl Drain {
     /// Makes a drain that holds no note. It takes no memory.
-    pub fn new(taker: Taker) -> Drain
+    pub fn new(alloc: Global, taker: Taker) -> Drain
         ensures { result ≡ record { inbox = taker.inbox; posters = taker.posters; entered = taker.taken; held = [] } }
     {
         Drain {
             taker,
             held: ArrayVec::new(),
-            room: None,
+            operations: VecDeque::new(alloc),
+            pairs: Vec::new(alloc),
         }
     }
 
@@ -271,48 +193,46 @@ impl Drain {
         ensures gone { IfErr result (λ e. e.fault ≡ UpdateFault.Gone → ⊥) }
         ensures full { IfErr result (λ e. e.fault ≡ UpdateFault.HistoryFull → length handle.new.front ≡ N.template.entries) }
     {
+        let nothing = Drained {
+            pairs: Vec::new(alloc),
+            ticket: None,
+        };
         fill(rt, inbox, &mut self.taker, &mut self.held, limit);
         let count = self.held.len().min(limit);
         if count == 0 {
-            return Ok(nothing(alloc));
+            return Ok(nothing);
         }
-        let Ok(
-            Room {
-                mut operations,
-                pairs,
-            },
-        ) = make_room(alloc, self.room.take())
-        else {
+        self.operations.clear();
+        self.pairs.clear();
+        if self.operations.reserve(HELD).is_err() || self.pairs.reserve(HELD).is_err() {
             return Err(DrainFault {
-                done: nothing(alloc),
+                done: nothing,
                 fault: UpdateFault::OutOfMemory,
             });
-        };
-        list_exits(&self.held, count, &mut operations);
-        let done = enter_held(
-            rt,
-            alloc,
-            handle,
-            moment,
-            &mut self.held,
-            count,
-            &mut operations,
-            pairs,
-        );
-        self.room = Some(Room {
-            operations,
-            pairs: Vec::new(alloc),
-        });
-        Ok(done?)
+        }
+        list_exits(&self.held, count, &mut self.operations);
+        let pairs = replace(&mut self.pairs, Vec::new(alloc));
+        match handle.apply_all(rt, alloc, moment, &mut self.operations) {
+            Ok(Dones { replies, ticket }) => Ok(Drained {
+                pairs: pair_up(&mut self.held, replies, pairs),
+                ticket: Some(ticket),
+            }),
+            Err(part) => {
+                let pairs = pair_up(&mut self.held, part.replies, pairs);
+                let ticket = part.ticket;
+                Err(DrainFault {
+                    done: Drained { pairs, ticket },
+                    fault: part.fault,
+                })
+            }
+        }
     }
 
     /// Takes the list of an earlier drain's pairs back, as room for those of the next.
     pub fn reuse(&mut self, pairs: Vec<(Note, Reply)>)
         ensures { self.new ≡ self.old }
     {
-        if let Some(room) = &mut self.room {
-            room.pairs = pairs;
-        }
+        self.pairs = pairs;
     }
 
     /// Returns the taker, and the notes that are held. It takes no memory.
@@ -320,11 +240,6 @@ impl Drain {
         ensures taker { result.0 ≡ record { inbox = self.inbox; posters = self.posters; taken = self.entered ++ self.held } }
         ensures held { result.1.items ≡ self.held }
     {
-        let Drain {
-            taker,
-            held,
-            room: _,
-        } = self;
-        (taker, held)
+        (self.taker, self.held)
     }
 }

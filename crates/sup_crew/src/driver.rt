@@ -5,7 +5,7 @@ ghost use Rattle.sup_crew.specs.Drains.{replies_of};
 ghost use Rattle.sup_crew.specs.Dispatchers.{IsSameQueue, HasDispatched};
 ghost use Rattle.sup_crew.specs.Births.{IsBornBy, AreBornBy};
 ghost use Rattle.sup_crew.specs.Drivers.{DriverModel, IsAtWork, IsSameDriver, Starts, GoesOn, IsCause, started_job, restarted_jobs};
-ghost use Rattle.sup_crew.specs.Tallies.{tally_of, with_start, with_exits, bit, with_exit};
+ghost use Rattle.sup_crew.specs.Tallies.{with_exits, with_reply, bit};
 ghost use Rattle.sup_core.specs.Changes.{makes_child};
 
 use crate::crew::{Crew, sleep};
@@ -42,19 +42,6 @@ impl<'d, N: Name, S: Starter + Drop, P: Wait + Drop, J: Journal + Drop> Model
 }
 
 impl<'d, N: Name, S: Starter + Drop, P: Wait + Drop, J: Journal + Drop> Driver<'d, N, S, P, J> {
-    /// Returns a driver that has done nothing.
-    pub fn new(handle: Handle<'d, N, S, P, J>, jobs: Dispatcher<N>, drain: Drain) -> Self
-        ensures { result ≡ record { knows = handle.entry; jobs = jobs; drain = drain; ticket = None; tally = tally_of [] } }
-    {
-        Driver {
-            handle,
-            jobs,
-            drain,
-            ticket: None,
-            tally: Tally::new(),
-        }
-    }
-
     /// Starts the children in order. Returns how many were started, and the fault that stopped it, if there is one.
     pub fn start_all<R: Wait>(&mut self, rt: &R, crew: &Crew<N>) -> (usize, Option<UpdateFault>)
         requires { self.old.jobs.queue ≡ crew.now.jobs }
@@ -73,7 +60,7 @@ impl<'d, N: Name, S: Starter + Drop, P: Wait + Drop, J: Journal + Drop> Driver<'
         (children.len(), None)
     }
 
-    /// Starts a child, and queues a job for it.
+    /// Starts a child, counts that, and queues a job for the child, if there is one.
     fn start_one<R: Wait>(&mut self, rt: &R, crew: &Crew<N>, arg: &Text) -> Result<(), UpdateFault>
         requires { self.old.jobs.queue ≡ crew.now.jobs }
         ensures same { IsSameDriver self.old self.new }
@@ -84,28 +71,14 @@ impl<'d, N: Name, S: Starter + Drop, P: Wait + Drop, J: Journal + Drop> Driver<'
         if self.jobs.make_room(1).is_err() {
             return Err(UpdateFault::OutOfMemory);
         }
-        let done = self.handle.start_child(rt, crew.plan.moment, *arg)?;
-        self.note_start(rt, crew, arg, done);
+        let Done { reply, ticket } = self.handle.start_child(rt, crew.plan.moment, *arg)?;
+        self.tally = self.tally.counted(rt, false, &reply);
+        self.ticket = Some(ticket.copied());
+        let Reply::Started(number) = reply else {
+            return Ok(());
+        };
+        self.jobs.dispatch(rt, crew, Job::new(number, *arg, ticket));
         Ok(())
-    }
-
-    /// Counts a start, and queues the job for its child, if there is one.
-    fn note_start<R: Wait>(&mut self, rt: &R, crew: &Crew<N>, arg: &Text, done: Done)
-        requires room { (self.old.jobs.queue ≡ crew.now.jobs) × (0 < self.old.jobs.room) }
-        requires press { done.ticket.press ≡ N.press }
-        requires born { IsBornBy N.template done.ticket.front done.reply }
-        ensures same { (self.new.knows ≡ self.old.knows) × (self.new.drain ≡ self.old.drain) × IsSameQueue self.old.jobs self.new.jobs }
-        ensures ticket { self.new.ticket ≡ Some done.ticket }
-        ensures tally { self.new.tally ≡ with_start self.old.tally done.reply }
-        ensures account { HasDispatched self.old.jobs self.new.jobs (started_job arg.now done.reply) }
-    {
-        let Done { reply, ticket } = done;
-        self.tally = self.tally.started(rt, &reply);
-        if let Reply::Started(number) = reply {
-            self.jobs
-                .dispatch(rt, crew, Job::new(number, *arg, ticket.copied()));
-        }
-        self.ticket = Some(ticket);
     }
 
     /// Drains until as many notes were taken as jobs are queued, a fault comes, or this number of turns in a row took none. It does
@@ -196,7 +169,7 @@ impl<'d, N: Name, S: Starter + Drop, P: Wait + Drop, J: Journal + Drop> Driver<'
         };
         for at in 0..count {
             let (note, reply) = &pairs[at];
-            self.tally = self.tally.exited(rt, reply);
+            self.tally = self.tally.counted(rt, true, reply);
             let Reply::Restarted(_, number) = reply else {
                 continue;
             };
@@ -210,7 +183,7 @@ impl<'d, N: Name, S: Starter + Drop, P: Wait + Drop, J: Journal + Drop> Driver<'
 }
 
 /// Counts updates by what was asked for and what was replied.
-#[derive(Clone, Copy)]
+#[derive(Clone, Copy, Default)]
 pub struct Tally {
     /// How many made a child.
     pub made: u64,
@@ -242,53 +215,21 @@ fn more<R: Wait>(rt: &R, count: u64, one: bool) -> u64
     unreachable!()
 }
 
-/// Returns whether the reply says that a child was made.
-fn makes(reply: &Reply) -> bool
-    ensures { result ≡ makes_child reply.now }
-{
-    matches!(reply, Reply::Started(_) | Reply::Restarted(_, _))
-}
-
 impl Tally {
-    /// Returns the count of no update.
-    pub fn new() -> Tally
-        ensures { result ≡ tally_of [] }
+    /// Counts an exit, or else a start, with this reply.
+    fn counted<R: Wait>(self, rt: &R, is_exit: bool, reply: &Reply) -> Tally
+        ensures { result ≡ with_reply self is_exit reply.now }
     {
-        Tally {
-            made: 0,
-            exits: 0,
-            strays: 0,
-            downs: 0,
-            restarts: 0,
-            given_up: 0,
-            refused: 0,
-        }
-    }
-
-    /// Counts a start with this reply.
-    pub fn started<R: Wait>(self, rt: &R, reply: &Reply) -> Tally
-        ensures { result ≡ with_start self reply.now }
-    {
-        let made = makes(reply);
+        let made = matches!(reply, Reply::Started(_) | Reply::Restarted(_, _));
+        let restarted = is_exit && matches!(reply, Reply::Restarted(_, _));
         Tally {
             made: more(rt, self.made, made),
-            refused: more(rt, self.refused, !made),
-            ..self
-        }
-    }
-
-    /// Counts an exit with this reply.
-    fn exited<R: Wait>(self, rt: &R, reply: &Reply) -> Tally
-        ensures { result ≡ with_exit self reply.now }
-    {
-        Tally {
-            made: more(rt, self.made, makes(reply)),
-            exits: more(rt, self.exits, true),
-            strays: more(rt, self.strays, matches!(reply, Reply::Stray(_))),
-            downs: more(rt, self.downs, matches!(reply, Reply::Down)),
-            restarts: more(rt, self.restarts, matches!(reply, Reply::Restarted(_, _))),
-            given_up: more(rt, self.given_up, matches!(reply, Reply::GaveUp)),
-            refused: self.refused,
+            exits: more(rt, self.exits, is_exit),
+            strays: more(rt, self.strays, is_exit && matches!(reply, Reply::Stray(_))),
+            downs: more(rt, self.downs, is_exit && matches!(reply, Reply::Down)),
+            restarts: more(rt, self.restarts, restarted),
+            given_up: more(rt, self.given_up, is_exit && matches!(reply, Reply::GaveUp)),
+            refused: more(rt, self.refused, !is_exit && !made),
         }
     }
 }

@@ -2,9 +2,8 @@
 ghost use Rattle.std.specs.Prelude.{◌≡◌};
 ghost use Rattle.sup_crew.specs.Faults.{crew_fault_number, pool_fault_number};
 ghost use Rattle.sup_crew.specs.declared.fault.CrewFault.TheVariants as crew;
-ghost use Rattle.sup_crew.specs.declared.fault.PoolFault.TheVariants as pool;
 
-use sup_desk::{DeskFault, HandleFault, UpdateFault};
+use sup_desk::{HandleFault, UpdateFault};
 use sup_types::OutOfMemory;
 use thiserror::Error;
 
@@ -82,23 +81,5 @@ impl PoolFault {
             PoolFault::BadWorkers | PoolFault::BadRestarts | PoolFault::BadArgument(_) => 7,
             PoolFault::Stopped(fault) => fault.number(),
         }
-    }
-}
-
-impl From<CrewFault> for PoolFault {
-    ghost from_gives = { λ _ f. f ≡ pool.OutOfMemory };
-
-    /// A pool's desk has room for the handle and the lenses of its crew, so a fault is one of memory.
-    fn from(_fault: CrewFault) -> PoolFault {
-        PoolFault::OutOfMemory
-    }
-}
-
-impl From<DeskFault> for PoolFault {
-    ghost from_gives = { λ _ f. f ≡ pool.OutOfMemory };
-
-    /// A pool's desk has a number of handles that may be, so a fault is one of memory.
-    fn from(_fault: DeskFault) -> PoolFault {
-        PoolFault::OutOfMemory
     }
 }

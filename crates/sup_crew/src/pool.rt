@@ -8,7 +8,7 @@ ghost use Rattle.sup_types.specs.declared.text.Text.{Text as AText};
 
 use crate::fault::PoolFault;
 use crate::job::{Body, Job};
-use crate::plan::{Plan, Report};
+use crate::plan::Plan;
 use crate::run::run_crew;
 use std::alloc::{AllocGlobal, Global};
 use std::convert::AsStr;
@@ -133,8 +133,10 @@ impl Pool {
             turns: TURNS,
             moment: 0,
         };
-        // The driver has a handle, and each worker a lens.
-        let ground = Ground::new(alloc, rt, self.template, self.workers as u64 + 1)?;
+        // The driver has a handle, and each worker a lens: a number that may be, so a fault is one of memory.
+        let Ok(ground) = Ground::new(alloc, rt, self.template, self.workers as u64 + 1) else {
+            return Err(PoolFault::OutOfMemory);
+        };
         run_named::<Brand, R, T>(rt, alloc, ground, plan, work)
     }
 }
@@ -172,25 +174,19 @@ fn run_named<N: Name + Send + Sync, R: Threads + Wait + Sync, T: Work + Sync>(
     ensures fault { IfErr result (λ f. (f ≡ OutOfMemory) ⊎ ((why : AFault) × (f ≡ Stopped why))) }
 {
     let desk: Desk<N, AlwaysRunning, &R> = Desk::new(ground, AlwaysRunning);
-    let report = run_crew(rt, alloc, &desk, &Working { work }, plan)?;
-    match report.fault {
-        Some(fault) => Err(PoolFault::Stopped(fault)),
-        None => Ok(numbers_of(&report)),
+    // The desk has room for the handle and the lenses, so a fault is one of memory.
+    let Ok(report) = run_crew(rt, alloc, &desk, &Working { work }, plan) else {
+        return Err(PoolFault::OutOfMemory);
+    };
+    if let Some(fault) = report.fault {
+        return Err(PoolFault::Stopped(fault));
     }
-}
-
-/// Returns the numbers of a report.
-fn numbers_of<N: Name>(report: &Report<N>) -> PoolReport
-    requires { report.now.tally.exits ≤ report.now.tally.made }
-    ensures whole { result.made ≡ result.exits + result.left }
-    ensures told { (result.made ≡ report.now.tally.made) × (result.exits ≡ report.now.tally.exits) × (result.restarts ≡ report.now.tally.restarts) × (result.given_up ≡ report.now.tally.given_up) }
-{
     let tally = report.tally;
-    PoolReport {
+    Ok(PoolReport {
         made: tally.made,
         exits: tally.exits,
         left: tally.made - tally.exits,
         restarts: tally.restarts,
         given_up: tally.given_up,
-    }
+    })
 }

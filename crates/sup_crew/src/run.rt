@@ -127,11 +127,13 @@ where
         Ok(started) => started,
         Err(fault) => return (caller, Err(fault)),
     };
-    let mut driver = Driver::new(
-        desk.bind(caller),
-        Dispatcher::new(alloc, endpoint),
-        Drain::new(parts.taker),
-    );
+    let mut driver = Driver {
+        handle: desk.bind(caller),
+        jobs: Dispatcher::new(alloc, endpoint),
+        drain: Drain::new(alloc, parts.taker),
+        ticket: None,
+        tally: Tally::default(),
+    };
     let (started, fault) = driver.start_all(rt, crew);
     let fault = driver.drain_all(rt, alloc, crew, crew.plan.turns, fault);
     crew.signals.end();
@@ -156,62 +158,6 @@ where
         finished,
     };
     (caller, Ok(outcome))
-}
-
-/// Starts the threads, and joins them all. The driver's handle is taken apart meanwhile.
-fn run_bound<'d, N, S, P, J, B, R>(
-    rt: &R,
-    alloc: Global,
-    run: Beginning<'_, N>,
-    body: &B,
-    handle: Handle<'d, N, S, P, J>,
-) -> (Handle<'d, N, S, P, J>, Result<RunOutcome<N>, CrewFault>)
-where
-    N: Name + Send + Sync,
-    S: Starter + Drop + Send + Sync,
-    P: Wait + Drop + Send + Sync,
-    J: Journal + Drop + Send,
-    B: Body + Sync,
-    R: Threads + Wait + Sync,
-    ensures outcome { IfOk result.1 (λ j. IsRunOutcome (B.may_end body.now) (run_of N.template N.press run.entry.crew.now.plan.moment handle.entry) run.entry.crew.now.jobs run.entry.crew.now.inbox.id (vec_len run.entry.parts.posters) run.entry.crew.now.plan.children.items result.0 j) }
-    ensures kept { OnErr result.1 (HasNotCalled handle.entry result.0) }
-    ensures place { IfErr result.1 (λ e. e ≡ CrewFault.NoHandle → ⊥) }
-{
-    let (caller, desk) = handle.unbind();
-    let (caller, outcome) = thread::scope(
-        thread::scope_env(),
-        rt,
-        move |scope| drive(scope, rt, alloc, run, body, desk, caller),
-    );
-    (desk.bind(caller), outcome)
-}
-
-/// Does the same for a driver's handle that is lent.
-fn run_lent<'d, N, S, P, J, B, R>(
-    rt: &R,
-    alloc: Global,
-    run: Beginning<'_, N>,
-    body: &B,
-    driver: &mut Handle<'d, N, S, P, J>,
-) -> Result<RunOutcome<N>, CrewFault>
-where
-    N: Name + Send + Sync,
-    S: Starter + Drop + Send + Sync,
-    P: Wait + Drop + Send + Sync,
-    J: Journal + Drop + Send,
-    B: Body + Sync,
-    R: Threads + Wait + Sync,
-    ensures outcome { IfOk result (λ j. IsRunOutcome (B.may_end body.now) (run_of N.template N.press run.entry.crew.now.plan.moment driver.old) run.entry.crew.now.jobs run.entry.crew.now.inbox.id (vec_len run.entry.parts.posters) run.entry.crew.now.plan.children.items driver.new j) }
-    ensures kept { OnErr result (HasNotCalled driver.old driver.new) }
-    ensures place { IfErr result (λ e. e ≡ CrewFault.NoHandle → ⊥) }
-{
-    replace_with(
-        driver,
-        run,
-        |handle: Handle<'_, N, S, P, J>, run: Beginning<'_, N>| run_bound(
-            rt, alloc, run, body, handle,
-        ),
-    )
 }
 
 /// Runs a crew over the desk of this handle, which is its driver: it starts the plan's children in order, the workers run the body
@@ -245,7 +191,24 @@ where
     ensures place { IfErr result (λ e. e ≡ CrewFault.NoHandle → ⊥) }
 {
     let (crew, parts, buffers) = prepare(alloc, plan)?;
-    let outcome = run_lent(rt, alloc, Beginning { crew: &crew, parts }, body, driver)?;
+    // The driver's handle is taken apart while the threads run.
+    let outcome = replace_with(
+        driver,
+        Beginning { crew: &crew, parts },
+        |handle: Handle<'_, N, S, P, J>, run: Beginning<'_, N>|
+            ensures outcome { IfOk result.1 (λ j. IsRunOutcome (B.may_end body.entry.now) (run_of N.template N.press run.entry.crew.now.plan.moment handle.entry) run.entry.crew.now.jobs run.entry.crew.now.inbox.id (vec_len run.entry.parts.posters) run.entry.crew.now.plan.children.items result.0 j) }
+            ensures kept { OnErr result.1 (HasNotCalled handle.entry result.0) }
+            ensures place { IfErr result.1 (λ e. e ≡ CrewFault.NoHandle → ⊥) }
+        {
+            let (caller, desk) = handle.unbind();
+            let (caller, outcome) = thread::scope(
+                thread::scope_env(),
+                rt,
+                move |scope| drive(scope, rt, alloc, run, body, desk, caller),
+            );
+            (desk.bind(caller), outcome)
+        },
+    )?;
     Ok(close(rt, crew, body, outcome, buffers))
 }
 

@@ -42,8 +42,7 @@ fn post_until<N: Name, R: Wait>(
     let signals = &crew.signals;
     for _ in 0..crew.plan.turns {
         let noted = signals.drained.notifications();
-        let reason = note.reason;
-        if let Ok(()) = poster.post(rt, &crew.inbox, note.number, note.arg, reason) {
+        if let Ok(()) = poster.post(rt, &crew.inbox, note.number, note.arg, note.reason) {
             signals.posted.notify_one();
             return Ok(());
         }
@@ -61,17 +60,14 @@ pub fn work<N: Name, B: Body, R: Wait>(
     rt: &R,
     crew: &Crew<N>,
     body: &B,
-    endpoint: Endpoint<N>,
-    poster: Poster,
-    asker: Asker<N>,
+    mut endpoint: Endpoint<N>,
+    mut poster: Poster,
+    mut asker: Asker<N>,
 ) -> Finished<N>
     requires endpoint { endpoint ≡ record { queue = crew.now.jobs; permission = permission 1 [] [] } }
     requires poster { (poster.inbox ≡ crew.now.inbox.id) × (poster.posted ≡ []) }
     ensures { IsWorked (B.may_end body.now) crew.now.jobs crew.now.inbox.id poster.number result }
 {
-    let mut endpoint = endpoint;
-    let mut poster = poster;
-    let mut asker = asker;
     for _ in rt.forever() {
         let noted = crew.signals.queued.notifications();
         let Some(job) = endpoint.take(rt, &crew.jobs) else {
@@ -176,7 +172,7 @@ pub fn start<'s, E, N, S, P, J, B, R>(
     crew: &'s Crew<N>,
     body: &'s B,
     desk: &Desk<N, S, P, J>,
-    endpoint: Endpoint<N>,
+    mut endpoint: Endpoint<N>,
     posters: Vec<Poster>,
 ) -> Result<(Endpoint<N>, Vec<Worker<'s, N, B>>), CrewFault>
 where
@@ -193,7 +189,6 @@ where
     ensures each { IfOk result (λ r. (k : ℕ) (d : _) → k < vec_len posters → ((slice_index_or r.1.items k d).promise.crew.now ≡ crew.now) × ((slice_index_or r.1.items k d).promise.body.now ≡ body.now) × ((slice_index_or r.1.items k d).promise.number ≡ k + 1)) }
     ensures place { IfErr result (λ e. e ≡ CrewFault.NoHandle → ⊥) }
 {
-    let mut endpoint = endpoint;
     let Ok(mut workers) = Vec::with_capacity(alloc, posters.len()) else {
         return Err(CrewFault::OutOfMemory);
     };
@@ -202,20 +197,15 @@ where
         match start_one(scope, rt, crew, body, asker, &mut endpoint, poster) {
             Ok(worker) => workers.push_reserved(worker),
             Err(fault) => {
-                stop(rt, crew, workers);
+                crew.signals.end();
+                for worker in workers {
+                    drop(worker.join(rt));
+                }
                 return Err(fault);
             }
         }
     }
     Ok((endpoint, workers))
-}
-
-/// Says that the run is over, and joins the workers.
-fn stop<'s, N: Name, B: Body, R: Threads>(rt: &R, crew: &Crew<N>, workers: Vec<Worker<'s, N, B>>) {
-    crew.signals.end();
-    for worker in workers {
-        drop(worker.join(rt));
-    }
 }
 
 /// Joins the workers.
@@ -224,14 +214,13 @@ pub fn join_all<'s, N: Name, B: Body, R: Threads>(
     crew: &Crew<N>,
     body: &B,
     workers: Vec<Worker<'s, N, B>>,
-    finished: Vec<Finished<N>>,
+    mut finished: Vec<Finished<N>>,
 ) -> Vec<Finished<N>>
     requires workers { (k : ℕ) (d : _) → k < vec_len workers → ((slice_index_or workers.items k d).promise.crew.now ≡ crew.now) × ((slice_index_or workers.items k d).promise.body.now ≡ body.now) × ((slice_index_or workers.items k d).promise.number ≡ k + 1) }
     requires finished { (finished.items ≡ []) × (vec_len workers ≤ vec_capacity finished) }
     ensures len { vec_len result ≡ vec_len workers.entry }
     ensures each { AreWorked (B.may_end body.now) crew.now.jobs crew.now.inbox.id 1 result.items }
 {
-    let mut finished = finished;
     for worker in workers {
         finished.push_reserved(worker.join(rt));
     }

@@ -1,4 +1,4 @@
-use Rattle.std.proofs.Common.{◌≡◌, ℕ, ◌+◌, List, ◌++◌, length, sym, ap, ◌∙◌, subst, arith, take-append-drop}
+use Rattle.std.proofs.Common.{◌≡◌, ℕ, ◌+◌, List, ◌++◌, length, sym, ap, ◌∙◌, subst, rules, arith}
 use Rattle.sup_inbox.specs.declared.note.Note.{Note}
 use Rattle.sup_inbox.specs.Ends.{AreOf}
 use Rattle.sup_inbox.specs.PostingLaws.{are_of}
@@ -11,7 +11,7 @@ use Rattle.sup_crew.specs.Drivers.{front_of, calls_since}
 use Rattle.sup_crew.specs.Work.{ended, AreEnds}
 use Rattle.sup_crew.specs.JobLaws.{weigh-append}
 use Rattle.sup_crew.proofs.Right.{since-right}
-use Rattle.sup_crew.proofs.Reported.{own-others, own-left, named-entered, agree, none_unstarted}
+use Rattle.sup_crew.proofs.Reported.{own-others, own-left, named-entered, agree, all_planned, none_unstarted}
 use Rattle.sup_crew.proofs.Sums.{endpoints, rows_of, posters-length, back_ends, taken-told, run_told, run_ends}
 use Rattle.sup_crew.specs.WorkLaws.{ended-append, are_ends-append, are_ends-split}
 use Rattle.sup_crew.proofs.closing.close.Goals as goal
@@ -49,12 +49,13 @@ returns g c run after j =
     let right = since-right run.template run.before ticket in
     let n = c.collect-endpoint.result.1.ok.0 ∙ ap (λ l. length l) e.posters ∙ posters-length rs in
     let tk = ap (λ t. t.taken) took.taker in
-    let is_held : c.list_held.result.items ≡ held = c.list_held.ensures ∙ took.held in
+    let list = c.extend_from_slice.new.self.items in
+    let is_held : list ≡ held = c.in-Ok-extend_from_slice.ensures.items ∙ ap (λ l. l ++ c.as_slice.result.now) c.requires.room.0.3 ∙ c.as_slice.ensures.value ∙ took.held in
     let ends = run_ends may_end _ _ rs _ _ (entered ++ held) inbox _ j.worked e.posters tk n c.in-Ok.ensures.each c.in-Ok.ensures.others in
     let parts = are_ends-split may_end (entered ++ held) inbox ends in
     let first = are_ends-split may_end entered held parts.0 in
     let back = subst (AreEnds may_end) (sym e.unposted) (back_ends _ _ _ 1 _ j.worked) in
-    let others : List Note = c.list_held.result.items ++ inbox ++ unposted in
+    let others : List Note = list ++ inbox ++ unposted in
     let jobs : (h : Child → ℕ) → weigh h (jobs_made cs entered) ≡ weigh h (ended entered) + (weigh h (ended others) + weigh h left) = λ h.
     let a = l.jobs h in
     let r = c.read_all-left.ensures h in
@@ -66,8 +67,8 @@ returns g c run after j =
     let s = run_told h may_end _ _ rs _ _ (entered ++ held) inbox _ j.worked e.posters tk n c.in-Ok.ensures.each c.in-Ok.ensures.others in
     let d = ap (weigh h) (ended-append entered held) ∙ weigh-append h (ended entered) (ended held) in
     let f = ap (λ l. weigh h (ended l)) is_held in
-    let x = ap (weigh h) (ended-append (c.list_held.result.items ++ inbox) unposted) ∙ weigh-append h (ended (c.list_held.result.items ++ inbox)) (ended unposted) in
-    let y = ap (weigh h) (ended-append c.list_held.result.items inbox) ∙ weigh-append h (ended c.list_held.result.items) (ended inbox) in
+    let x = ap (weigh h) (ended-append (list ++ inbox) unposted) ∙ weigh-append h (ended (list ++ inbox)) (ended unposted) in
+    let y = ap (weigh h) (ended-append list inbox) ∙ weigh-append h (ended list) (ended inbox) in
     omega (arith, a, r, p, t, k, w, u, s, d, f, x, y)
     in
     record {
@@ -76,8 +77,8 @@ returns g c run after j =
       called = l.called;
       whole = l.whole;
       driven = l.driven;
-      starts = (λ i. l.starts i ++ c.without_first.ensures i) ∙ take-append-drop c.args.outcome.started c.args.crew.plan.children.items;
-      all = none_unstarted c.args.outcome.fault c.args.outcome.started c.args.crew.plan.children.items c.without_first.result.items c.without_first.ensures j.all;
+      starts = all_planned _ c.args.outcome.started c.args.crew.plan.children.items _ l.starts (search rules);
+      all = none_unstarted c.args.outcome.fault c.args.outcome.started c.args.crew.plan.children.items _ (search rules) j.all;
       cause = j.cause;
       named = named-entered items cs right entered others left l.driven l.exits_are jobs may_end first.0;
       agree = agree items cs right entered others left l.driven l.exits_are jobs;
@@ -85,6 +86,6 @@ returns g c run after j =
         own-others items cs right entered others left l.driven l.exits_are jobs,
         own-left items cs right entered others left l.driven l.exits_are jobs,
       );
-      ends = are_ends-append may_end (c.list_held.result.items ++ inbox) unposted (are_ends-append may_end c.list_held.result.items inbox (subst (AreEnds may_end) (sym is_held) first.1) parts.1) back;
+      ends = are_ends-append may_end (list ++ inbox) unposted (are_ends-append may_end list inbox (subst (AreEnds may_end) (sym is_held) first.1) parts.1) back;
       counts = l.counts;
     }

@@ -55,7 +55,7 @@ loop-at-preserved g c =
     let child = c.new.ensures.child in
     record {
       same = (i.same.0, i.same.1, (e.same.0 ∙ i.same.2.0, e.same.1 ∙ i.same.2.1));
-      tally = ap (λ t. with_exits t (replies_of rest)) c.exited-self-inside.ensures ∙ sym (ap (λ l. with_exits c.loop-at.self-inside.tally (replies_of l)) step) ∙ i.tally;
+      tally = ap (λ t. with_exits t (replies_of rest)) c.counted-self-inside.ensures ∙ sym (ap (λ l. with_exits c.loop-at.self-inside.tally (replies_of l)) step) ∙ i.tally;
       press = i.press;
       born = (subst (AreBornBy g.N.Name.template c.in-Some.ticket.front) step i.born).1;
       room = (e.same.0 ∙ i.room.0, (let r = i.room.1 in let s = ap (λ l. length l) step in let l = e.room in omega (arith, r, s, l)));

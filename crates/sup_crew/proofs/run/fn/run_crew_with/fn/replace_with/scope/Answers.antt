@@ -1,6 +1,6 @@
 -- What `drive` asks to be sent is what the bounds of the closure say.
 use denote.Param.Send.{sendable}
-use Rattle.sup_crew.proofs.run.fn.run_bound.scope.Goals as goal
+use Rattle.sup_crew.proofs.run.fn.run_crew_with.fn.replace_with.scope.Goals as goal
 
 pub drive-requires-send-N : goal.drive-requires-send-N
 drive-requires-send-N g c _ _ = search sendable
