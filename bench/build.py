@@ -21,6 +21,7 @@ USES = {
     "inbox": "sup_types sup_inbox crossbeam_queue atomic_table",
     "crew": "sup_types sup_desk sup_crew",
     "live": "sup_types sup_live futures anyhow",
+    "tcp": "sup_types sup_live futures tokio tokio_util anyhow",
 }
 
 # The words that our program is given as `rt run` runs it, once it is built.
@@ -67,12 +68,13 @@ def copy_crate(name):
 
 def copy_ours(name):
     """Copies our program as a crate, each file without its ending .txt."""
-    source, to = f"{HERE}/crates/{name}", f"{ROOM}/crates/bench_{name}"
+    to = f"{ROOM}/crates/bench_{name}"
+    source, inside = (f"{TOP}/tools/partners/tcp_server", f"{to}/src") if name == "tcp" else (f"{HERE}/crates/{name}", to)
     for part in ("src", "proofs"):
         shutil.rmtree(f"{to}/{part}", ignore_errors=True)
     for at, _, files in os.walk(source):
         for file in files:
-            there = os.path.join(to, os.path.relpath(at, source), file.removesuffix(".txt"))
+            there = os.path.join(inside, os.path.relpath(at, source), file.removesuffix(".txt"))
             os.makedirs(os.path.dirname(there), exist_ok=True)
             shutil.copyfile(f"{at}/{file}", there)
     return to
@@ -88,15 +90,17 @@ def ours(name):
     for it in needed:
         copy_crate(it)
     crate = copy_ours(name)
-    shutil.copy(f"{TOP}/HANDLES", ROOM)
+    with open(f"{ROOM}/HANDLES", "w") as file:
+        file.write("Handles allowed: Threads, Wait, Net.\n")
     with open(f"{ROOM}/crates.txt", "w") as file:
         for it in needed:
             file.write(f"{lines[it]}\n")
         file.write(f"bench_{name}: {USES[name]}\n")
     # (so that this folder is the top of a repository)
     subprocess.run(["git", "init", "-q"], cwd=ROOM, check=True)
-    jobs = os.environ.get("BENCH_JOBS", "2")
-    said(["rt", "run", "--jobs", jobs, "--", *WORDS.get(name, [])], crate, f"{ROOM}/{name}.log")
+    run = ["rt", "run", "--jobs", os.environ.get("BENCH_JOBS", "2"), "--", *WORDS.get(name, [])]
+    # (a server ends when its clients say so)
+    said([plain("tcp_load"), *run] if name == "tcp" else run, crate, f"{ROOM}/{name}.log")
     return [f"{crate}/out/bench_{name}"]
 
 
@@ -118,7 +122,7 @@ def plain(name):
 def peers(name):
     """The peers of a name: what each is called, and the words that run it."""
     made = [("plain Rust", [plain(name)])]
-    if name in ("crew", "live"):
+    if name in ("crew", "live", "tcp"):
         made += erlang(name)
     return made
 
