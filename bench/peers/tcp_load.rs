@@ -16,12 +16,12 @@ const MOST: usize = 2000;
 const OPEN: usize = 1000;
 const SOME: usize = 200;
 /// How many connections are made one after another.
-const SINGLES: usize = 2000;
+const SINGLES: usize = 1000;
 /// How many messages go over one connection, and how many over many.
-const BY_ONE: usize = 20_000;
-const BY_MANY: usize = 40_000;
+const BY_ONE: usize = 10_000;
+const BY_MANY: usize = 20_000;
 /// How long the server may take until it has seen what was done last.
-const PAUSE: Duration = Duration::from_millis(200);
+const PAUSE: Duration = Duration::from_millis(100);
 
 /// A connection, and how many lines it sent.
 struct Connection {
