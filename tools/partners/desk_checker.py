@@ -142,7 +142,7 @@ def check(record):
     nothing_is_seen_early(record, updates)
     batches_are_seen_whole(record, updates)
     answers_are_right(record, updates)
-    return behind(record, updates)
+    return lacking_queries(record, updates)
 
 
 def answers_are_whole(record):
@@ -323,7 +323,7 @@ def answer_to(supervisor, call):
     return row if call.name == "child" else f"stamp {call.after} up / {supervisor.count().decode()} / {row}"
 
 
-def behind(record, updates):
+def lacking_queries(record, updates):
     """How many queries lack an update that had returned before they were asked."""
     returned = sorted((it.call.returned, it.place) for it in updates)
     asked = sorted((it.called, it.after) for it in record.calls if it.is_query())
