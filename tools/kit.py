@@ -98,7 +98,9 @@ def path_of(f):
     """The check's name for a function, below the crate."""
     owner = f.owner
     if f.in_trait:
-        owner = "".join(it for it in names_in([*f.block.ty, *f.block.trait]) if it not in f.block.generics)
+        # (a trait's own function is named for the trait alone)
+        words = f.block.trait if f.block.is_trait else [*f.block.ty, *f.block.trait]
+        owner = "".join(it for it in names_in(words) if it not in f.block.generics)
     elif f.block:
         # (a block for some arguments of its type alone is named for them, too, as HandleOf+N+Desk)
         names = names_in(f.block.ty)
