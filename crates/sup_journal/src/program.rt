@@ -21,8 +21,7 @@ use sup_types::{Starter, Template};
 /// `flush` says. The desk has 1 to 1,024 handles, including those of the history. Its caller writes no proof.
 ///
 /// # Errors
-/// Those of [`open_journal`](crate::open_journal), and `Desk` if no desk is made. The program is not run then. A number of handles
-/// that may not be is refused before the file is opened.
+/// Those of [`open_journal`](crate::open_journal), and `Desk` if no desk is made: then no file is. The program is not run then.
 pub fn on_desk_in_file<S, R, P>(
     rt: &R,
     alloc: Global,
@@ -41,7 +40,6 @@ where
         (⟦<TextJournal<Unknown, Synced<R::File>, Global> as Journal>⟧.is_torn p.1.journal template)
         ⟦<TextJournal<Unknown, Synced<R::File>, Global> as Journal>⟧.may_fail p.1.fault p.1.ticket.front) }
 {
-    // The ground first: a number of handles that may not be leaves no file behind.
     let ground = Ground::new(alloc, rt, template, handles)?;
     let file = open_file(rt, path)?;
     run_named::<Brand, S, R, R::File, P>(rt, alloc, file, flush, template, ground, starter, program)
