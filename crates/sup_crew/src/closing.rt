@@ -1,22 +1,19 @@
 //! The end of a run: what its workers had is collected, and what was counted is reported.
-ghost use Rattle.std.specs.Prelude.{◌≡◌, ◌+◌, ◌<◌, ◌≤◌, [], ◌++◌, drop, length, vec_len, vec_capacity};
+ghost use Rattle.std.specs.Prelude.{◌≡◌, ◌+◌, ◌<◌, ◌≤◌, [], ◌++◌, length, vec_len, vec_capacity};
 ghost use Rattle.sup_crew.specs.Jobs.{weigh, children_of};
-ghost use Rattle.sup_crew.specs.Joins.{AreEndpoints, note_in, posters_of, taken_of, unposted_of};
+ghost use Rattle.sup_crew.specs.Joins.{AreEndpoints, posters_of, taken_of, unposted_of};
 ghost use Rattle.sup_crew.specs.Reports.{IsRun};
 ghost use Rattle.sup_crew.specs.Runs.{IsRunOutcome, HasRoom};
 
 use crate::crew::Crew;
-use crate::drain::HELD;
 use crate::job::{Body, Job};
 use crate::plan::Report;
 use crate::queue::{Endpoint, Jobs};
 use crate::run::RunOutcome;
 use crate::worker::Finished;
-use arrayvec::ArrayVec;
 use std::sync::Wait;
 use sup_desk::Name;
 use sup_inbox::{Note, Poster, settle};
-use sup_types::Text;
 
 /// Holds room for what the end of a run hands over. It is made before the run, so that its end takes no memory.
 #[derive(Drop)]

@@ -1,5 +1,5 @@
 //! The drain: it takes notes and enters them as exits, in order, and holds those that it could not enter.
-ghost use Rattle.std.specs.Prelude.{◌≡◌, List, ◌+◌, ◌<◌, ◌≤◌, ◌⊎◌, [], ◌∷◌, ◌++◌, take, IfOk, IfErr, MatchResult, length, vec_len, vec_capacity};
+ghost use Rattle.std.specs.Prelude.{◌≡◌, List, ◌+◌, ◌<◌, ◌≤◌, ◌⊎◌, [], ◌++◌, take, IfOk, IfErr, MatchResult, length, vec_len, vec_capacity};
 ghost use Rattle.std.specs.VecDeque.{deque_len, deque_capacity};
 ghost use Rattle.arrayvec.specs.ArrayVec.{array_vec_len};
 ghost use mathlib.Core.List.{IsPrefix};

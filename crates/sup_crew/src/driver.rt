@@ -1,12 +1,11 @@
 //! The driver of a run: what it entered, and the jobs that it queued or kept.
-ghost use Rattle.std.specs.Prelude.{◌≡◌, List, ◌+◌, ◌<◌, ◌≤◌, [], ◌∷◌, ◌++◌, length, take, IfOk, IfErr, OnErr, IfNone, IsSome, IfSome, MatchOption, None, Some, vec_len};
+ghost use Rattle.std.specs.Prelude.{◌≡◌, ◌+◌, ◌<◌, ◌≤◌, [], ◌∷◌, length, take, IfOk, IfErr, OnErr, IfNone, IsSome, IfSome, MatchOption, None, Some, vec_len};
 ghost use Rattle.std.specs.Option.{option_or};
 ghost use Rattle.sup_crew.specs.Drains.{replies_of};
 ghost use Rattle.sup_crew.specs.Dispatchers.{IsSameQueue, HasDispatched};
-ghost use Rattle.sup_crew.specs.Births.{IsBornBy, AreBornBy};
-ghost use Rattle.sup_crew.specs.Drivers.{DriverModel, IsAtWork, IsSameDriver, Starts, GoesOn, IsCause, started_job, restarted_jobs};
+ghost use Rattle.sup_crew.specs.Births.{AreBornBy};
+ghost use Rattle.sup_crew.specs.Drivers.{DriverModel, IsAtWork, IsSameDriver, Starts, GoesOn, IsCause, restarted_jobs};
 ghost use Rattle.sup_crew.specs.Tallies.{with_exits, with_reply, bit};
-ghost use Rattle.sup_core.specs.Changes.{makes_child};
 
 use crate::crew::{Crew, sleep};
 use crate::drain::{Drain, DrainFault, Drained, HELD};

@@ -1,5 +1,5 @@
 //! A pool: a crew over a desk of its own.
-ghost use Rattle.std.specs.Prelude.{◌≡◌, ◌+◌, ◌<◌, ◌≤◌, ◌^◌, ◌⊎◌, ◌↔◌, ℕ, List, IsOk, IfOk, IfErr, Err, false, map, ⊤};
+ghost use Rattle.std.specs.Prelude.{◌≡◌, ◌+◌, ◌<◌, ◌≤◌, ◌^◌, ◌⊎◌, ◌↔◌, ℕ, IsOk, IfOk, IfErr, Err, false, map, ⊤};
 ghost use Rattle.sup_desk.specs.declared.faults.UpdateFault.{UpdateFault as AFault};
 ghost use Rattle.sup_crew.specs.Pools.{IsPooled, IsNoText};
 ghost use Rattle.sup_crew.specs.declared.fault.PoolFault.TheVariants.{OutOfMemory, BadWorkers, BadRestarts, BadArgument, Stopped};

@@ -1,6 +1,6 @@
 //! The queue of jobs, under the rule that each queued job is in one place, with whoever took it or in the queue; and the driver's
 //! side of it.
-ghost use Rattle.std.specs.Prelude.{◌≡◌, ℕ, ◌+◌, ◌<◌, ◌≤◌, [], ◌∷◌, ◌++◌, length, IfOk, MatchResult, MatchOption, IfNone, IfSome, None, vec_len, vec_capacity};
+ghost use Rattle.std.specs.Prelude.{◌≡◌, ◌+◌, ◌<◌, ◌≤◌, [], ◌∷◌, ◌++◌, length, IfOk, MatchResult, MatchOption, IfNone, IfSome, None, vec_len, vec_capacity};
 ghost use Rattle.std.specs.Global.{Global};
 ghost use Rattle.crossbeam_queue.specs.SegTies.{SegId};
 ghost use Rattle.sup_crew.specs.Jobs.{Balanced, weigh, permission, child_of, children_of};

@@ -1,5 +1,5 @@
 //! Workers: what one does, and its thread.
-ghost use Rattle.std.specs.Prelude.{◌≡◌, [], ◌++◌, ◌∷◌, length, MatchResult, ℕ, ◌+◌, ◌<◌, ◌≤◌, IfOk, IfErr, IfNone, vec_len, vec_capacity, slice_index_or};
+ghost use Rattle.std.specs.Prelude.{◌≡◌, [], ◌++◌, ◌∷◌, MatchResult, ℕ, ◌+◌, ◌<◌, ◌≤◌, IfOk, IfErr, IfNone, vec_len, vec_capacity, slice_index_or};
 ghost use Rattle.sup_crew.specs.Jobs.{permission};
 ghost use Rattle.sup_crew.specs.Work.{IsNext, IsWorked, AreWorked};
 ghost use Rattle.sup_inbox.specs.Ends.{AreFrom, AreNew};
