@@ -13,7 +13,7 @@ use std::alloc::{AllocError, Global};
 use std::collections::VecDeque;
 use std::sync::Wait;
 use std::time::Duration;
-use sup_desk::{Caller, Desk, Handle, HandleOf, Journal, Name, UpdateFault};
+use sup_desk::{Desk, Handle, HandleOf, Journal, Name, UpdateFault};
 use sup_ledger::{Account, Child, Office, OwedExit, Witness};
 use sup_types::{Operation, Reply, Starter};
 use sup_yard::{Behaviour, Crew, Host, Hub, Moment};
@@ -21,22 +21,25 @@ use sup_yard::{Behaviour, Crew, Host, Hub, Moment};
 /// For how long the driver sleeps at most while something is to be done later.
 const DOZE_MILLIS: u64 = 100;
 
-/// A driver in the middle of a run. By its type, its handle's calls are exits, later tries and the stop, each at a moment that the
-/// crew's clock gave, and its exits are those that were paid, in order and each once. Each child that was restarted by these calls
-/// was made.
+/// A driver, before its run, in it and after it. By its type, its handle's calls are exits, later tries and the stop, each at a
+/// moment that the crew's clock gave, and its exits are those that were paid, in order and each once. Each child that was restarted
+/// by these calls was made.
 #[derive(Drop)]
 pub struct Driver<'d, N: Name, D, I: Office> {
-    handle: HandleOf<'d, N, D>,
-    entered: Account,
+    /// The handle by which it makes its updates.
+    pub handle: HandleOf<'d, N, D>,
+    /// The account by which the exits are paid that the handle entered.
+    pub entered: Account,
     /// The exits that were taken and not entered, oldest first.
-    held: VecDeque<OwedExit<I>>,
+    pub held: VecDeque<OwedExit<I>>,
     operations: VecDeque<Operation>,
-    /// Shows the children that were restarted.
-    witness: Witness,
+    /// Shows the children that were restarted by the handle's calls.
+    pub witness: Witness,
     restarts: Restarts,
     /// Whether memory was refused at the last turn.
     is_starved: bool,
-    fault: Option<UpdateFault>,
+    /// The fault that stopped it.
+    pub fault: Option<UpdateFault>,
     ghost of_ledger: { (witness.ledger ≡ I.ledger) × (entered.ledger ≡ I.ledger) },
     ghost at: { length entered.places ≡ 1 },
     ghost restarted: { HasReplies number_restarted N.template handle (numbers_of witness.shown) },
@@ -44,29 +47,6 @@ pub struct Driver<'d, N: Name, D, I: Office> {
     ghost given: { AreGiven I.may_give handle.calls },
     ghost led: { IsLed I.may_end handle.calls entered.paid [] },
     ghost room: { 64 ≤ deque_capacity held },
-}
-
-/// What a driver leaves.
-#[derive(Drop)]
-pub struct Driven<N: Name, I: Office> {
-    /// Its handle without its desk.
-    pub caller: Caller<N>,
-    /// The account by which the exits are paid that the handle entered.
-    pub entered: Account,
-    /// The exits that were taken and not entered.
-    pub held: VecDeque<OwedExit<I>>,
-    /// What was replied.
-    pub tally: Tally,
-    /// The fault that stopped it.
-    pub fault: Option<UpdateFault>,
-    /// Shows the children that were restarted by the handle's calls.
-    pub witness: Witness,
-    ghost of_ledger: { (witness.ledger ≡ I.ledger) × (entered.ledger ≡ I.ledger) },
-    ghost at: { length entered.places ≡ 1 },
-    ghost restarted: { HasReplies number_restarted N.template caller (numbers_of witness.shown) },
-    ghost driven: { are_driven caller.calls ≡ true },
-    ghost given: { AreGiven I.may_give caller.calls },
-    ghost led: { IsLed I.may_end caller.calls entered.paid [] },
 }
 
 /// What a driver waits for while the crew closes.
@@ -308,26 +288,17 @@ impl<'d, N: Name, S: Starter + Drop, Q: Wait + Drop, J: Journal + Drop, I: Offic
 
     /// Drives the crew until it is to close, and closes it: stops the supervisor, asks all children to end, lets them go when
     /// their grace is over, and enters their exits until all workers have gone.
-    pub fn drive<B: Behaviour, P: Host>(self, yard: &Crew<'_, I, B, P>) -> Driven<N, I> {
-        let mut driver = self;
+    pub fn drive<B: Behaviour, P: Host>(&mut self, yard: &Crew<'_, I, B, P>) {
         for _ in yard.hub.rt.forever() {
-            if driver.turn(yard) {
+            if self.turn(yard) {
                 break;
             }
         }
-        driver.close(yard);
-        driver.end()
+        self.close(yard);
     }
 
-    /// Ends the driver, and returns what it leaves.
-    fn end(self) -> Driven<N, I> {
-        Driven {
-            caller: self.handle.unbind().0,
-            entered: self.entered,
-            held: self.held,
-            tally: self.restarts.tally,
-            fault: self.fault,
-            witness: self.witness,
-        }
+    /// Returns what was replied so far.
+    pub fn tally(&self) -> Tally {
+        self.restarts.tally
     }
 }

@@ -7,9 +7,9 @@
 //! the crew, stops the supervisor, and returns once all workers have gone.
 //!
 //! ```text
-//! let driver = Driver::new(rt.alloc(), desk.handle(&rt)?, account, hub.ledger.witness(), Duration::from_secs(1))?;
+//! let mut driver = Driver::new(rt.alloc(), desk.handle(&rt)?, account, hub.ledger.witness(), Duration::from_secs(1))?;
 //! // in a thread of its own, beside the workers
-//! let driven = driver.drive(&yard);
+//! driver.drive(&yard);
 //! ```
 //!
 //! What the layer above may rely on: the calls of the driver's handle are exits, later tries of restarts and the stop, and
@@ -21,5 +21,5 @@ mod driver;
 mod lead;
 mod restarts;
 
-pub use driver::{Driven, Driver};
+pub use driver::Driver;
 pub use restarts::Tally;

@@ -36,7 +36,7 @@ pub enum OpenFault {
     #[error("out of memory")]
     OutOfMemory,
     /// The file was not opened or read.
-    #[error("the journal's file could not be read: {0}")]
+    #[error("the journal's file could not be opened or read: {0}")]
     File(ErrorKind),
     /// The file's torn last line was not cut off.
     #[error("the journal's file could not be cut: {0}")]

@@ -1,22 +1,19 @@
 -- The children that a crew made are those whose exits were told.
-use Rattle.std.proofs.Common.{◌≡◌, ℕ, Option, zero, suc, Bool, true, List, [], ◌∷◌, ◌++◌, length, refl, ap, sym, ◌∙◌, subst, arith, append-nil}
-use Rattle.std.specs.Prelude.{All}
+use Rattle.std.proofs.Common.{◌≡◌, ℕ, zero, suc, Bool, List, [], ◌∷◌, ◌++◌, length, refl, ap, sym, ◌∙◌, subst, arith, append-nil}
 use Rattle.sup_types.specs.declared.reason.Reason.{Reason}
 use Rattle.sup_types.specs.declared.template.Template.{Template}
 use Rattle.sup_types.specs.declared.history.Entry.{Entry}
-use Rattle.sup_types.specs.declared.history.Operation.{Operation}
 use Rattle.sup_desk.specs.Knowledge.{Knowledge}
 use Rattle.sup_ledger.specs.declared.child.Child.{Child}
 use Rattle.sup_ledger.specs.declared.exit.Exit.{Exit}
 use Rattle.sup_ledger.specs.Endings.{AreEndings}
 use Rattle.sup_ledger.specs.Exits.{children_of, operations_of}
 use Rattle.sup_ledger.specs.Holdings.{weigh, AreAmong}
-use Rattle.sup_yard.specs.Starts.{HasReplies, HasStarted}
+use Rattle.sup_yard.specs.Starts.{HasReplies}
 use Rattle.sup_yard.specs.Totals.{IsAccounted}
 use Rattle.sup_driver.specs.Leads.{exits_among, told_by, AreExitsEnding, IsLed}
 use Rattle.sup_driver.specs.Restarts.{number_restarted, numbers_of}
-use Rattle.sup_live.specs.Accounts.{IsToldOf}
-use Rattle.sup_live.specs.Peers.{AreStartedBy}
+use Rattle.sup_live.specs.Accounts.{AreStartedBy, IsToldOf}
 
 operations_length : (xs : List Exit) → length (operations_of xs) ≡ length xs
 operations_length [] = refl
@@ -45,10 +42,10 @@ module _ (may_end : Reason → Bool) (calls : List Entry) (paid : List Child) wh
       subst (AreExitsEnding may_end) (ap operations_of (sym (append-nil told)) ∙ sym are) (operations_ending may_end told endings)
 
 -- the account of a crew
-pub told_of : (peers : List (Option Knowledge)) (template : Template) (caller driver : Knowledge) (may_end : Reason → Bool) (paid : List Child) (left : List Exit) (shown started attended restarted : List Child) (made owed : ℕ)
+pub told_of : (template : Template) (clients : List Knowledge) (driver : Knowledge) (may_end : Reason → Bool) (paid : List Child) (left : List Exit) (shown started restarted : List Child) (made owed : ℕ)
     → IsAccounted paid (children_of left) shown made owed → IsLed may_end driver.calls paid []
-    → HasStarted template caller started → AreStartedBy template peers attended → HasReplies number_restarted template driver (numbers_of restarted) → shown ≡ started ++ attended ++ restarted → IsToldOf template caller driver peers left made owed
-told_of peers template caller driver may_end paid left shown started attended restarted made owed account (are, is, endings) caller_started peers_started driver_restarted all_shown =
+    → AreStartedBy template clients started → HasReplies number_restarted template driver (numbers_of restarted) → shown ≡ started ++ restarted → IsToldOf template clients driver left made owed
+told_of template clients driver may_end paid left shown started restarted made owed account (are, is, endings) clients_started driver_restarted all_shown =
     let told = told_by (exits_among driver.calls) paid in
     record {
       children = account.children;
@@ -59,9 +56,7 @@ told_of peers template caller driver may_end paid left shown started attended re
       entered_is = are ∙ ap operations_of (append-nil told);
       adds_up = λ h. let a = account.adds_up h in let b = ap (weigh h) is in omega (arith, a, b);
       started = started;
-      caller_started = caller_started;
-      attended = attended;
-      peers_started = peers_started;
+      clients_started = clients_started;
       restarted = restarted;
       driver_restarted = driver_restarted;
       among = subst (λ l. AreAmong l account.children) all_shown account.among;

@@ -1,31 +1,35 @@
--- The children that peers started, as the peers are joined one by one.
-use Rattle.std.proofs.Common.{◌≡◌, List, [], ◌∷◌, ◌++◌, Option, Some, None, map, refl, ap, sym, ◌∙◌, subst, append-nil, append_assoc}
-use Rattle.std.proofs.lemmas.List.{map-append}
-use Rattle.std.proofs.lemmas.Option.{none-some, same_Some}
+-- The children that clients started, as the clients are let go one by one.
+use Rattle.std.proofs.Common.{◌≡◌, List, [], ◌∷◌, ◌++◌, ap, sym, ◌∙◌, append-nil, append_assoc}
+use Rattle.std.specs.Prelude.{All}
+use Rattle.std.proofs.lemmas.List.Elements.{All-nil, All-cons, All-head, All-tail}
+use mathlib.Core.List.{IsPrefix}
 use Rattle.sup_types.specs.declared.template.Template.{Template}
-use Rattle.sup_desk.specs.Knowledge.{Knowledge}
+use Rattle.sup_types.specs.declared.history.Entry.{Entry}
+use Rattle.sup_desk.specs.Knowledge.{Knowledge, entries_of}
 use Rattle.sup_ledger.specs.declared.child.Child.{Child}
-use Rattle.sup_yard.specs.Starts.{HasStarted}
-use Rattle.sup_live.specs.Peers.{IsStartedBy, AreStartedBy}
+use Rattle.sup_yard.specs.Starts.{HasStarted, replies_to, child_started}
+use Rattle.sup_live.specs.Accounts.{AreStartedBy, started_by}
 
--- a peer that ran, and one that did not
-pub by_caller : (template : Template) (peer : Option Knowledge) (caller : Knowledge) (children : List Child) → peer ≡ Some caller → HasStarted template caller children → IsStartedBy template peer children
-by_caller template peer caller children ran started =
-    (λ own same. subst (λ k. HasStarted template k children) (same_Some caller own (sym ran ∙ same)) started, λ none. absurd (none-some caller (sym none ∙ ran)))
+started_by-append : (template : Template) (front : List Entry) (cs : List Knowledge) (c : Knowledge)
+    → started_by template front (cs ++ c ∷ []) ≡ started_by template front cs ++ replies_to child_started template front c.number
+started_by-append template front [] c = append-nil (replies_to child_started template front c.number)
+started_by-append template front (d ∷ cs) c =
+    let theirs = replies_to child_started template front d.number in
+    ap (λ l. theirs ++ l) (started_by-append template front cs c) ∙ sym (append_assoc theirs (started_by template front cs) (replies_to child_started template front c.number))
 
-pub by_nobody : (template : Template) (peer : Option Knowledge) (children : List Child) → peer ≡ None → children ≡ [] → IsStartedBy template peer children
-by_nobody template peer children away none = (λ own same. absurd (none-some own (sym away ∙ same)), λ _. none)
+module _ {X : Type 0} (P : X → Type 0) where
+  all_left : (xs : List X) (x : X) → All P (xs ++ x ∷ []) → All P xs
+  all_left [] x h = All-nil P
+  all_left (y ∷ ys) x h = All-cons P y ys (All-head P y (ys ++ x ∷ []) h) (all_left ys x (All-tail P y (ys ++ x ∷ []) h))
 
-module _ (template : Template) where
-  more : (ps : List (Option Knowledge)) (p : Option Knowledge) (children own : List Child) → AreStartedBy template ps children → IsStartedBy template p own → AreStartedBy template (ps ++ p ∷ []) (children ++ own)
-  more [] p children own none by = (own, [], ap (λ l. l ++ own) none ∙ sym (append-nil own), by, refl)
-  more (q ∷ ps) p children own started by =
-      let theirs = started.0 in
-      let rest = started.1 in
-      (theirs, rest ++ own, ap (λ l. l ++ own) started.2 ∙ append_assoc theirs rest own, started.3, more ps p rest own started.4 by)
+  last_holds : (xs : List X) (x : X) → All P (xs ++ x ∷ []) → P x
+  last_holds [] x h = All-head P x [] h
+  last_holds (y ∷ ys) x h = last_holds ys x (All-tail P y (ys ++ x ∷ []) h)
 
-  -- one peer more, of any kind
-  pub one_peer_more : {A : Type 0} (f : A → Option Knowledge) (ps : List A) (p : A) (children own : List Child) → AreStartedBy template (map f ps) children → IsStartedBy template (f p) own
-      → AreStartedBy template (map f (ps ++ p ∷ [])) (children ++ own)
-  one_peer_more f ps p children own started by =
-      subst (λ l. AreStartedBy template l (children ++ own)) (sym (map-append f ps (p ∷ []))) (more (map f ps) (f p) children own started by)
+-- one client more
+pub one_client_more : (template : Template) (cs : List Knowledge) (c : Knowledge) (children own : List Child)
+    → AreStartedBy template cs children → HasStarted template c own → AreStartedBy template (cs ++ c ∷ []) (children ++ own)
+one_client_more template cs c children own started by front seen =
+    let P = λ (k : Knowledge). IsPrefix k.front front × (entries_of front k.number ≡ k.calls) in
+    let last = last_holds P cs c seen in
+    ap (λ l. l ++ own) (started front (all_left P cs c seen)) ∙ ap (λ l. started_by template front cs ++ l) (by front last.0 last.1) ∙ sym (started_by-append template front cs c)

@@ -1,5 +1,4 @@
 pub mod Accounts
 pub mod Clients
 pub mod Faults
-pub mod Peers
 pub mod Wholes

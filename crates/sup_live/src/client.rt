@@ -99,7 +99,9 @@ pub trait LiveClient<B: Behaviour>: Drop {
 
     /// Sends to the child with this number. The message comes back if no such child is alive, if it was asked to end, or if memory
     /// runs out.
-    final fn send(&self, number: u64, message: B::Message) -> Result<(), B::Message> {
+    final fn send(&self, number: u64, message: B::Message) -> Result<(), B::Message>
+        ensures { IfErr result (λ back. back ≡ message) }
+    {
         match self.address(number) {
             Some(address) => match address.send(message) {
                 Ok(()) => Ok(()),

@@ -1,28 +1,23 @@
 //! The client of a crew: a handle of its desk, with the right to run children.
 ghost use Rattle.std.specs.Prelude.{◌≡◌, []};
-ghost use Rattle.sup_yard.specs.Starts.{HasStarted};
 
 use crate::client::LiveClient;
+use crate::left::Returned;
 use crate::started::{NotStarted, Started};
 use futures::Future;
 use std::marker::Model;
-use std::sync::{Mutex, Wait};
+use std::sync::Wait;
 use std::time::{Clock, Duration, Instant};
-use sup_desk::{
-    Asker, Caller, Desk, Done, HandleFault, HandleOf, Journal, Name, QueryFault, UpdateFault,
-};
+use sup_desk::{Asker, Desk, Done, HandleFault, HandleOf, Journal, Name, QueryFault, UpdateFault};
 use sup_ledger::Witness;
 use sup_log::{NoPlace, Ticket, View};
 use sup_types::{Counts, Reply, Row, Seen, Starter, Text};
 use sup_yard::{Alive, Behaviour, ChildRef, Host, Office, Yard};
 
-/// Where the clients that clients made leave their handles, for an audit.
-pub(crate) type Returned<N> = Mutex<Vec<Caller<N>>>;
-
 /// A client of a crew. It does not give its handle out while it is one: an exit that was entered past the crew would be a second
 /// one. When it is let go, its handle is returned.
 pub(crate) struct Client<'t, 'o, 'h, 'd, N: Name, D, I: Office, B: Behaviour, P: Host, F: Future> {
-    returned: &'o Returned<N>,
+    returned: &'o Returned<N, I>,
     desk: &'d D,
     handle: HandleOf<'d, N, D>,
     yard: &'t Yard<'h, I, B, P, F>,
@@ -71,7 +66,7 @@ impl<'t, 'o, 'h, 'd, N: Name, D, I: Office, B: Behaviour, P: Host, F: Future> Cl
         desk: &'d D,
         handle: HandleOf<'d, N, D>,
         yard: &'t Yard<'h, I, B, P, F>,
-        returned: &'o Returned<N>,
+        returned: &'o Returned<N, I>,
     ) -> Client<'t, 'o, 'h, 'd, N, D, I, B, P, F>
         requires { handle.calls ≡ [] }
         ensures { result ≡ handle.entry }
@@ -84,32 +79,22 @@ impl<'t, 'o, 'h, 'd, N: Name, D, I: Office, B: Behaviour, P: Host, F: Future> Cl
             witness: yard.hub.ledger.witness(),
         }
     }
-
-    /// Returns its handle, for an audit once the crew has closed, and a witness of the crew's ledger, which shows the children that
-    /// it started.
-    pub(crate) fn parts(self) -> (Caller<N>, Witness)
-        ensures handle { result.0 ≡ self.entry }
-        ensures ledger { result.1.ledger ≡ I.ledger }
-        ensures started { HasStarted N.template result.0 result.1.shown }
-    {
-        let Client {
-            returned: _,
-            desk: _,
-            handle,
-            yard: _,
-            witness,
-        } = self;
-        (handle.unbind().0, witness)
-    }
 }
 
 impl<'t, 'o, 'h, 'd, N: Name, D, I: Office, B: Behaviour, P: Host, F: Future> Drop
     for Client<'t, 'o, 'h, 'd, N, D, I, B, P, F> {
     fn drop(self) {
-        let (rt, returned) = (&self.yard.hub.rt, self.returned);
-        let (caller, _) = self.parts();
-        // If memory runs out, it is lost, which an audit says.
-        let _ = returned.lock(rt).push(caller);
+        let Client {
+            returned,
+            desk: _,
+            handle,
+            yard,
+            witness,
+        } = self;
+        let hub = yard.hub;
+        returned
+            .lock(&hub.rt)
+            .add(&hub.ledger, handle.unbind().0, witness);
     }
 }
 

@@ -2,7 +2,7 @@
 //!
 //! A [`Behaviour`] makes a child: a future of the kit's `futures`, which reads its [`Mailbox`] and is ready with the reason of
 //! its end. A [`Program`] has a client, of any type `C: LiveClient<B>`: by it, it starts children, sends to them, ends them, asks
-//! about them, and makes other clients. [`on_crew`] makes a desk, runs a program in the calling thread, and audits the history.
+//! about them, and makes other clients and askers. [`on_crew`] makes a desk, runs a program in the calling thread, and audits the history.
 //! [`on_crew_with`] also runs peers, each in a thread of its own by a client of its own. Beside them a driver enters the exits, runs
 //! children that were restarted at once under their new number, and tries failed restarts again. Few worker threads poll all
 //! children. Whoever runs a crew so writes no proof.
@@ -15,11 +15,10 @@
 //! }
 //! ```
 //!
-//! [`run_live`] runs a crew over a desk that was made by hand, [`run_over`] also audits it, and [`on_journaled_crew`] makes one
-//! with a journal. Children that the history lists from an earlier run begin again under their numbers.
+//! [`run_over`] runs a crew over a desk that was made by hand, and [`on_journaled_crew`] makes one with a journal. Children that the history lists from an earlier run begin again under their numbers.
 //!
 //! What the layer above may rely on: an update by a client has the contract of a handle's, and a query that of an asker's. What
-//! the driver entered, and what became of each child and of each exit, [`run_live`] says.
+//! the driver entered, and what became of each child and of each exit, [`run_over`] says.
 //!
 //! That a child is polled, that a message comes, that a thread wakes, and that a crew closes is promised by no contract: the
 //! kit's executor and channels are trusted for it, and tests show it. So no contract says that a child ends:
@@ -28,6 +27,7 @@
 
 mod client;
 mod crew_client;
+mod left;
 mod own_desk;
 mod peers;
 mod plan;
@@ -38,11 +38,11 @@ mod started;
 mod threads;
 
 pub use client::{LiveClient, Nobody, Program};
-pub use own_desk::{CrewReport, on_crew, on_crew_with, on_journaled_crew, run_over};
-pub use peers::{NotRun, Peer, Ran};
+pub use own_desk::{on_crew, on_crew_with, on_journaled_crew};
+pub use peers::NotRun;
 pub use plan::{LiveFault, Plan};
-pub use report::Report;
-pub use run::run_live;
+pub use report::CrewReport;
+pub use run::run_over;
 pub use started::{NotStarted, Started};
 pub use sup_driver::Tally;
 pub use sup_yard::{Behaviour, ChildRef, End, Exit, Gone, Mailbox, Moment, Moments, Timer};

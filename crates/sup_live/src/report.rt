@@ -1,32 +1,26 @@
 //! What a crew did.
-ghost use Rattle.std.specs.Prelude.{◌≡◌, ◌↔◌, true, IsTrue, length, map, vec_len};
-ghost use Rattle.sup_ledger.specs.Endings.{AreEndings};
-ghost use Rattle.sup_yard.specs.Clocks.{AreGiven};
-ghost use Rattle.sup_driver.specs.Leads.{exits_among, are_driven, AreExitsEnding};
-ghost use Rattle.sup_live.specs.Accounts.{IsToldOf};
-ghost use Rattle.sup_live.specs.Peers.{caller_of, AreStartedBy};
+ghost use Rattle.std.specs.Prelude.{◌≡◌, ◌+◌, ◌≤◌, ◌↔◌, [], ◌∷◌, ◌++◌, IsTrue, IsSome, IfSome, vec_len, vec_capacity};
+ghost use Rattle.sup_live.specs.Wholes.{IsCrewReport, IsWhole};
 
-use crate::peers::Peer;
+use crate::left::Left;
+use crate::peers::NotRun;
 use crate::threads::Joined;
 use std::alloc::Global;
-use sup_desk::{Caller, Name, UpdateFault};
+use std::sync::Wait;
+use sup_desk::{Caller, Desk, Handle, Journal, Name, UpdateFault};
 use sup_driver::Tally;
+use sup_log::Ticket;
+use sup_types::Starter;
 use sup_yard::{Behaviour, Exit, Host, Hub, Office};
 
 /// What a crew did, once all its threads were joined. Each child that it made has one exit, which was entered or is in the list, or
 /// is among those that are owed.
 #[derive(Drop)]
-pub struct Report<N: Name, T: Drop, U: Drop = ()> {
+pub struct CrewReport<T: Drop, U: Drop = ()> {
     /// What came of the program.
     pub outcome: T,
-    /// The driver's handle, by which exits, tries and the crew's own stop were entered.
-    pub driver: Caller<N>,
-    /// The handle of the program's client.
-    pub caller: Caller<N>,
-    /// What became of each peer, in their order.
-    pub peers: Vec<Peer<N, U>>,
-    /// The handles of the clients that clients made (see `LiveClient::another`).
-    pub returned: Vec<Caller<N>>,
+    /// What came of each peer, in their order, or why it did not run.
+    pub peers: Vec<Result<U, NotRun>>,
     /// How many children were made: by clients, restarts and later tries.
     pub made: u64,
     /// How many exits the driver entered.
@@ -41,56 +35,102 @@ pub struct Report<N: Name, T: Drop, U: Drop = ()> {
     pub owed: u64,
     /// The fault that stopped the driver.
     pub fault: Option<UpdateFault>,
+    /// A ticket for the whole history, if it is the calls of the driver, of the clients and of the earlier handles, and nothing
+    /// else, as the audit showed. None also if memory was refused for the audit.
+    pub audit: Option<Ticket>,
 }
 
-impl<N: Name, T: Drop, U: Drop> Report<N, T, U> {
-    /// Returns how many exits were not entered, and are in the list.
-    pub fn not_entered(&self) -> u64
-        ensures { result ≡ vec_len self.now.left }
-    {
-        self.left.len() as u64
-    }
-
+impl<T: Drop, U: Drop> CrewReport<T, U> {
     /// Returns whether each child that was made has an exit that was entered or is in the list, and no other has.
     pub fn adds_up(&self) -> bool
         ensures { IsTrue result ↔ (self.now.owed ≡ 0) }
     {
         self.owed == 0
     }
+
+    /// Returns whether the history is the calls of the driver, of the clients and of the earlier handles, and nothing else.
+    pub fn is_audited(&self) -> bool
+        ensures { IsTrue result ↔ IsSome self.now.audit }
+    {
+        self.audit.is_some()
+    }
 }
 
-/// Says what the crew did.
-pub(crate) fn make_report<N: Name, I: Office, B: Behaviour, P: Host, T: Drop, U: Drop>(
+/// Says what the crew did, and audits its desk, whose earlier handles these are.
+pub(crate) fn conclude<'d, N, S, Q, J, I, B, P, T, U>(
     alloc: Global,
+    desk: &'d Desk<N, S, Q, J>,
     hub: Hub<I, B, P>,
-    joined: Joined<N, I, T, U>,
-    returned: Vec<Caller<N>>,
-) -> Report<N, T, U>
-    requires attended { AreStartedBy N.template (map caller_of joined.peers.items) joined.others.shown }
-    ensures driven { are_driven result.driver.calls ≡ true }
-    ensures given { AreGiven I.may_give result.driver.calls }
-    ensures counted { result.exits ≡ length (exits_among result.driver.calls) }
-    ensures endings { AreExitsEnding I.may_end (exits_among result.driver.calls) × AreEndings I.may_end result.left.items }
-    ensures account { IsToldOf N.template result.caller result.driver (map caller_of result.peers.items) result.left.items result.made result.owed }
-    ensures peers { vec_len result.peers ≡ vec_len joined.peers }
+    joined: Joined<'d, N, Desk<N, S, Q, J>, I, T, U>,
+    clients: Left<N, I>,
+    before: Vec<Handle<'d, N, S, Q, J>>,
+) -> CrewReport<T, U>
+where
+    N: Name,
+    S: Starter + Drop,
+    Q: Wait + Drop,
+    J: Journal + Drop,
+    I: Office,
+    B: Behaviour,
+    P: Host,
+    T: Drop,
+    U: Drop,
+    ensures { IsCrewReport I.may_end I.may_give N.template (vec_len joined.entry.peers) result }
 {
-    let driven = joined.driven;
-    let mut witness = joined.witness;
-    hub.ledger.show(&mut witness, joined.others);
-    hub.ledger.show(&mut witness, driven.witness);
-    let exits = driven.entered.paid();
-    let (left, totals) = hub.settle(alloc, driven.entered, driven.held, witness);
-    Report {
+    let driver = joined.driver;
+    let (tally, exits) = (driver.tally(), driver.entered.paid());
+    let mut witness = clients.witness;
+    hub.ledger.show(&mut witness, driver.witness);
+    let audit = audited(&hub.rt, desk, before, driver.handle, clients.callers);
+    let (left, totals) = hub.settle(alloc, driver.entered, driver.held, witness);
+    CrewReport {
         outcome: joined.outcome,
-        driver: driven.caller,
-        caller: joined.caller,
         peers: joined.peers,
-        returned,
         made: totals.made,
         exits,
-        tally: driven.tally,
+        tally,
         left,
         owed: totals.owed,
-        fault: driven.fault,
+        fault: driver.fault,
+        audit,
     }
+}
+
+/// Adds the handles of these callers to those that there are. There is room for them.
+pub(crate) fn bind_all<'d, N: Name, S: Starter + Drop, Q: Wait + Drop, J: Journal + Drop>(
+    desk: &'d Desk<N, S, Q, J>,
+    handles: Vec<Handle<'d, N, S, Q, J>>,
+    callers: Vec<Caller<N>>,
+) -> Vec<Handle<'d, N, S, Q, J>>
+    requires { vec_len handles + vec_len callers ≤ vec_capacity handles }
+    ensures { result.items ≡ handles.entry.items ++ callers.items }
+{
+    let mut handles = handles;
+    for caller in callers {
+        handles.push_reserved(desk.bind(caller));
+    }
+    handles
+}
+
+/// Shows that the history is the calls of the driver, of the clients and of the earlier handles, and nothing else, and returns a
+/// ticket for it.
+fn audited<'d, N: Name, S: Starter + Drop, Q: Wait + Drop, J: Journal + Drop, R: Wait>(
+    rt: &R,
+    desk: &'d Desk<N, S, Q, J>,
+    before: Vec<Handle<'d, N, S, Q, J>>,
+    driver: Handle<'d, N, S, Q, J>,
+    clients: Vec<Caller<N>>,
+) -> Option<Ticket>
+    ensures { IfSome result (λ t. IsWhole ((before.entry.items ++ driver.entry ∷ []) ++ clients.items) t.front) }
+{
+    let more = clients.len().checked_add(1)?;
+    let mut handles = before;
+    handles.reserve(more).ok()?;
+    handles.push_reserved(driver);
+    let mut handles = bind_all(desk, handles, clients);
+    handles.sort_unstable_by_key(|handle| handle.number());
+    if !Handle::are_in_order(handles.as_slice()) {
+        return None;
+    }
+    desk.audit(rt, handles.as_mut_slice()).ok()
 }

@@ -1,24 +1,20 @@
 //! Runs.
-ghost use Rattle.std.specs.Prelude.{◌≡◌, ◌<◌, ◌≤◌, ◌+◌, map, IfOk, vec_len};
+ghost use Rattle.std.specs.Prelude.{◌≡◌, ◌<◌, ◌≤◌, ◌+◌, [], IfOk, vec_len, vec_capacity};
 ghost use Rattle.sup_ledger.specs.Accounts.{IsNew};
-ghost use Rattle.sup_yard.specs.Clocks.{AreGiven};
-ghost use Rattle.sup_live.specs.Peers.{caller_of, AreStartedBy};
-ghost use Rattle.sup_live.specs.Wholes.{IsReport};
+ghost use Rattle.sup_live.specs.Wholes.{IsCrewReport};
 
 use crate::client::Program;
-use crate::crew_client::Returned;
 use crate::plan::{LiveFault, Plan};
-use crate::report::{Report, make_report};
-use crate::resume::resume;
-use crate::threads::{Ends, Joined, run_threads};
+use crate::report::{CrewReport, bind_all, conclude};
+use crate::threads::{Ends, run_threads};
 use futures::Future;
-use std::alloc::{AllocGlobal, Global};
+use std::alloc::AllocGlobal;
 use std::marker::Brand;
 use std::random::RandomSource;
-use std::sync::{Mutex, Wait};
+use std::sync::Wait;
 use std::thread::Threads;
 use std::time::Clock;
-use sup_desk::{Desk, Journal, Name};
+use sup_desk::{Caller, Desk, Handle, Journal, Name};
 use sup_driver::Driver;
 use sup_ledger::{Account, Ledger};
 use sup_types::Starter;
@@ -30,52 +26,19 @@ fn end_yard<'h, I: Office, B: Behaviour, P: Host, F: Future>(yard: Yard<'h, I, B
     drop(yard);
 }
 
-/// Begins the children of an earlier run, and runs the threads.
-fn resume_threads<'h, 'd, N, S, Q, J, I, B, P, T, U>(
-    desk: &'d Desk<N, S, Q, J>,
-    yard: &Crew<'h, I, B, P>,
-    returned: &Returned<N>,
-    ends: Ends<'d, N, Desk<N, S, Q, J>, I>,
-    program: T,
-    peers: Vec<U>,
-    workers: usize,
-) -> Result<Joined<N, I, T::Outcome, U::Outcome>, LiveFault>
-where
-    N: Name + Send + Sync,
-    S: Starter + Drop + Send + Sync,
-    Q: Wait + Drop + Send + Sync,
-    J: Journal + Drop + Send,
-    I: Office + Send + Sync,
-    B: Behaviour + Sync,
-    B::Message: Send,
-    B::Own: Send,
-    B::Child: Send,
-    P: Host + Send + Sync,
-    T: Program<B> + Drop,
-    U: Program<B> + Drop + Send,
-    U::Outcome: Send,
-    ensures { IfOk result (λ j. (vec_len j.peers ≡ vec_len peers) × AreStartedBy N.template (map caller_of j.peers.items) j.others.shown) }
-{
-    let mut ends = ends;
-    match resume(yard, &mut ends) {
-        Ok(()) => run_threads(desk, yard, returned, ends, program, peers, workers),
-        Err(fault) => Err(fault),
-    }
-}
-
-/// Runs the crew of an office.
-fn run_office<N, S, Q, J, I, B, T, U, R, M>(
+/// Runs the crew of an office, and audits its desk, whose earlier handles these are.
+fn run_office<'d, N, S, Q, J, I, B, T, U, R, M>(
     rt: &R,
-    alloc: Global,
-    desk: &Desk<N, S, Q, J>,
+    desk: &'d Desk<N, S, Q, J>,
     behaviour: &B,
     moments: M,
     plan: Plan,
     program: T,
     peers: Vec<U>,
+    before: Vec<Handle<'d, N, S, Q, J>>,
     ledger: Ledger,
     root: Account,
-) -> Result<Report<N, T::Outcome, U::Outcome>, LiveFault>
+) -> Result<CrewReport<T::Outcome, U::Outcome>, LiveFault>
 where
     N: Name + Send + Sync,
     S: Starter + Drop + Send + Sync,
@@ -96,25 +59,28 @@ where
     requires root { IsNew I.ledger I.places root }
     requires ends { I.may_end ≡ B.may_end behaviour.now }
     requires given { I.may_give ≡ M.may_give }
-    ensures report { IfOk result (λ r. IsReport (B.may_end behaviour.now) N.template (vec_len peers) r) }
-    ensures given { IfOk result (λ r. AreGiven M.may_give r.driver.calls) }
+    ensures { IfOk result (λ r. IsCrewReport (B.may_end behaviour.now) M.may_give N.template (vec_len peers) r) }
 {
-    let Plan { workers, grace, .. } = plan;
+    let (alloc, Plan { workers, grace, .. }) = (rt.alloc(), plan);
     let timed = Timed { rt, timer: moments };
     let (hub, account): (Hub<I, B, Timed<&R, M>>, Account) = Hub::new(
         timed, alloc, ledger, root, grace, workers,
     )?;
-    let returned = Mutex::new(Vec::new(alloc));
     let handle = desk.handle(rt)?;
-    let witness = hub.ledger.witness();
-    let driver = Driver::new(alloc, handle, account, witness, plan.retry_after)?;
+    let driver = Driver::new(
+        alloc,
+        handle,
+        account,
+        hub.ledger.witness(),
+        plan.retry_after,
+    )?;
     let handle = desk.handle(rt)?;
     let ends = Ends { driver, handle };
     let yard: Crew<'_, I, B, Timed<&R, M>> = Yard::new(rt, alloc, &hub, behaviour, workers)?;
-    let joined = resume_threads(desk, &yard, &returned, ends, program, peers, workers);
+    let ran = run_threads(desk, &yard, ends, program, peers, workers);
     end_yard(yard);
-    match joined {
-        Ok(joined) => Ok(make_report(alloc, hub, joined, returned.into_inner())),
+    match ran {
+        Ok((joined, clients)) => Ok(conclude(alloc, desk, hub, joined, clients, before)),
         Err(fault) => Err(fault),
     }
 }
@@ -135,29 +101,29 @@ where
 /// a child that was let go, `not_run` of one that could not be run. So has each exit that the report says was left.
 ///
 /// Each child that was made has one exit: the driver entered it, or the report has it as left, or counts it
-/// among those that are owed; and there is no other exit. Each child that the client of the program or of a peer started, and each
-/// that was restarted by the driver's calls, is one of the children that were made.
+/// among those that are owed; and there is no other exit. Each child that a client started, and each that was restarted by the
+/// driver's calls, is one of the children that were made.
 ///
 /// Children that the history lists when the run begins are of an earlier run. Each begins again under its number, with an empty
 /// mailbox, and is one of the children that were made. A restart that had failed is tried again.
 ///
 /// Two handles of the desk are used: the driver's, and that of the program's client. Each peer that runs takes one more, once its
-/// thread has begun. So the numbers of the peers' handles are in the order in which the threads began. The report has all of them,
-/// for an audit.
+/// thread has begun, and each client that a client makes. Then the desk is audited by all of them, and by the handles that were made
+/// before the run: those of these callers.
 ///
 /// # Errors
 /// Nothing was entered, and neither the program nor a peer was run: `OutOfMemory`; `NoThread`; `NoHandle` and `NoPlace` if the desk
 /// has not two more handles.
-pub fn run_live<N, S, Q, J, B, T, U, R, M>(
+pub fn run_over<N, S, Q, J, B, T, U, R, M>(
     rt: &R,
-    alloc: Global,
     desk: &Desk<N, S, Q, J>,
     behaviour: &B,
     moments: M,
     plan: Plan,
     program: T,
     peers: Vec<U>,
-) -> Result<Report<N, T::Outcome, U::Outcome>, LiveFault>
+    before: Vec<Caller<N>>,
+) -> Result<CrewReport<T::Outcome, U::Outcome>, LiveFault>
 where
     N: Name + Send + Sync,
     S: Starter + Drop + Send + Sync,
@@ -173,11 +139,14 @@ where
     R: Threads + Wait + Clock + RandomSource + AllocGlobal + Sync,
     M: Timer + Drop + Send + Sync,
     requires workers { (1 ≤ plan.workers) × (plan.workers ≤ 64) }
-    ensures report { IfOk result (λ r. IsReport (B.may_end behaviour.now) N.template (vec_len peers) r) }
-    ensures given { IfOk result (λ r. AreGiven M.may_give r.driver.calls) }
+    ensures { IfOk result (λ r. IsCrewReport (B.may_end behaviour.now) M.may_give N.template (vec_len peers) r) }
 {
-    let (ledger, root) = Ledger::new(alloc, plan.workers as u64 + 1)?;
+    // Room for the handles of the audit is made before the run, so that its end takes no memory.
+    let handles = before.len().saturating_add(peers.len()).saturating_add(2);
+    let room = Vec::with_capacity(rt.alloc(), handles)?;
+    let before = bind_all(desk, room, before);
+    let (ledger, root) = Ledger::new(rt.alloc(), plan.workers as u64 + 1)?;
     run_office::<N, S, Q, J, Brand, B, T, U, R, M>(
-        rt, alloc, desk, behaviour, moments, plan, program, peers, ledger, root,
+        rt, desk, behaviour, moments, plan, program, peers, before, ledger, root,
     )
 }

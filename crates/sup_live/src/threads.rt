@@ -1,19 +1,17 @@
 //! The threads of a crew: its workers, its driver, and those of its programs.
-ghost use Rattle.std.specs.Prelude.{◌≡◌, ◌≤◌, [], map, IfOk, vec_len, vec_capacity};
+ghost use Rattle.std.specs.Prelude.{◌≡◌, ◌≤◌, [], IfOk, vec_len, vec_capacity};
 ghost use denote.Param.Send.{IsSend};
-ghost use Rattle.sup_yard.specs.Starts.{HasStarted};
-ghost use Rattle.sup_live.specs.Peers.{caller_of, AreStartedBy};
 
 use crate::client::Program;
-use crate::crew_client::Returned;
-use crate::peers::{Peer, join_peers, run_by_client, start_peers};
+use crate::left::Left;
+use crate::peers::{NotRun, join_peers, run_by_client, start_peers};
 use crate::plan::LiveFault;
-use std::sync::Wait;
+use crate::resume::resume;
+use std::sync::{Mutex, Wait};
 use std::thread;
 use std::thread::{JoinHandle, Scope};
-use sup_desk::{Caller, Desk, HandleOf, Journal, Name};
-use sup_driver::{Driven, Driver};
-use sup_ledger::Witness;
+use sup_desk::{Desk, HandleOf, Journal, Name};
+use sup_driver::Driver;
 use sup_types::Starter;
 use sup_yard::{Behaviour, Crew, Host, Office};
 
@@ -29,21 +27,13 @@ pub(crate) struct Ends<'d, N: Name, D, I: Office> {
 
 /// What is left once all threads were joined.
 #[derive(Drop)]
-pub(crate) struct Joined<N: Name, I: Office, T: Drop, U: Drop> {
-    /// What the driver did.
-    pub(crate) driven: Driven<N, I>,
-    /// The handle of the program's client, with the calls that it made.
-    pub(crate) caller: Caller<N>,
+pub(crate) struct Joined<'d, N: Name, D, I: Office, T: Drop, U: Drop> {
+    /// The driver.
+    pub(crate) driver: Driver<'d, N, D, I>,
     /// What came of the program.
     pub(crate) outcome: T,
-    /// What became of each peer, in their order.
-    pub(crate) peers: Vec<Peer<N, U>>,
-    /// Shows the children that the program's client started.
-    pub(crate) witness: Witness,
-    /// Shows the children that the peers' clients started.
-    pub(crate) others: Witness,
-    ghost of_ledger: { (witness.ledger ≡ I.ledger) × (others.ledger ≡ I.ledger) },
-    ghost started: { HasStarted N.template caller witness.shown },
+    /// What came of each peer, in their order.
+    pub(crate) peers: Vec<Result<U, NotRun>>,
 }
 
 /// Starts the workers, of which those that could not be started have gone, and the driver, or shuts the yard down.
@@ -52,7 +42,7 @@ fn start_crew<'s, 'h: 's, 'd: 's, E, N, S, Q, J, I, B, P>(
     yard: &'s Crew<'h, I, B, P>,
     workers: usize,
     driver: Driver<'d, N, Desk<N, S, Q, J>, I>,
-) -> Result<JoinHandle<Driven<N, I>>, LiveFault>
+) -> Result<JoinHandle<Driver<'d, N, Desk<N, S, Q, J>, I>>, LiveFault>
 where
     N: Name + Send + Sync + 's,
     S: Starter + Drop + Send + Sync + 's,
@@ -73,7 +63,12 @@ where
     if yard.hub.have_all_gone() {
         return Err(LiveFault::NoThread);
     }
-    match scope.spawn(move || driver.drive(yard)) {
+    let driving = move || {
+        let mut driver = driver;
+        driver.drive(yard);
+        driver
+    };
+    match scope.spawn(driving) {
         Ok(driving) => Ok(driving),
         Err(_) => {
             yard.shut_down();
@@ -82,16 +77,22 @@ where
     }
 }
 
-/// Starts the threads, runs the program, and joins the peers and the driver.
+/// Begins the children of an earlier run, starts the threads, runs the program, and joins the peers and the driver. Returns what is
+/// left of them, and what the clients left.
 pub(crate) fn run_threads<'h, 'd, N, S, Q, J, I, B, P, T, U>(
     desk: &'d Desk<N, S, Q, J>,
     yard: &Crew<'h, I, B, P>,
-    returned: &Returned<N>,
     ends: Ends<'d, N, Desk<N, S, Q, J>, I>,
     program: T,
     peers: Vec<U>,
     workers: usize,
-) -> Result<Joined<N, I, T::Outcome, U::Outcome>, LiveFault>
+) -> Result<
+    (
+        Joined<'d, N, Desk<N, S, Q, J>, I, T::Outcome, U::Outcome>,
+        Left<N, I>,
+    ),
+    LiveFault,
+>
 where
     N: Name + Send + Sync,
     S: Starter + Drop + Send + Sync,
@@ -106,49 +107,43 @@ where
     T: Program<B> + Drop,
     U: Program<B> + Drop + Send,
     U::Outcome: Send,
-    ensures { IfOk result (λ j. (vec_len j.peers ≡ vec_len peers) × AreStartedBy N.template (map caller_of j.peers.items) j.others.shown) }
+    ensures { IfOk result (λ r. vec_len r.0.peers ≡ vec_len peers) }
 {
-    thread::scope(
+    let clients = peers.len().saturating_add(1);
+    let left = Mutex::new(Left::new(yard.alloc, yard.hub.ledger.witness(), clients)?);
+    let mut ends = ends;
+    resume(yard, &mut ends)?;
+    let returned = &left;
+    let joined = thread::scope(
         thread::scope_env(),
         &yard.hub.rt,
-        move |scope| -> Result<Joined<N, I, T::Outcome, U::Outcome>, LiveFault>
+        move |scope| -> Result<Joined<N, Desk<N, S, Q, J>, I, T::Outcome, U::Outcome>, LiveFault>
             requires threads { IsSend N.row × IsSend S.row × IsSend Q.row × IsSend J.row × IsSend I.row × IsSend P.row }
             requires children { IsSend B.Message.row × IsSend B.Own.row × IsSend B.Child.row }
             requires peers { IsSend U.row × IsSend U.Outcome.row }
-            ensures { IfOk result (λ j. (vec_len j.peers ≡ vec_len peers) × AreStartedBy N.template (map caller_of j.peers.items) j.others.shown) }
+            ensures { IfOk result (λ j. vec_len j.peers ≡ vec_len peers) }
         {
             let (hub, alloc) = (yard.hub, yard.alloc);
-            let Ok(threads) = Vec::with_capacity(alloc, peers.len()) else {
-                return Err(LiveFault::OutOfMemory);
-            };
-            let Ok(room) = Vec::with_capacity(alloc, peers.len()) else {
-                return Err(LiveFault::OutOfMemory);
-            };
+            let threads = Vec::with_capacity(alloc, peers.len())?;
+            let room = Vec::with_capacity(alloc, peers.len())?;
             // While these are there, workers wait for children that are still to come.
-            let Ok(holds) = yard.hold() else {
-                return Err(LiveFault::OutOfMemory);
-            };
+            let holds = yard.hold()?;
             // The whole of it is moved in, with what it says of the handle.
             let ends = ends;
             let Ends { driver, handle } = ends;
-            let driving = match start_crew(scope, yard, workers, driver) {
-                Ok(driving) => driving,
-                Err(fault) => return Err(fault),
-            };
+            let driving = start_crew(scope, yard, workers, driver)?;
             let threads = start_peers(scope, desk, yard, returned, peers, threads);
-            let (outcome, caller, witness) = run_by_client(desk, handle, yard, returned, program);
-            let (peers, others) = join_peers(hub, threads, room);
+            let outcome = run_by_client(desk, handle, yard, returned, program);
+            let peers = join_peers(&hub.rt, threads, room);
             hub.close();
-            let driven = driving.join(&hub.rt);
+            let driver = driving.join(&hub.rt);
             drop(holds);
             Ok(Joined {
-                driven,
-                caller,
+                driver,
                 outcome,
                 peers,
-                witness,
-                others,
             })
         },
-    )
+    );
+    Ok((joined?, left.into_inner()))
 }

@@ -1,14 +1,11 @@
-use Rattle.std.proofs.Common.{◌≡◌, ◌+◌, ◌≤◌, map}
+use Rattle.std.proofs.Common.{◌≡◌, ◌+◌, ◌≤◌}
 use Rattle.std.specs.Prelude.{vec_len}
 use Rattle.std.specs.Vec.{vec_capacity}
 use Rattle.std.specs.Vec.Iter.{into_iter_len}
-use Rattle.sup_live.specs.Peers.{caller_of, AreStartedBy}
 use Rattle.sup_live.proofs.peers.join_peers.Given as goal
 
 abbrev pub invariant-loop-thread : goal.invariant-loop-thread
 invariant-loop-thread g l = record {
-  len : vec_len l.peers + into_iter_len l.thread-iterator ≡ vec_len l.fn.threads;
-  room : vec_len l.fn.threads ≤ vec_capacity l.peers;
-  ledger : l.witness.ledger ≡ g.I.Office.ledger;
-  started : AreStartedBy g.N.Name.template (map caller_of l.peers.items) l.witness.shown;
+  len : vec_len l.outcomes + into_iter_len l.thread-iterator ≡ vec_len l.fn.threads;
+  room : vec_len l.fn.threads ≤ vec_capacity l.outcomes;
 }

@@ -1,17 +1,10 @@
--- The office names the behaviour's test, and the timer's.
-use Rattle.std.proofs.Common.{rules}
+-- The office names the behaviour's test, and the timer's. There is an answer for each peer.
+use Rattle.std.proofs.Common.{subst}
+use Rattle.sup_live.specs.Wholes.{IsCrewReport}
 use Rattle.sup_live.proofs.run.run_office.Goals as goal
 
-pub returns-in-Ok-clause-report : goal.returns-in-Ok-clause-report
-returns-in-Ok-clause-report g c =
-    let told = c.make_report.ensures in
-    record {
-      driven = told.driven;
-      counted = told.counted;
-      endings = rw c.requires.ends at told.endings;
-      account = told.account;
-      peers_are = search rules;
-    }
-
-pub returns-in-Ok-clause-given : goal.returns-in-Ok-clause-given
-returns-in-Ok-clause-given g c = rw c.requires.given at c.make_report.ensures.given
+pub returns-in-Ok : goal.returns-in-Ok
+returns-in-Ok g c =
+    subst (λ n. IsCrewReport (g.B.Behaviour.may_end c.args.behaviour.now) g.M.Timer.may_give g.N.Name.template n c.conclude.result)
+    c.in-Ok.ensures
+    (rw c.requires.ends at rw c.requires.given at c.conclude.ensures)

@@ -2,5 +2,5 @@
 use denote.Param.Send.{sendable}
 use Rattle.sup_live.proofs.threads.run_threads.Goals as goal
 
-pub scoped-requires : goal.scoped-requires
-scoped-requires g c = record { at = λ _. (search sendable, search sendable) }
+pub scoped-joined-requires : goal.scoped-joined-requires
+scoped-joined-requires g c = record { at = λ _. (search sendable, search sendable) }

@@ -1,7 +1,7 @@
 -- A new ledger's account has as many places as the ledger.
 use Rattle.std.proofs.Common.{◌≡◌, ℕ, zero, suc, length, refl, ap, sym, ◌∙◌}
 use Rattle.sup_ledger.specs.Holdings.{numbers_from}
-use Rattle.sup_live.proofs.run.run_live.Goals as goal
+use Rattle.sup_live.proofs.run.run_over.Goals as goal
 
 length_numbers : (first n : ℕ) → length (numbers_from first n) ≡ n
 length_numbers first zero = refl
