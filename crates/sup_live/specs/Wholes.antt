@@ -1,5 +1,5 @@
--- What a crew did: its handles are named no more.
-use Rattle.std.specs.Prelude.{◌≡◌, ℕ, List, ◌∷◌, ◌++◌, true, length, All, Bool, IfSome, vec_len}
+-- What a crew did, and the handles of its desk.
+use Rattle.std.specs.Prelude.{◌≡◌, ◌⊎◌, ℕ, List, ◌∷◌, ◌++◌, true, length, All, Bool, IfSome, None, vec_len}
 use Rattle.std.specs.List.Sorted.{IsPermutation}
 use Rattle.sup_types.specs.declared.reason.Reason.{Reason}
 use Rattle.sup_types.specs.declared.template.Template.{Template}
@@ -24,19 +24,27 @@ pub record IsWhole (callers : List Knowledge) (history : List Entry) : Type 0 wh
   pub seen : HaveSeenAll history after (length after)
   pub all_made : All (λ entry. IsMade (length after) entry.handle) history
 
--- What the report of a crew says. There are handles, of the driver and of the clients: of the program's, of those of the peers that ran,
+-- All of these handles are at hand, in some order, and each may have seen more
+abbrev pub AreAtHand : List Knowledge → List Knowledge → Type 0
+AreAtHand all handles = (sorted : List Knowledge) × IsPermutation all sorted × AreGrown sorted handles
+
+-- What the report of a run says. There are handles, of the driver and of the clients: of the program's, of those of the peers that ran,
 -- and of those that clients made. The driver entered exits, later tries and the stop, and nothing else, each at a moment that
 -- the clock may give, and the count is that of its exits. Each exit that it entered, and each that is left, has a reason that a crew may
--- tell. The account is that of the children that were made. There is an answer for each peer. The audit shows that the history is the
--- calls of these handles and of those of before, and nothing else
-pub record IsCrewReport {T U : Type 0} (may_end : Reason → Bool) (may_give : ℕ → Bool) (template : Template) (peers : ℕ) (report : CrewReport T U) : Type 0 where
+-- tell. The account is that of the children that were made. There is an answer for each peer. All handles are at hand at the end, or,
+-- without an audit, the earlier ones alone. The audit shows that the history is the calls of all of them, and nothing else
+pub record IsReport {T U : Type 0} (may_end : Reason → Bool) (may_give : ℕ → Bool) (template : Template) (peers : ℕ) (before handles : List Knowledge) (report : CrewReport T U) : Type 0 where
   pub driver : Knowledge
   pub clients : List Knowledge
-  pub before : List Knowledge
   pub driven : are_driven driver.calls ≡ true
   pub given : AreGiven may_give driver.calls
   pub counted : report.exits ≡ length (exits_among driver.calls)
   pub endings : AreExitsEnding may_end (exits_among driver.calls) × AreEndings may_end report.left.items
   pub account : IsToldOf template clients driver report.left.items report.made report.owed
   pub peers_are : vec_len report.peers ≡ peers
+  pub at_hand : ((report.audit ≡ None) × (handles ≡ before)) ⊎ AreAtHand (before ++ driver ∷ clients) handles
   pub audited : IfSome report.audit (λ t. IsWhole (before ++ driver ∷ clients) t.front)
+
+-- The same of a run over a desk that the crew made: its handles are named no more
+abbrev pub IsCrewReport : {T U : Type 0} → (Reason → Bool) → (ℕ → Bool) → Template → ℕ → CrewReport T U → Type 0
+IsCrewReport may_end may_give template peers report = (before handles : List Knowledge) × IsReport may_end may_give template peers before handles report

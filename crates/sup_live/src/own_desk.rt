@@ -162,6 +162,6 @@ where
     let recovered = Desk::<N, S, &R, J>::recover(ground, starter, journal, entries)?;
     let Recovered { desk, callers, .. } = recovered;
     let moments = Moments::from_now(rt);
-    let report = run_over(rt, &desk, behaviour, moments, plan, program, peers, callers)?;
+    let (report, _) = run_over(rt, &desk, behaviour, moments, plan, program, peers, callers)?;
     Ok((report, desk.close()))
 }

@@ -1,6 +1,6 @@
 //! What a crew did.
-ghost use Rattle.std.specs.Prelude.{◌≡◌, ◌+◌, ◌≤◌, ◌↔◌, [], ◌∷◌, ◌++◌, IsTrue, IsSome, IfSome, vec_len, vec_capacity};
-ghost use Rattle.sup_live.specs.Wholes.{IsCrewReport, IsWhole};
+ghost use Rattle.std.specs.Prelude.{◌≡◌, ◌+◌, ◌≤◌, ◌↔◌, ◌⊎◌, [], ◌∷◌, ◌++◌, IsTrue, IsSome, IfSome, None, vec_len, vec_capacity};
+ghost use Rattle.sup_live.specs.Wholes.{AreAtHand, IsReport, IsWhole};
 
 use crate::left::Left;
 use crate::peers::NotRun;
@@ -56,7 +56,7 @@ impl<T: Drop, U: Drop> CrewReport<T, U> {
     }
 }
 
-/// Says what the crew did, and audits its desk, whose earlier handles these are.
+/// Says what the crew did, and audits its desk. The crew's handles join the earlier ones.
 pub(crate) fn conclude<'d, N, S, Q, J, I, B, P, T, U>(
     alloc: Global,
     desk: &'d Desk<N, S, Q, J>,
@@ -64,7 +64,7 @@ pub(crate) fn conclude<'d, N, S, Q, J, I, B, P, T, U>(
     joined: Joined<'d, N, Desk<N, S, Q, J>, I, T, U>,
     clients: Left<N, I>,
     before: Vec<Handle<'d, N, S, Q, J>>,
-) -> CrewReport<T, U>
+) -> (CrewReport<T, U>, Vec<Handle<'d, N, S, Q, J>>)
 where
     N: Name,
     S: Starter + Drop,
@@ -75,15 +75,15 @@ where
     P: Host,
     T: Drop,
     U: Drop,
-    ensures { IsCrewReport I.may_end I.may_give N.template (vec_len joined.entry.peers) result }
+    ensures { IsReport I.may_end I.may_give N.template (vec_len joined.entry.peers) before.entry.items result.1.items result.0 }
 {
     let driver = joined.driver;
     let (tally, exits) = (driver.tally(), driver.entered.paid());
     let mut witness = clients.witness;
     hub.ledger.show(&mut witness, driver.witness);
-    let audit = audited(&hub.rt, desk, before, driver.handle, clients.callers);
+    let (handles, audit) = audited(&hub.rt, desk, before, driver.handle, clients.callers);
     let (left, totals) = hub.settle(alloc, driver.entered, driver.held, witness);
-    CrewReport {
+    let report = CrewReport {
         outcome: joined.outcome,
         peers: joined.peers,
         made: totals.made,
@@ -93,7 +93,8 @@ where
         owed: totals.owed,
         fault: driver.fault,
         audit,
-    }
+    };
+    (report, handles)
 }
 
 /// Adds the handles of these callers to those that there are. There is room for them.
@@ -112,25 +113,28 @@ pub(crate) fn bind_all<'d, N: Name, S: Starter + Drop, Q: Wait + Drop, J: Journa
     handles
 }
 
-/// Shows that the history is the calls of the driver, of the clients and of the earlier handles, and nothing else, and returns a
-/// ticket for it.
+/// Adds the handles of the driver and of the clients to the earlier ones, and shows that the history is the calls of all of them, and
+/// nothing else. Returns the handles, and a ticket for that history. If memory is refused for the list, the crew's are let go.
 fn audited<'d, N: Name, S: Starter + Drop, Q: Wait + Drop, J: Journal + Drop, R: Wait>(
     rt: &R,
     desk: &'d Desk<N, S, Q, J>,
     before: Vec<Handle<'d, N, S, Q, J>>,
     driver: Handle<'d, N, S, Q, J>,
     clients: Vec<Caller<N>>,
-) -> Option<Ticket>
-    ensures { IfSome result (λ t. IsWhole ((before.entry.items ++ driver.entry ∷ []) ++ clients.items) t.front) }
+) -> (Vec<Handle<'d, N, S, Q, J>>, Option<Ticket>)
+    ensures at_hand { ((result.1 ≡ None) × (result.0.items ≡ before.entry.items)) ⊎ AreAtHand ((before.entry.items ++ driver.entry ∷ []) ++ clients.items) result.0.items }
+    ensures whole { IfSome result.1 (λ t. IsWhole ((before.entry.items ++ driver.entry ∷ []) ++ clients.items) t.front) }
 {
-    let more = clients.len().checked_add(1)?;
     let mut handles = before;
-    handles.reserve(more).ok()?;
+    if handles.reserve(clients.len().saturating_add(1)).is_err() {
+        return (handles, None);
+    }
     handles.push_reserved(driver);
     let mut handles = bind_all(desk, handles, clients);
     handles.sort_unstable_by_key(|handle| handle.number());
     if !Handle::are_in_order(handles.as_slice()) {
-        return None;
+        return (handles, None);
     }
-    desk.audit(rt, handles.as_mut_slice()).ok()
+    let audit = desk.audit(rt, handles.as_mut_slice()).ok();
+    (handles, audit)
 }

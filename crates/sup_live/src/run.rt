@@ -1,7 +1,7 @@
 //! Runs.
 ghost use Rattle.std.specs.Prelude.{◌≡◌, ◌<◌, ◌≤◌, ◌+◌, [], IfOk, vec_len, vec_capacity};
 ghost use Rattle.sup_ledger.specs.Accounts.{IsNew};
-ghost use Rattle.sup_live.specs.Wholes.{IsCrewReport};
+ghost use Rattle.sup_live.specs.Wholes.{IsReport};
 
 use crate::client::Program;
 use crate::plan::{LiveFault, Plan};
@@ -26,7 +26,7 @@ fn end_yard<'h, I: Office, B: Behaviour, P: Host, F: Future>(yard: Yard<'h, I, B
     drop(yard);
 }
 
-/// Runs the crew of an office, and audits its desk, whose earlier handles these are.
+/// Runs the crew of an office, and audits its desk, whose earlier handles these are. All handles come back.
 fn run_office<'d, N, S, Q, J, I, B, T, U, R, M>(
     rt: &R,
     desk: &'d Desk<N, S, Q, J>,
@@ -38,7 +38,13 @@ fn run_office<'d, N, S, Q, J, I, B, T, U, R, M>(
     before: Vec<Handle<'d, N, S, Q, J>>,
     ledger: Ledger,
     root: Account,
-) -> Result<CrewReport<T::Outcome, U::Outcome>, LiveFault>
+) -> Result<
+    (
+        CrewReport<T::Outcome, U::Outcome>,
+        Vec<Handle<'d, N, S, Q, J>>,
+    ),
+    LiveFault,
+>
 where
     N: Name + Send + Sync,
     S: Starter + Drop + Send + Sync,
@@ -59,7 +65,7 @@ where
     requires root { IsNew I.ledger I.places root }
     requires ends { I.may_end ≡ B.may_end behaviour.now }
     requires given { I.may_give ≡ M.may_give }
-    ensures { IfOk result (λ r. IsCrewReport (B.may_end behaviour.now) M.may_give N.template (vec_len peers) r) }
+    ensures { IfOk result (λ r. IsReport (B.may_end behaviour.now) M.may_give N.template (vec_len peers) before.entry.items r.1.items r.0) }
 {
     let (alloc, Plan { workers, grace, .. }) = (rt.alloc(), plan);
     let timed = Timed { rt, timer: moments };
@@ -101,29 +107,37 @@ where
 /// a child that was let go, `not_run` of one that could not be run. So has each exit that the report says was left.
 ///
 /// Each child that was made has one exit: the driver entered it, or the report has it as left, or counts it
-/// among those that are owed; and there is no other exit. Each child that a client started, and each that was restarted by the
-/// driver's calls, is one of the children that were made.
+/// among those that are owed; and there is no other exit. Each child that the client of a handle which comes back started, and each
+/// that was restarted by the driver's calls, is one of the children that were made.
 ///
 /// Children that the history lists when the run begins are of an earlier run. Each begins again under its number, with an empty
 /// mailbox, and is one of the children that were made. A restart that had failed is tried again.
 ///
 /// Two handles of the desk are used: the driver's, and that of the program's client. Each peer that runs takes one more, once its
 /// thread has begun, and each client that a client makes. Then the desk is audited by all of them, and by the handles that were made
-/// before the run: those of these callers.
+/// before the run: those of these callers. All of these handles come back with the report, in the order of making, so the desk can be
+/// used on, and audited again. If memory is refused for the handle of a client, it is let go, and if it is refused for the list of
+/// them, those of the crew are; then there is no audit.
 ///
 /// # Errors
-/// Nothing was entered, and neither the program nor a peer was run: `OutOfMemory`; `NoThread`; `NoHandle` and `NoPlace` if the desk
+/// Nothing was entered, neither the program nor a peer was run, and the handles are let go: `OutOfMemory`; `NoThread`; `NoHandle` and `NoPlace` if the desk
 /// has not two more handles.
-pub fn run_over<N, S, Q, J, B, T, U, R, M>(
+pub fn run_over<'d, N, S, Q, J, B, T, U, R, M>(
     rt: &R,
-    desk: &Desk<N, S, Q, J>,
+    desk: &'d Desk<N, S, Q, J>,
     behaviour: &B,
     moments: M,
     plan: Plan,
     program: T,
     peers: Vec<U>,
     before: Vec<Caller<N>>,
-) -> Result<CrewReport<T::Outcome, U::Outcome>, LiveFault>
+) -> Result<
+    (
+        CrewReport<T::Outcome, U::Outcome>,
+        Vec<Handle<'d, N, S, Q, J>>,
+    ),
+    LiveFault,
+>
 where
     N: Name + Send + Sync,
     S: Starter + Drop + Send + Sync,
@@ -139,14 +153,13 @@ where
     R: Threads + Wait + Clock + RandomSource + AllocGlobal + Sync,
     M: Timer + Drop + Send + Sync,
     requires workers { (1 ≤ plan.workers) × (plan.workers ≤ 64) }
-    ensures { IfOk result (λ r. IsCrewReport (B.may_end behaviour.now) M.may_give N.template (vec_len peers) r) }
+    ensures { IfOk result (λ r. IsReport (B.may_end behaviour.now) M.may_give N.template (vec_len peers) before.items r.1.items r.0) }
 {
-    // Room for the handles of the audit is made before the run, so that its end takes no memory.
-    let handles = before.len().saturating_add(peers.len()).saturating_add(2);
-    let room = Vec::with_capacity(rt.alloc(), handles)?;
-    let before = bind_all(desk, room, before);
+    // Room for the handles of the crew is made before the run: of all but the clients that clients make.
+    let most = before.len().saturating_add(peers.len()).saturating_add(2);
+    let handles = bind_all(desk, Vec::with_capacity(rt.alloc(), most)?, before);
     let (ledger, root) = Ledger::new(rt.alloc(), plan.workers as u64 + 1)?;
     run_office::<N, S, Q, J, Brand, B, T, U, R, M>(
-        rt, desk, behaviour, moments, plan, program, peers, before, ledger, root,
+        rt, desk, behaviour, moments, plan, program, peers, handles, ledger, root,
     )
 }

@@ -79,7 +79,7 @@ where
     let Recovered { desk, callers, .. } = recovery.finish(AlwaysRunning, journal);
     let moments = Moments::from_now(rt);
     let nobody: Vec<Nobody> = Vec::new(rt.alloc());
-    let report = run_over(rt, &desk, sessions, moments, plan, server, nobody, callers)?;
+    let (report, _) = run_over(rt, &desk, sessions, moments, plan, server, nobody, callers)?;
     let kept = listed(rt, &desk);
     match desk.close().fault {
         Some(fault) => Err(ServeFault::Journal(fault)),
