@@ -7,6 +7,7 @@ import os
 import subprocess
 import sys
 import tempfile
+import threading
 import types
 
 TOP = os.path.dirname(os.path.dirname(os.path.realpath(__file__)))
@@ -14,6 +15,8 @@ TOP = os.path.dirname(os.path.dirname(os.path.realpath(__file__)))
 CACHE = f"{os.environ.get('XDG_CACHE_HOME') or os.path.expanduser('~/.cache')}/sapyguendo/checked"
 # (what some fifty states of the repository need)
 KEPT_AT_MOST = 10_000
+# Held while libraries are built.
+BUILDING = threading.Lock()
 
 
 def loaded(name, file):
@@ -134,16 +137,19 @@ def note_built(crates):
 
 def has_libraries(crate):
     """Builds the libraries below a crate, where they do not lie as a build of what is there has left them."""
-    for dep in reversed(crate.below()):
-        if is_current(dep):
-            continue
-        print(f"building {dep.name}", flush=True)
-        with tempfile.TemporaryFile("w+", errors="replace") as dep.out:
-            if dep.build_rlib(["--jobs", "1"], anew=False):
-                dep.out.seek(0)
-                print(dep.out.read()[-3000:])
-                return False
-    return True
+    # (crates that are tried at a time have some of them in common)
+    with BUILDING:
+        return all(is_current(it) or is_built(it) for it in reversed(crate.below()))
+
+
+def is_built(library):
+    """Builds a library, and shows why if it can't be built."""
+    print(f"building {library.name}", flush=True)
+    with tempfile.TemporaryFile("w+", errors="replace") as library.out:
+        failed = library.build_rlib(["--jobs", "1"], anew=False)
+        library.out.seek(0)
+        print(library.out.read()[-3000:] if failed else "", end="")
+    return not failed
 
 
 def main(words):
