@@ -8,8 +8,7 @@
 //! children. Whoever runs a crew so writes no proof.
 //!
 //! ```text
-//! let plan = Plan { workers: 4, retry_after: Duration::from_secs(1), grace: Duration::from_secs(5), places: 0 };
-//! let report = on_crew(&rt, template, plan, &Sessions, Server { host: &rt })?;
+//! let report = on_crew(&rt, template, Plan::new(4), &Sessions, Server { host: &rt })?;
 //! if report.adds_up() && report.is_audited() {
 //!     // each child that was made has one exit, and the history is the calls of the crew's clients
 //! }

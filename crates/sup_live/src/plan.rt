@@ -20,6 +20,25 @@ pub struct Plan {
     pub places: u64,
 }
 
+impl Plan {
+    ghost use Rattle.std.specs.Prelude.{◌≡◌};
+    ghost use Rattle.std.specs.Duration.{as_nanos};
+
+    /// Makes a plan with this many workers: 1 to 64. A restart that failed is tried again after a second. A child may run for five
+    /// seconds after it was asked to end, as by OTP's default. There are no more places.
+    pub fn new(workers: usize) -> Plan
+        ensures counts { (result.workers ≡ workers) × (result.places ≡ 0) }
+        ensures times { (as_nanos result.retry_after ≡ 1000000000) × (as_nanos result.grace ≡ 5000000000) }
+    {
+        Plan {
+            workers,
+            retry_after: Duration::from_secs(1),
+            grace: Duration::from_secs(5),
+            places: 0,
+        }
+    }
+}
+
 /// Why a crew did not run. Nothing was entered, and the program was not run.
 #[derive(Clone, Copy, Debug, PartialEq, Eq, Error)]
 pub enum LiveFault {

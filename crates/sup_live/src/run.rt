@@ -120,8 +120,8 @@ where
 /// them, those of the crew are; then there is no audit.
 ///
 /// # Errors
-/// Nothing was entered, neither the program nor a peer was run, and the handles are let go: `OutOfMemory`; `NoThread`; `NoHandle` and `NoPlace` if the desk
-/// has not two more handles.
+/// Nothing was entered, neither the program nor a peer was run, and the handles are let go: `OutOfMemory`; `NoThread`; `NoHandle` and
+/// `NoPlace` if the desk has not two more handles.
 pub fn run_over<'d, N, S, Q, J, B, T, U, R, M>(
     rt: &R,
     desk: &'d Desk<N, S, Q, J>,

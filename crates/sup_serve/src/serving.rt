@@ -14,7 +14,7 @@ use std::io::{Read, Write};
 use std::random::RandomSource;
 use std::sync::Wait;
 use std::thread::Threads;
-use std::time::{Clock, Duration};
+use std::time::Clock;
 use sup_live::{Plan, on_crew};
 use sup_script::{WatchedReader, WatchedWriter};
 use sup_types::{Kind, Restart, Template};
@@ -113,12 +113,7 @@ where
 {
     let (sender, restarted) = unbounded(alloc)?;
     let sessions = Sessions { restarted: sender };
-    let plan = Plan {
-        workers: 4,
-        retry_after: Duration::from_secs(1),
-        grace: Duration::from_secs(5),
-        places: 0,
-    };
+    let plan = Plan::new(4);
     let server = Server {
         host: rt,
         alloc,
