@@ -3,7 +3,7 @@
 use sup_types::{Reason, Text};
 
 /// Says that a child ended, and why.
-#[derive(Clone, Copy, Debug, PartialEq, Eq, Hash)]
+#[derive(Clone, Copy, Debug, PartialEq, Eq)]
 pub struct Note {
     /// The number of the poster, from 1 on.
     pub poster: u64,
