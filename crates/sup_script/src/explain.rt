@@ -235,30 +235,18 @@ impl fmt::Display for Wrong {
 
 impl fmt::Display for Explanation<'_> {
     fn fmt<W: fmt::Write>(&self, f: &mut fmt::Formatter<W>) -> fmt::Result {
-        f.write_str("  ")?;
-        for byte in self.line.bytes() {
-            f.write_char(shown(*byte))?;
-        }
-        if self.line.is_cut() {
-            f.write_str(" ..")?;
-        }
-        f.write_str("\n  ")?;
-        for _ in 0..self.from {
-            f.write_char(' ')?;
-        }
-        for _ in 0..self.marked {
-            f.write_char('^')?;
-        }
+        write!(f, "  {}\n  ", self.line)?;
+        repeat(f, ' ', self.from)?;
+        repeat(f, '^', self.marked)?;
         let (wrong, wanted) = (self.wrong, self.place.in_words);
         write!(f, " {wrong}\n  expected {wanted}\n")
     }
 }
 
-/// Returns the character by which a byte of a line is shown.
-fn shown(byte: u8) -> char {
-    if byte == b' ' || byte.is_ascii_graphic() {
-        char::from(byte)
-    } else {
-        '?'
+/// Writes this character as often as the count says.
+fn repeat<W: fmt::Write>(f: &mut fmt::Formatter<W>, shown: char, count: usize) -> fmt::Result {
+    for _ in 0..count {
+        f.write_char(shown)?;
     }
+    Ok(())
 }

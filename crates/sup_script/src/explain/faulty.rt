@@ -2,6 +2,8 @@
 
 ghost use Rattle.std.specs.Prelude.{◌≤◌};
 
+use std::fmt;
+
 /// The most bytes of a line that are kept. No line of a script or a history text is as long.
 const MOST_KEPT: usize = 200;
 
@@ -51,5 +53,27 @@ impl FaultyLine {
     /// Returns whether the line is longer than what is kept of it.
     pub fn is_cut(&self) -> bool {
         self.is_cut
+    }
+}
+
+/// Shows a byte that is no visible character as `?`, and ` ..` where the line is cut.
+impl fmt::Display for FaultyLine {
+    fn fmt<W: fmt::Write>(&self, f: &mut fmt::Formatter<W>) -> fmt::Result {
+        for byte in self.bytes() {
+            f.write_char(shown(*byte))?;
+        }
+        if self.is_cut {
+            f.write_str(" ..")?;
+        }
+        Ok(())
+    }
+}
+
+/// Returns the character by which a byte of a line is shown.
+fn shown(byte: u8) -> char {
+    if byte == b' ' || byte.is_ascii_graphic() {
+        char::from(byte)
+    } else {
+        '?'
     }
 }

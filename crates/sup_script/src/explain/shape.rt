@@ -18,35 +18,47 @@ static SCRIPT: [Place; 1] = [SUP];
 
 static HISTORY_TEXT: [Place; 2] = [HISTORY, VERSION];
 
-static PARTS: [Place; 5] = [RESTART, KIND, INTENSITY, PERIOD, ROWS];
+/// The parts of a template that every first line has.
+pub static PARTS: [Place; 5] = [RESTART, KIND, INTENSITY, PERIOD, ROWS];
 
-static SHUTDOWN: [Place; 2] = [MARK, AUTO];
+/// The last two words of a first line.
+pub static SHUTDOWN: [Place; 2] = [MARK, AUTO];
 
-static LINE: [Place; 1] = [COMMAND];
+/// The words of a script's line up to its command.
+pub static LINE: [Place; 1] = [COMMAND];
 
-static START: [Place; 2] = [MOMENT, TEXT];
+/// The words of an entry up to its operation.
+pub static ENTRY: [Place; 4] = [HANDLE, SERIAL, MOMENT, OPERATION];
 
-static EXIT: [Place; 3] = [MOMENT, CHILD, REASON];
+/// The words after each command.
+pub static COMMANDS: [(&str, &[Place]); 10] = [
+    ("start", &[MOMENT, TEXT]),
+    ("exit", &[MOMENT, CHILD, REASON]),
+    ("retry", &[MOMENT, CHILD]),
+    ("terminate", &[MOMENT, CHILD]),
+    ("stop", &[MOMENT]),
+    ("which", &[]),
+    ("count", &[]),
+    ("terminate_id", &[TEXT]),
+    ("delete_child", &[TEXT]),
+    ("restart_child", &[TEXT]),
+];
 
-static OF_CHILD: [Place; 2] = [MOMENT, CHILD];
+/// The words after each operation of an entry. The last is its answer.
+pub static OPERATIONS: [(&str, &[Place]); 5] = [
+    ("start", &[TEXT, ANSWER]),
+    ("exit", &[CHILD, REASON, ANSWER]),
+    ("retry", &[CHILD, ANSWER]),
+    ("terminate", &[CHILD, ANSWER]),
+    ("stop", &[ANSWER]),
+];
 
-static STOP: [Place; 1] = [MOMENT];
-
-static BY_ID: [Place; 1] = [TEXT];
-
-static NOTHING: [Place; 0] = [];
-
-static ENTRY: [Place; 4] = [HANDLE, SERIAL, MOMENT, OPERATION];
-
-static STARTED: [Place; 2] = [TEXT, ANSWER];
-
-static EXITED: [Place; 3] = [CHILD, REASON, ANSWER];
-
-static CHILD_ANSWERED: [Place; 2] = [CHILD, ANSWER];
-
-static ANSWERED: [Place; 1] = [ANSWER];
-
-static FAILED: [Place; 1] = [CODE];
+/// The words after each answer of an entry.
+pub static ANSWERS: [(&str, &[Place]); 3] = [
+    ("running", &[]),
+    ("ignore", &[]),
+    ("failed", &[CODE]),
+];
 
 /// Returns the words with which the first line of a format begins.
 pub fn naming(format: Format) -> &'static [Place] {
@@ -56,52 +68,12 @@ pub fn naming(format: Format) -> &'static [Place] {
     }
 }
 
-/// Returns the parts of a template that every first line has.
-pub fn parts() -> &'static [Place] {
-    &PARTS
-}
-
-/// Returns the last two words of a first line.
-pub fn shutdown() -> &'static [Place] {
-    &SHUTDOWN
-}
-
-/// Returns the words of a script's line up to its command.
-pub fn command() -> &'static [Place] {
-    &LINE
-}
-
-/// Returns the words after the name of a command.
-pub fn behind_command(word: &[u8]) -> &'static [Place] {
-    match word {
-        b"start" => &START,
-        b"exit" => &EXIT,
-        b"retry" | b"terminate" => &OF_CHILD,
-        b"stop" => &STOP,
-        b"which" | b"count" => &NOTHING,
-        _ => &BY_ID,
+/// Returns the words after this one, by such a table.
+pub fn after(table: &[(&str, &'static [Place])], word: &[u8]) -> &'static [Place] {
+    for (name, places) in table {
+        if name.as_bytes() == word {
+            return places;
+        }
     }
-}
-
-/// Returns the words of an entry up to its operation.
-pub fn entry() -> &'static [Place] {
-    &ENTRY
-}
-
-/// Returns the words after the operation of an entry. The last is its answer.
-pub fn behind_operation(word: &[u8]) -> &'static [Place] {
-    match word {
-        b"start" => &STARTED,
-        b"exit" => &EXITED,
-        b"retry" | b"terminate" => &CHILD_ANSWERED,
-        _ => &ANSWERED,
-    }
-}
-
-/// Returns the words after the answer of an entry.
-pub fn behind_answer(word: &[u8]) -> &'static [Place] {
-    match word {
-        b"failed" => &FAILED,
-        _ => &NOTHING,
-    }
+    &[]
 }

@@ -2,8 +2,7 @@
 
 use crate::explain::place::{END, MARK, Place};
 use crate::explain::shape::{
-    Format, behind_answer, behind_command, behind_operation, command, entry, naming, parts,
-    shutdown,
+    ANSWERS, COMMANDS, ENTRY, Format, LINE, OPERATIONS, PARTS, SHUTDOWN, after, naming,
 };
 use sup_format::next_word;
 
@@ -38,7 +37,7 @@ pub fn first_misfit(format: Format, is_first: bool, line: &[u8]) -> Option<Misfi
 /// Returns the first place at which a first line has a number out of its range.
 pub fn first_out_of_range(format: Format, line: &[u8]) -> Option<Misfit<'_>> {
     let mut rest = walk(Some(line), naming(format)).ok()?.rest;
-    for place in parts() {
+    for place in &PARTS {
         let (word, after) = next_word(rest?);
         if !place.form.is_in_range(word) {
             return Some(misfit_at(rest, *place));
@@ -51,13 +50,13 @@ pub fn first_out_of_range(format: Format, line: &[u8]) -> Option<Misfit<'_>> {
 /// Returns the mark of a first line, if it has one.
 pub fn mark_of(format: Format, line: &[u8]) -> Option<Misfit<'_>> {
     let named = walk(Some(line), naming(format)).ok()?;
-    let walked = walk(named.rest, parts()).ok()?;
+    let walked = walk(named.rest, &PARTS).ok()?;
     Some(misfit_at(walked.rest, MARK))
 }
 
 fn walk_first(format: Format, line: &[u8]) -> Result<(), Misfit<'_>> {
     let named = walk(Some(line), naming(format))?;
-    let walked = walk(named.rest, parts())?;
+    let walked = walk(named.rest, &PARTS)?;
     let may_end = match format {
         Format::Script => walked.rest.is_none(),
         Format::History => named.last == b"1".as_slice(),
@@ -65,18 +64,18 @@ fn walk_first(format: Format, line: &[u8]) -> Result<(), Misfit<'_>> {
     if may_end {
         return ends(walked);
     }
-    ends(walk(walked.rest, shutdown())?)
+    ends(walk(walked.rest, &SHUTDOWN)?)
 }
 
 fn walk_command(line: &[u8]) -> Result<(), Misfit<'_>> {
-    let named = walk(Some(line), command())?;
-    ends(walk(named.rest, behind_command(named.last))?)
+    let named = walk(Some(line), &LINE)?;
+    ends(walk(named.rest, after(&COMMANDS, named.last))?)
 }
 
 fn walk_entry(line: &[u8]) -> Result<(), Misfit<'_>> {
-    let named = walk(Some(line), entry())?;
-    let answered = walk(named.rest, behind_operation(named.last))?;
-    ends(walk(answered.rest, behind_answer(answered.last))?)
+    let named = walk(Some(line), &ENTRY)?;
+    let answered = walk(named.rest, after(&OPERATIONS, named.last))?;
+    ends(walk(answered.rest, after(&ANSWERS, answered.last))?)
 }
 
 /// Reads the words at these places.
