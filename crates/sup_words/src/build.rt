@@ -72,43 +72,38 @@ fn number<'a>(
 fn load_command<'a>(alloc: Global) -> Result<Command<'a>, AllocError>
     ensures { IfOk result (λ c. (app_of c ≡ load_app) × ((fields_of c).has_globals ≡ false)) }
 {
-    let workers = number(
-        alloc,
-        "workers",
-        "W",
-        "Threads that run bodies: 1 to 64",
-        (1, 64),
-    );
-    let children = number(
-        alloc,
-        "children",
-        "N",
-        "Children to start: 1 to 65536",
-        (1, 65_536),
-    );
-    let readers = number(alloc, "readers", "R", "Threads that ask: 0 to 64", (0, 64));
-    let turns = number(
-        alloc,
-        "turns",
-        "T",
-        "Questions of each thread: 1 to 1000000",
-        (1, 1_000_000),
-    );
-    let journal = path(
-        alloc,
-        "journal",
-        "FILE",
-        "A new file to which the history is written",
-    );
     Command::new(alloc, "load")
         .about(LOAD)
         .long_about(LOAD_HELP)
         .after_help(LOAD_FAULTS)
-        .arg(workers)?
-        .arg(children)?
-        .arg(readers)?
-        .arg(turns)?
-        .arg(journal)
+        .arg(number(
+            alloc,
+            "workers",
+            "W",
+            "Threads that run bodies: 1 to 64",
+            (1, 64),
+        ))?
+        .arg(number(
+            alloc,
+            "children",
+            "N",
+            "Children to start: 1 to 65536",
+            (1, 65_536),
+        ))?
+        .arg(number(alloc, "readers", "R", "Threads that ask: 0 to 64", (0, 64)))?
+        .arg(number(
+            alloc,
+            "turns",
+            "T",
+            "Questions of each thread: 1 to 1000000",
+            (1, 1_000_000),
+        ))?
+        .arg(path(
+            alloc,
+            "journal",
+            "FILE",
+            "A new file to which the history is written",
+        ))
 }
 
 /// A command that answers a text, by default what standard input has.
@@ -120,51 +115,45 @@ fn text_command<'a>(
 ) -> Result<Command<'a>, AllocError>
     ensures { IfOk result (λ c. (app_of c ≡ text_app name.entry.now) × ((fields_of c).has_globals ≡ false)) }
 {
-    let explain = flag(alloc, "explain", "Explains a fault in a line");
-    let file = file(alloc, "The text; standard input, if it is left out", false);
     Command::new(alloc, name)
         .about(about)
         .long_about(help)
         .after_help(FAULTS)
-        .arg(explain)?
-        .arg(file)
+        .arg(flag(alloc, "explain", "Explains a fault in a line"))?
+        .arg(file(alloc, "The text; standard input, if it is left out", false))
 }
 
 /// The command that answers a journal.
 fn journal_command<'a>(alloc: Global) -> Result<Command<'a>, AllocError>
     ensures { IfOk result (λ c. (app_of c ≡ journal_app) × ((fields_of c).has_globals ≡ false)) }
 {
-    let explain = flag(alloc, "explain", "Explains a fault in a line");
-    let file = file(alloc, "The journal", true);
     Command::new(alloc, "journal")
         .about(JOURNAL)
         .long_about(JOURNAL_HELP)
         .after_help(FAULTS)
-        .arg(explain)?
-        .arg(file)
+        .arg(flag(alloc, "explain", "Explains a fault in a line"))?
+        .arg(file(alloc, "The journal", true))
 }
 
 /// The command that serves sessions.
 fn serve_command<'a>(alloc: Global) -> Result<Command<'a>, AllocError>
     ensures { IfOk result (λ c. (app_of c ≡ serve_app) × ((fields_of c).has_globals ≡ false)) }
 {
-    let status = flag(
-        alloc,
-        "status",
-        "Says after an answer how many sessions there are, if that has changed",
-    );
-    let journal = path(
-        alloc,
-        "journal",
-        "FILE",
-        "A file in which the sessions outlive the server",
-    );
     Command::new(alloc, "serve")
         .about(SERVE)
         .long_about(SERVE_HELP)
         .after_help(SERVE_FAULTS)
-        .arg(status)?
-        .arg(journal)
+        .arg(flag(
+            alloc,
+            "status",
+            "Says after an answer how many sessions there are, if that has changed",
+        ))?
+        .arg(path(
+            alloc,
+            "journal",
+            "FILE",
+            "A file in which the sessions outlive the server",
+        ))
 }
 
 /// Returns the whole command line, with its five commands.

@@ -1,6 +1,7 @@
 -- The load has its five options.
-use Rattle.std.proofs.Common.{◌≡◌, ◌∙◌, ◌||◌, Bool, false, rules, ap₂, codes}
+use Rattle.std.proofs.Common.{◌≡◌, ◌∙◌, ◌||◌, Bool, false, ap, ap₂, codes}
 use Rattle.std.proofs.lemmas.Result.{IfOk-weaker}
+use Rattle.clap.specs.Simple.{app_of_fields}
 use Rattle.clap.specs.Words.{app_of, new_app, with_rule}
 use Rattle.clap.specs.declared.builder.command.Command.{Command}
 use Rattle.clap.specs.declared.builder.command.Command.TheViews.{out-Command as fields_of}
@@ -12,18 +13,20 @@ has_globals c = (fields_of c).has_globals
 
 pub returns : goal.returns
 returns c =
-    let start : app_of c.after_help.result ≡ new_app (codes "load") = search rules in
-    let none : has_globals c.after_help.result ≡ false = search rules in
+    let start : app_of c.after_help.result ≡ new_app (codes "load") =
+    ap app_of_fields c.after_help.ensures ∙ (ap app_of_fields c.long_about.ensures ∙ (ap app_of_fields c.about.ensures ∙ c.new.ensures.app)) in
+    let none : has_globals c.after_help.result ≡ false =
+    ap (λ f. f.has_globals) c.after_help.ensures ∙ (ap (λ f. f.has_globals) c.long_about.ensures ∙ (ap (λ f. f.has_globals) c.about.ensures ∙ c.new.ensures.local)) in
     let one : app_of c.in_ok-arg.field-0 ≡ with_rule (new_app (codes "load")) (number_rule (codes "workers") 1 64) =
-    c.in_ok-arg.ensures.shape c.number-workers.ensures.local ∙ ap₂ with_rule start c.number-workers.ensures.rule in
-    let two = c.in_ok-arg-2.ensures.shape c.number-children.ensures.local ∙ ap₂ with_rule one c.number-children.ensures.rule in
-    let three = c.in_ok-arg-3.ensures.shape c.number-readers.ensures.local ∙ ap₂ with_rule two c.number-readers.ensures.rule in
-    let none1 = c.in_ok-arg.ensures.globals ∙ ap₂ (λ a b. a || b) none c.number-workers.ensures.local in
-    let none2 = c.in_ok-arg-2.ensures.globals ∙ ap₂ (λ a b. a || b) none1 c.number-children.ensures.local in
-    let none3 = c.in_ok-arg-3.ensures.globals ∙ ap₂ (λ a b. a || b) none2 c.number-readers.ensures.local in
-    let four = c.in_ok-arg-4.ensures.shape c.number-turns.ensures.local ∙ ap₂ with_rule three c.number-turns.ensures.rule in
-    let none4 = c.in_ok-arg-4.ensures.globals ∙ ap₂ (λ a b. a || b) none3 c.number-turns.ensures.local in
+    c.in_ok-arg.ensures.shape c.number.ensures.local ∙ ap₂ with_rule start c.number.ensures.rule in
+    let two = c.in_ok-arg-2.ensures.shape c.number-2.ensures.local ∙ ap₂ with_rule one c.number-2.ensures.rule in
+    let three = c.in_ok-arg-3.ensures.shape c.number-3.ensures.local ∙ ap₂ with_rule two c.number-3.ensures.rule in
+    let none1 = c.in_ok-arg.ensures.globals ∙ ap₂ (λ a b. a || b) none c.number.ensures.local in
+    let none2 = c.in_ok-arg-2.ensures.globals ∙ ap₂ (λ a b. a || b) none1 c.number-2.ensures.local in
+    let none3 = c.in_ok-arg-3.ensures.globals ∙ ap₂ (λ a b. a || b) none2 c.number-3.ensures.local in
+    let four = c.in_ok-arg-4.ensures.shape c.number-4.ensures.local ∙ ap₂ with_rule three c.number-4.ensures.rule in
+    let none4 = c.in_ok-arg-4.ensures.globals ∙ ap₂ (λ a b. a || b) none3 c.number-4.ensures.local in
     IfOk-weaker c.arg-5.result _ _ (λ r h. (
-      h.shape c.path-journal.ensures.local ∙ ap₂ with_rule four c.path-journal.ensures.rule,
-      h.globals ∙ ap₂ (λ a b. a || b) none4 c.path-journal.ensures.local,
+      h.shape c.path.ensures.local ∙ ap₂ with_rule four c.path.ensures.rule,
+      h.globals ∙ ap₂ (λ a b. a || b) none4 c.path.ensures.local,
     )) c.arg-5.ensures

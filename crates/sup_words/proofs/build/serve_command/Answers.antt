@@ -15,9 +15,9 @@ returns c =
     let start : app_of c.after_help.result ≡ new_app (codes "serve") = search rules in
     let none : has_globals c.after_help.result ≡ false = search rules in
     let one : app_of c.in_ok-arg.field-0 ≡ with_rule (new_app (codes "serve")) status_rule =
-    c.in_ok-arg.ensures.shape c.flag-status.ensures.local ∙ ap₂ with_rule start c.flag-status.ensures.rule in
-    let none1 = c.in_ok-arg.ensures.globals ∙ ap₂ (λ a b. a || b) none c.flag-status.ensures.local in
+    c.in_ok-arg.ensures.shape c.flag.ensures.local ∙ ap₂ with_rule start c.flag.ensures.rule in
+    let none1 = c.in_ok-arg.ensures.globals ∙ ap₂ (λ a b. a || b) none c.flag.ensures.local in
     IfOk-weaker c.arg-2.result _ _ (λ r h. (
-      h.shape c.path-journal.ensures.local ∙ ap₂ with_rule one c.path-journal.ensures.rule,
-      h.globals ∙ ap₂ (λ a b. a || b) none1 c.path-journal.ensures.local,
+      h.shape c.path.ensures.local ∙ ap₂ with_rule one c.path.ensures.rule,
+      h.globals ∙ ap₂ (λ a b. a || b) none1 c.path.ensures.local,
     )) c.arg-2.ensures
