@@ -139,11 +139,11 @@ def has_libraries(crate):
     """Builds the libraries below a crate, where they do not lie as a build of what is there has left them."""
     # (crates that are tried at a time have some of them in common)
     with BUILDING:
-        return all(is_current(it) or is_built(it) for it in reversed(crate.below()))
+        return all(is_current(it) or build(it) for it in reversed(crate.below()))
 
 
-def is_built(library):
-    """Builds a library, and shows why if it can't be built."""
+def build(library):
+    """Builds a library. Returns whether it is built, and shows why if it can't be."""
     print(f"building {library.name}", flush=True)
     with tempfile.TemporaryFile("w+", errors="replace") as library.out:
         failed = library.build_rlib(["--jobs", "1"], anew=False)
