@@ -1,9 +1,10 @@
 //! Peers: programs in threads of their own, with a client each.
-ghost use Rattle.std.specs.Prelude.{◌≡◌, ◌≤◌, [], vec_len, vec_capacity};
+ghost use Rattle.std.specs.Prelude.{◌≡◌, ◌≤◌, [], IfOk, vec_len, vec_capacity};
 
 use crate::client::Program;
 use crate::crew_client::Client;
 use crate::left::Returned;
+use std::alloc::{AllocError, Global};
 use std::sync::Wait;
 use std::thread::{JoinHandle, Scope};
 use sup_desk::{Desk, Handle, HandleFault, Journal, Name};
@@ -70,6 +71,18 @@ where
 
 /// The threads of the peers, in their order. In the place of one that could not be started there is none.
 pub(crate) type PeerThreads<T> = Vec<Option<JoinHandle<Result<T, NotRun>>>>;
+
+/// Makes room for the threads of this many peers, and for what comes of them.
+pub(crate) fn room_for<T: Drop>(
+    alloc: Global,
+    peers: usize,
+) -> Result<(PeerThreads<T>, Vec<Result<T, NotRun>>), AllocError>
+    ensures threads { IfOk result (λ r. (r.0.items ≡ []) × (peers ≤ vec_capacity r.0)) }
+    ensures outcomes { IfOk result (λ r. (r.1.items ≡ []) × (peers ≤ vec_capacity r.1)) }
+{
+    let threads = Vec::with_capacity(alloc, peers)?;
+    Ok((threads, Vec::with_capacity(alloc, peers)?))
+}
 
 /// Starts a thread for each peer, and lists them where there is room for them.
 pub(crate) fn start_peers<'s, 'h: 's, 'd: 's, E, N, S, Q, J, I, B, P, U>(

@@ -1,5 +1,5 @@
 //! What a crew did.
-ghost use Rattle.std.specs.Prelude.{◌≡◌, ◌+◌, ◌≤◌, ◌↔◌, ◌⊎◌, [], ◌∷◌, ◌++◌, IsTrue, IsSome, IfSome, None, vec_len, vec_capacity};
+ghost use Rattle.std.specs.Prelude.{◌≡◌, ◌+◌, ◌≤◌, ◌↔◌, ◌⊎◌, [], ◌∷◌, ◌++◌, IsTrue, IsSome, IfSome, MatchOption, vec_len, vec_capacity};
 ghost use Rattle.sup_live.specs.Wholes.{AreAtHand, IsReport, IsWhole};
 
 use crate::left::Left;
@@ -75,7 +75,8 @@ where
     P: Host,
     T: Drop,
     U: Drop,
-    ensures { IsReport I.may_end I.may_give N.template (vec_len joined.entry.peers) before.entry.items result.1.items result.0 }
+    ensures report { IsReport I.may_end I.may_give N.template (vec_len joined.entry.peers) before.entry.items result.1.items result.0 }
+    ensures press { IfSome result.0.audit (λ t. t.press ≡ N.press) }
 {
     let driver = joined.driver;
     let (tally, exits) = (driver.tally(), driver.entered.paid());
@@ -122,8 +123,9 @@ fn audited<'d, N: Name, S: Starter + Drop, Q: Wait + Drop, J: Journal + Drop, R:
     driver: Handle<'d, N, S, Q, J>,
     clients: Vec<Caller<N>>,
 ) -> (Vec<Handle<'d, N, S, Q, J>>, Option<Ticket>)
-    ensures at_hand { ((result.1 ≡ None) × (result.0.items ≡ before.entry.items)) ⊎ AreAtHand ((before.entry.items ++ driver.entry ∷ []) ++ clients.items) result.0.items }
-    ensures whole { IfSome result.1 (λ t. IsWhole ((before.entry.items ++ driver.entry ∷ []) ++ clients.items) t.front) }
+    ensures audited { MatchOption result.1 ((result.0.items ≡ before.entry.items) ⊎ AreAtHand ((before.entry.items ++ driver.entry ∷ []) ++ clients.items) result.0.items)
+        (λ t. IsWhole ((before.entry.items ++ driver.entry ∷ []) ++ clients.items) result.0.items t.front) }
+    ensures press { IfSome result.1 (λ t. t.press ≡ N.press) }
 {
     let mut handles = before;
     if handles.reserve(clients.len().saturating_add(1)).is_err() {

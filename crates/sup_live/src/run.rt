@@ -1,5 +1,5 @@
 //! Runs.
-ghost use Rattle.std.specs.Prelude.{◌≡◌, ◌<◌, ◌≤◌, ◌+◌, [], IfOk, vec_len, vec_capacity};
+ghost use Rattle.std.specs.Prelude.{◌≡◌, ◌<◌, ◌≤◌, ◌+◌, [], IfOk, IfSome, vec_len, vec_capacity};
 ghost use Rattle.sup_ledger.specs.Accounts.{IsNew};
 ghost use Rattle.sup_live.specs.Wholes.{IsReport};
 
@@ -65,7 +65,8 @@ where
     requires root { IsNew I.ledger I.places root }
     requires ends { I.may_end ≡ B.may_end behaviour.now }
     requires given { I.may_give ≡ M.may_give }
-    ensures { IfOk result (λ r. IsReport (B.may_end behaviour.now) M.may_give N.template (vec_len peers) before.entry.items r.1.items r.0) }
+    ensures report { IfOk result (λ r. IsReport (B.may_end behaviour.now) M.may_give N.template (vec_len peers) before.entry.items r.1.items r.0) }
+    ensures press { IfOk result (λ r. IfSome r.0.audit (λ t. t.press ≡ N.press)) }
 {
     let (alloc, Plan { workers, grace, .. }) = (rt.alloc(), plan);
     let timed = Timed { rt, timer: moments };
@@ -107,8 +108,8 @@ where
 /// a child that was let go, `not_run` of one that could not be run. So has each exit that the report says was left.
 ///
 /// Each child that was made has one exit: the driver entered it, or the report has it as left, or counts it
-/// among those that are owed; and there is no other exit. Each child that the client of a handle which comes back started, and each
-/// that was restarted by the driver's calls, is one of the children that were made.
+/// among those that are owed; and there is no other exit. Each child that was started by the client of a handle that comes back, and
+/// each that was restarted by the driver's calls, is one of the children that were made.
 ///
 /// Children that the history lists when the run begins are of an earlier run. Each begins again under its number, with an empty
 /// mailbox, and is one of the children that were made. A restart that had failed is tried again.
@@ -116,8 +117,8 @@ where
 /// Two handles of the desk are used: the driver's, and that of the program's client. Each peer that runs takes one more, once its
 /// thread has begun, and each client that a client makes. Then the desk is audited by all of them, and by the handles that were made
 /// before the run: those of these callers. All of these handles come back with the report, in the order of making, so the desk can be
-/// used on, and audited again. If memory is refused for the handle of a client, it is let go, and if it is refused for the list of
-/// them, those of the crew are; then there is no audit.
+/// used on, and audited again; each may learn the audit's ticket. If memory is refused for the handle of a client, it is let go, and if
+/// it is refused for the list of them, those of the crew are; then there is no audit.
 ///
 /// # Errors
 /// Nothing was entered, neither the program nor a peer was run, and the handles are let go: `OutOfMemory`; `NoThread`; `NoHandle` and
@@ -153,7 +154,8 @@ where
     R: Threads + Wait + Clock + RandomSource + AllocGlobal + Sync,
     M: Timer + Drop + Send + Sync,
     requires workers { (1 ≤ plan.workers) × (plan.workers ≤ 64) }
-    ensures { IfOk result (λ r. IsReport (B.may_end behaviour.now) M.may_give N.template (vec_len peers) before.items r.1.items r.0) }
+    ensures report { IfOk result (λ r. IsReport (B.may_end behaviour.now) M.may_give N.template (vec_len peers) before.items r.1.items r.0) }
+    ensures press { IfOk result (λ r. IfSome r.0.audit (λ t. t.press ≡ N.press)) }
 {
     // Room for the handles of the crew is made before the run: of all but the clients that clients make.
     let most = before.len().saturating_add(peers.len()).saturating_add(2);

@@ -4,7 +4,7 @@ ghost use denote.Param.Send.{IsSend};
 
 use crate::client::Program;
 use crate::left::Left;
-use crate::peers::{NotRun, join_peers, run_by_client, start_peers};
+use crate::peers::{NotRun, join_peers, room_for, run_by_client, start_peers};
 use crate::plan::LiveFault;
 use crate::resume::resume;
 use std::sync::{Mutex, Wait};
@@ -124,8 +124,7 @@ where
             ensures { IfOk result (λ j. vec_len j.peers ≡ vec_len peers) }
         {
             let (hub, alloc) = (yard.hub, yard.alloc);
-            let threads = Vec::with_capacity(alloc, peers.len())?;
-            let room = Vec::with_capacity(alloc, peers.len())?;
+            let (threads, room) = room_for(alloc, peers.len())?;
             // While these are there, workers wait for children that are still to come.
             let holds = yard.hold()?;
             // The whole of it is moved in, with what it says of the handle.

@@ -1,11 +1,12 @@
 -- What the driver and the hub say, and the audit.
-use Rattle.std.proofs.Common.{rules, ◌≡◌, ◌⊎◌, None, IfSome, [], ◌∷◌, ap, subst, append_assoc}
+use Rattle.std.proofs.Common.{rules, ◌≡◌, ◌⊎◌, [], ◌∷◌, ap, subst, append_assoc}
+use Rattle.std.specs.Prelude.{MatchOption}
 use Rattle.sup_live.specs.Wholes.{AreAtHand, IsWhole}
 use Rattle.sup_live.proofs.Added.{counted, entered_ending, told_of}
 use Rattle.sup_live.proofs.report.conclude.Goals as goal
 
-pub returns : goal.returns
-returns g c =
+pub returns-clause-report : goal.returns-clause-report
+returns-clause-report g c =
     let driver = c.args.joined.driver in
     let handle = driver.handle in
     let before = c.args.before.items in
@@ -22,6 +23,6 @@ returns g c =
       account = told_of g.N.Name.template _ handle g.I.Office.may_end _ _ _ _ _ _ _ c.settle-left.ensures.account driver.led
           c.args.clients.started driver.restarted (ap (λ w. w.shown) c.show.ensures);
       peers_are = search rules;
-      at_hand = subst (λ all. ((audit ≡ None) × (handles ≡ before)) ⊎ AreAtHand all handles) same c.audited-handles.ensures.at_hand;
-      audited = subst (λ all. IfSome audit (λ t. IsWhole all t.front)) same c.audited-handles.ensures.whole;
+      audited = subst (λ all. MatchOption audit ((handles ≡ before) ⊎ AreAtHand all handles) (λ t. IsWhole all handles t.front)) same
+          c.audited-handles.ensures.audited;
     }
