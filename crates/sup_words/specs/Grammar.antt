@@ -33,13 +33,9 @@ file_rule required = record (new_rule (codes "file")) {
   action = Some Set;
 }
 
--- a command that answers a text: it may explain a fault, and may be given a file
-abbrev pub text_app : List ℕ → App
-text_app name = with_rule (with_rule (new_app name) explain_rule) (file_rule false)
-
--- the command that answers a journal, which is in a file
-abbrev pub journal_app : App
-journal_app = with_rule (with_rule (new_app (codes "journal")) explain_rule) (file_rule true)
+-- a command that answers a text, which may be in a file, or has to be: it may explain a fault
+abbrev pub text_app : List ℕ → Bool → App
+text_app name in_file = with_rule (with_rule (new_app name) explain_rule) (file_rule in_file)
 
 abbrev pub status_rule : Rule
 status_rule = flag_rule (codes "status")
@@ -73,4 +69,5 @@ bare_app = record (new_app (codes "supload")) {
 
 abbrev pub supload_app : App
 supload_app = with_subcommand (with_subcommand (with_subcommand (with_subcommand (with_subcommand bare_app
-    (text_app (codes "script")).top) (text_app (codes "replay")).top) journal_app.top) load_app.top) serve_app.top
+    (text_app (codes "script") false).top) (text_app (codes "replay") false).top) (text_app (codes "journal") true).top)
+    load_app.top) serve_app.top

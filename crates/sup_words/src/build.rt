@@ -3,7 +3,7 @@
 ghost use Rattle.std.specs.Prelude.{◌≡◌, IfOk, false};
 ghost use Rattle.clap.specs.Words.{app_of, rule_of};
 ghost use Rattle.clap.specs.declared.builder.command.Command.TheViews.{out-Command as fields_of};
-ghost use Rattle.sup_words.specs.Grammar.{file_rule, flag_rule, journal_app, load_app, number_rule, path_rule, serve_app, supload_app, text_app};
+ghost use Rattle.sup_words.specs.Grammar.{file_rule, flag_rule, load_app, number_rule, path_rule, serve_app, supload_app, text_app};
 
 use crate::help::{
     ABOUT, FAULTS, JOURNAL, JOURNAL_HELP, LOAD, LOAD_FAULTS, LOAD_HELP, REPLAY, REPLAY_HELP,
@@ -12,6 +12,9 @@ use crate::help::{
 use clap::builder::ValueParser;
 use clap::{Arg, ArgAction, Command};
 use std::alloc::{AllocError, Global};
+
+/// What the file of a script or of a history is.
+const TEXT: &str = "The text; standard input, if it is left out";
 
 /// An argument that takes the path of a file, and may be left out.
 fn path<'a>(alloc: Global, name: &'a str, value: &'a str, help: &'a str) -> Arg<'a>
@@ -106,33 +109,23 @@ fn load_command<'a>(alloc: Global) -> Result<Command<'a>, AllocError>
         ))
 }
 
-/// A command that answers a text, by default what standard input has.
+/// A command that answers a text: that of a file, which has to be given, or by default what standard input has. What it is about is
+/// said in short and in full.
 fn text_command<'a>(
     alloc: Global,
     name: &'a str,
-    about: &'a str,
-    help: &'a str,
+    about: (&'a str, &'a str),
+    text: &'a str,
+    in_file: bool,
 ) -> Result<Command<'a>, AllocError>
-    ensures { IfOk result (λ c. (app_of c ≡ text_app name.entry.now) × ((fields_of c).has_globals ≡ false)) }
+    ensures { IfOk result (λ c. (app_of c ≡ text_app name.entry.now in_file) × ((fields_of c).has_globals ≡ false)) }
 {
     Command::new(alloc, name)
-        .about(about)
-        .long_about(help)
+        .about(about.0)
+        .long_about(about.1)
         .after_help(FAULTS)
         .arg(flag(alloc, "explain", "Explains a fault in a line"))?
-        .arg(file(alloc, "The text; standard input, if it is left out", false))
-}
-
-/// The command that answers a journal.
-fn journal_command<'a>(alloc: Global) -> Result<Command<'a>, AllocError>
-    ensures { IfOk result (λ c. (app_of c ≡ journal_app) × ((fields_of c).has_globals ≡ false)) }
-{
-    Command::new(alloc, "journal")
-        .about(JOURNAL)
-        .long_about(JOURNAL_HELP)
-        .after_help(FAULTS)
-        .arg(flag(alloc, "explain", "Explains a fault in a line"))?
-        .arg(file(alloc, "The journal", true))
+        .arg(file(alloc, text, in_file))
 }
 
 /// The command that serves sessions.
@@ -166,9 +159,15 @@ pub(crate) fn command<'a>(alloc: Global) -> Result<Command<'a>, AllocError>
         .version(VERSION)
         .after_help(STATUSES)
         .subcommand_required(true)
-        .subcommand(text_command(alloc, "script", SCRIPT, SCRIPT_HELP)?)?
-        .subcommand(text_command(alloc, "replay", REPLAY, REPLAY_HELP)?)?
-        .subcommand(journal_command(alloc)?)?
+        .subcommand(text_command(alloc, "script", (SCRIPT, SCRIPT_HELP), TEXT, false)?)?
+        .subcommand(text_command(alloc, "replay", (REPLAY, REPLAY_HELP), TEXT, false)?)?
+        .subcommand(text_command(
+            alloc,
+            "journal",
+            (JOURNAL, JOURNAL_HELP),
+            "The journal",
+            true,
+        )?)?
         .subcommand(load_command(alloc)?)?
         .subcommand(serve_command(alloc)?)
 }
