@@ -5,7 +5,7 @@
 use anyhow::{Context, Result};
 use std::fs::Files;
 use std::sync::Wait;
-use sup_desk::{Caller, Desk, JournaledProgram, Name};
+use sup_desk::{DetachedHandle, Desk, JournaledProgram, Name};
 use sup_journal::{FileJournal, Flush, on_desk_in_file};
 use sup_types::{AlwaysRunning, Kind, Restart, Template, Text};
 
@@ -24,7 +24,7 @@ impl<R: Wait + Files + Print> JournaledProgram<AlwaysRunning, R, Kept<R>> for On
         self,
         rt: &R,
         desk: &Desk<N, AlwaysRunning, &R, Kept<R>>,
-        before: Vec<Caller<N>>,
+        before: Vec<DetachedHandle<N>>,
     ) -> Result<()> {
         let mut before = before;
         let mut server = match before.pop() {

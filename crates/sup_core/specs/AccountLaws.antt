@@ -29,7 +29,7 @@ use Rattle.sup_types.specs.Reason.{restarts_after}
 use Rattle.sup_types.specs.Status.{is_running}
 use Rattle.sup_core.specs.Rows.{has_number, runs_as, waits_as, argument_at, without, waiting_at}
 use Rattle.sup_core.specs.State.{State, arrived}
-use Rattle.sup_core.specs.Replies.{bears, is_full, started, restarted, attempted, shuts_down, let_go, reply_up, reply_to}
+use Rattle.sup_core.specs.Replies.{allows_restart, is_full, started, restarted, attempted, shuts_down, removed, reply_up, reply_to}
 use Rattle.sup_core.specs.Changes.{makes_child, is_attempt, goes_down, start_argument, is_end_of, rows_ended, running, rows_after}
 use Rattle.sup_core.specs.Account.{Item, latest_moment, made_count, is_down, with_argument, arguments, argument_of, removes, leaves_waiting, is_gone, is_restarting, row_of, listed_rows, attempt_moments, standing, item_of, account}
 use Rattle.sup_core.specs.ListingLaws.{list_any-weaker, listing, listed_one, listing-suc, listing-changed, listing-none, rows_changed, rows_changed-none, rows_changed-mark, rows_changed-without, listed-below}
@@ -63,7 +63,7 @@ apt_restarted s operation number (Failed code) listed = listed
 apt_attempted : (s : State) (operation : Operation) (number : ℕ) (answer : Answer) → list_any (has_number number) s.rows ≡ true
     → IsApt s.made s.rows operation (attempted s number answer)
 apt_attempted s operation number answer listed =
-    cond_both (bears s) (restarted s.made number answer) GaveUp (IsApt s.made s.rows operation) (λ _. apt_restarted s operation number answer listed) (λ _. tt)
+    cond_both (allows_restart s) (restarted s.made number answer) GaveUp (IsApt s.made s.rows operation) (λ _. apt_restarted s operation number answer listed) (λ _. tt)
 
 runs_listed : (number : ℕ) (rows : List Row) → list_any (runs_as number) rows ≡ true → list_any (has_number number) rows ≡ true
 runs_listed number rows h =
@@ -73,8 +73,8 @@ waits_listed : (number : ℕ) (rows : List Row) → list_any (waits_as number) r
 waits_listed number rows h =
     list_any-weaker (waits_as number) (has_number number) (λ row both. (and_parts (has_number number row) (not (is_running row.status)) both).0) rows h
 
-apt_let_go : (s : State) (operation : Operation) (number : ℕ) → list_any (has_number number) s.rows ≡ true → IsApt s.made s.rows operation (let_go s number)
-apt_let_go s operation number listed =
+apt_removed : (s : State) (operation : Operation) (number : ℕ) → list_any (has_number number) s.rows ≡ true → IsApt s.made s.rows operation (removed s number)
+apt_removed s operation number listed =
     cond_both (shuts_down s.template (without number s.rows)) (ShutDown number) (Removed number) (IsApt s.made s.rows operation) (λ _. tt) (λ _. listed)
 
 apt_up : (s : State) (operation : Operation) (answer : Answer) → IsApt s.made s.rows operation (reply_up s operation answer)
@@ -82,10 +82,10 @@ apt_up s (Start arg) answer =
     cond_both (is_full s) Full (started s.made answer) (IsApt s.made s.rows (Start arg)) (λ _. tt) (λ _. apt_started s (Start arg) answer)
 apt_up s (Exit number reason) answer =
     let again = restarts_after s.template.restart reason in
-    cond_both (list_any (runs_as number) s.rows) (if again then attempted s number answer else let_go s number) (Stray number)
+    cond_both (list_any (runs_as number) s.rows) (if again then attempted s number answer else removed s number) (Stray number)
     (IsApt s.made s.rows (Exit number reason))
-    (λ runs. cond_both again (attempted s number answer) (let_go s number) (IsApt s.made s.rows (Exit number reason))
-    (λ _. apt_attempted s (Exit number reason) number answer (runs_listed number s.rows runs)) (λ _. apt_let_go s (Exit number reason) number (runs_listed number s.rows runs)))
+    (λ runs. cond_both again (attempted s number answer) (removed s number) (IsApt s.made s.rows (Exit number reason))
+    (λ _. apt_attempted s (Exit number reason) number answer (runs_listed number s.rows runs)) (λ _. apt_removed s (Exit number reason) number (runs_listed number s.rows runs)))
     (λ _. tt)
 apt_up s (Retry number) answer =
     cond_both (list_any (waits_as number) s.rows) (attempted s number answer) NotFound (IsApt s.made s.rows (Retry number))

@@ -10,31 +10,31 @@ use Rattle.sup_types.specs.declared.history.Answer.{Answer}
 use Rattle.sup_types.specs.declared.history.Entry.{Entry}
 use Rattle.sup_types.specs.declared.history.Reply.TheVariants.{Stray, NotFound, GaveUp, Down}
 use Rattle.sup_window.specs.Attempts.{remembered}
-use Rattle.sup_window.specs.Laws.{remembered-push, is_borne-remembered}
+use Rattle.sup_window.specs.Laws.{remembered-push, is_allowed-remembered}
 use Rattle.sup_types.specs.Reason.{restarts_after}
 use Rattle.sup_core.specs.Rows.{runs_as, waits_as, argument_at}
 use Rattle.sup_core.specs.State.{State, arrived}
-use Rattle.sup_core.specs.Replies.{bears, restarted, let_go, reply_up, reply_to, asked_argument, asked_up}
+use Rattle.sup_core.specs.Replies.{allows_restart, restarted, removed, reply_up, reply_to, asked_argument, asked_up}
 use Rattle.sup_core.specs.Changes.{makes_child, is_attempt, goes_down, rows_after, changed, next_state}
 use Rattle.sup_core.specs.Account.{Item, latest_moment, made_count, is_down, listed_rows, attempt_moments, standing, item_of, account, state_after, reply_after, trimmed, IsAfter}
 use Rattle.sup_core.specs.AccountLaws.{IsSound, apt_reply, makes_up, sound_account, listed_rows-push, made_count-push, latest_moment-push, attempt_moments-push, is_down-push, account-push}
 
 -- the attempts that a window remembers decide as all do
-bears-trimmed : (template : Template) (items : List Item) (moment : ℕ) → IsSound items
-    → bears (arrived (trimmed (standing template items)) moment) ≡ bears (arrived (standing template items) moment)
-bears-trimmed template items moment sound =
-    is_borne-remembered template.intensity template.period (attempt_moments items) (max (latest_moment items) moment) sound.rising
+allows_restart-trimmed : (template : Template) (items : List Item) (moment : ℕ) → IsSound items
+    → allows_restart (arrived (trimmed (standing template items)) moment) ≡ allows_restart (arrived (standing template items) moment)
+allows_restart-trimmed template items moment sound =
+    is_allowed-remembered template.intensity template.period (attempt_moments items) (max (latest_moment items) moment) sound.rising
 
 reply_up-trimmed : (template : Template) (items : List Item) (moment : ℕ) (operation : Operation) (answer : Answer) → IsSound items
     → reply_up (arrived (trimmed (standing template items)) moment) operation answer ≡ reply_up (arrived (standing template items) moment) operation answer
 reply_up-trimmed template items moment (Start arg) answer sound = refl
 reply_up-trimmed template items moment (Exit number reason) answer sound =
     ap (λ b. if list_any (runs_as number) (listed_rows items)
-    then (if restarts_after template.restart reason then (if b then restarted (made_count items) number answer else GaveUp) else let_go (standing template items) number)
-    else Stray number) (bears-trimmed template items moment sound)
+    then (if restarts_after template.restart reason then (if b then restarted (made_count items) number answer else GaveUp) else removed (standing template items) number)
+    else Stray number) (allows_restart-trimmed template items moment sound)
 reply_up-trimmed template items moment (Retry number) answer sound =
     ap (λ b. if list_any (waits_as number) (listed_rows items) then (if b then restarted (made_count items) number answer else GaveUp) else NotFound)
-    (bears-trimmed template items moment sound)
+    (allows_restart-trimmed template items moment sound)
 reply_up-trimmed template items moment (Terminate number) answer sound = refl
 reply_up-trimmed template items moment Stop answer sound = refl
 
@@ -114,10 +114,10 @@ asked_up-trimmed template items moment (Start arg) sound = refl
 asked_up-trimmed template items moment (Exit number reason) sound =
     ap (λ b. if list_any (runs_as number) (listed_rows items)
     then (if restarts_after template.restart reason then (if b then Some (argument_at number (listed_rows items)) else None) else None)
-    else None) (bears-trimmed template items moment sound)
+    else None) (allows_restart-trimmed template items moment sound)
 asked_up-trimmed template items moment (Retry number) sound =
     ap (λ b. if list_any (waits_as number) (listed_rows items) then (if b then Some (argument_at number (listed_rows items)) else None) else None)
-    (bears-trimmed template items moment sound)
+    (allows_restart-trimmed template items moment sound)
 asked_up-trimmed template items moment (Terminate number) sound = refl
 asked_up-trimmed template items moment Stop sound = refl
 

@@ -5,7 +5,7 @@ pub mod Changes
 pub mod Account
 pub mod Queries
 pub mod Children
-pub mod Near
+pub mod SequentialHasher
 pub mod ListingLaws
 pub mod AccountLaws
 pub mod HistoryLaws

@@ -14,13 +14,13 @@ use Rattle.sup_types.specs.declared.history.Entry.{Entry}
 use Rattle.sup_types.specs.declared.history.Reply.{Reply}
 use Rattle.sup_types.specs.declared.history.Reply.TheVariants.{Started, Undefined, StartFailed, Full, Removed, ShutDown, Restarted, Restarting, Ignored, Stray, NotFound, Ended, Stopped, GaveUp, Down}
 use Rattle.sup_types.specs.Reason.{restarts_after}
-use Rattle.sup_window.specs.Attempts.{is_borne}
+use Rattle.sup_window.specs.Attempts.{is_allowed}
 use Rattle.sup_core.specs.Rows.{has_number, runs_as, waits_as, argument_at, without}
 use Rattle.sup_core.specs.State.{State, arrived}
 
 -- whether one more attempt is allowed at the latest moment
-abbrev pub bears : State → Bool
-bears s = is_borne s.template.intensity s.template.period s.attempts s.latest
+abbrev pub allows_restart : State → Bool
+allows_restart s = is_allowed s.template.intensity s.template.period s.attempts s.latest
 
 -- whether there are as many children as there may be
 abbrev pub is_full : State → Bool
@@ -40,7 +40,7 @@ restarted made number (Failed code) = Restarting number code
 
 -- the reply to an attempt to restart this child
 abbrev pub attempted : State → ℕ → Answer → Reply
-attempted s number answer = if bears s then restarted s.made number answer else GaveUp
+attempted s number answer = if allows_restart s then restarted s.made number answer else GaveUp
 
 -- whether the end of a significant child that left these rows takes the supervisor down
 abbrev pub takes_down : AutoShutdown → List Row → Bool
@@ -53,15 +53,15 @@ abbrev pub shuts_down : Template → List Row → Bool
 shuts_down template left = template.significant && takes_down template.auto_shutdown left
 
 -- the reply to the end of this child, which is not started again
-abbrev pub let_go : State → ℕ → Reply
-let_go s number = if shuts_down s.template (without number s.rows) then ShutDown number else Removed number
+abbrev pub removed : State → ℕ → Reply
+removed s number = if shuts_down s.template (without number s.rows) then ShutDown number else Removed number
 
 -- the reply to an operation that has arrived, while the supervisor is up
 abbrev pub reply_up : State → Operation → Answer → Reply
 reply_up s (Start arg) answer = if is_full s then Full else started s.made answer
 reply_up s (Exit number reason) answer =
     if list_any (runs_as number) s.rows
-    then (if restarts_after s.template.restart reason then attempted s number answer else let_go s number)
+    then (if restarts_after s.template.restart reason then attempted s number answer else removed s number)
     else Stray number
 reply_up s (Retry number) answer = if list_any (waits_as number) s.rows then attempted s number answer else NotFound
 reply_up s (Terminate number) answer = if list_any (has_number number) s.rows then Ended else NotFound
@@ -73,7 +73,7 @@ reply_to s entry = if s.down then Down else reply_up (arrived s entry.moment) en
 
 -- the argument whose start is asked for in an attempt to restart this child
 abbrev pub asked_again : State → ℕ → Option Text
-asked_again s number = if bears s then Some (argument_at number s.rows) else None
+asked_again s number = if allows_restart s then Some (argument_at number s.rows) else None
 
 abbrev pub asked_up : State → Operation → Option Text
 asked_up s (Start arg) = if is_full s then None else Some arg

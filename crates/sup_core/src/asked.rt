@@ -3,13 +3,13 @@ ghost use Rattle.std.specs.Prelude.{◌≡◌, None};
 
 use sup_types::Text;
 
-/// Says where a child was found, if it was looked up. It is a hint: no reply depends on it.
+/// Says at which index of the table a child was found, if it was looked up. It is a hint: no reply depends on it.
 ///
-/// Supervisors after the same history have each child in the same place. So what one of them found, the others need not
-/// look for.
+/// Supervisors after the same history have each child at the same index, so what one of them found, the others need not
+/// look up.
 #[derive(Clone, Copy, Debug)]
-pub struct Spot {
-    place: usize,
+pub struct CachedIndex {
+    index: usize,
 }
 
 /// Says whether the start function is to be asked, and about which argument.
@@ -21,45 +21,45 @@ pub struct Asked {
     /// The argument whose start decides the reply, if there is one.
     pub arg: Option<Text>,
     /// Where the child was found, if it was looked up.
-    pub spot: Spot,
+    pub cached_index: CachedIndex,
 }
 
-/// The place of a child that was not looked up, or not found.
-pub const NO_PLACE: usize = usize::MAX;
+/// The index of a child that was not looked up, or not found.
+pub const NO_INDEX: usize = usize::MAX;
 
 impl Asked {
-    /// Asks nothing.
+    /// Returns that nothing is asked.
     pub(crate) fn nothing() -> Asked
         ensures { result.arg ≡ None }
     {
-        Asked::new(None, NO_PLACE)
+        Asked::new(None, NO_INDEX)
     }
 
-    /// Asks about this argument, if there is one, of a child that was found there.
-    pub(crate) fn new(arg: Option<Text>, place: usize) -> Asked
+    /// Returns that this argument is asked, if there is one, of a child that was found at this index.
+    pub(crate) fn new(arg: Option<Text>, index: usize) -> Asked
         ensures { result.arg ≡ arg }
     {
         Asked {
             arg,
-            spot: Spot::at(place),
+            cached_index: CachedIndex::at(index),
         }
     }
 }
 
-impl Spot {
-    /// Returns the spot of a child that was not looked up.
-    pub fn unknown() -> Spot {
-        Spot { place: NO_PLACE }
+impl CachedIndex {
+    /// Returns the index of a child that was not looked up.
+    pub fn unknown() -> CachedIndex {
+        CachedIndex { index: NO_INDEX }
     }
 
-    /// Returns the spot of a child that is there.
-    pub(crate) fn at(place: usize) -> Spot {
-        Spot { place }
+    /// Returns the index of a child that was found there.
+    pub(crate) fn at(index: usize) -> CachedIndex {
+        CachedIndex { index }
     }
 
-    pub(crate) fn place(&self) -> usize
-        ensures { result ≡ self.now.place }
+    pub(crate) fn index(&self) -> usize
+        ensures { result ≡ self.now.index }
     {
-        self.place
+        self.index
     }
 }

@@ -5,7 +5,7 @@ ghost use Rattle.sup_core.specs.Replies.{reply_to, asked_argument};
 ghost use Rattle.sup_core.specs.Changes.{next_state};
 ghost use Rattle.sup_core.specs.Account.{IsAfter, reply_after, entry_of, answer_to};
 
-use crate::asked::{NO_PLACE, Spot};
+use crate::asked::{CachedIndex, NO_INDEX};
 use crate::supervisor::Sup;
 use std::alloc::Allocator;
 use sup_types::{Answer, Entry, FixedStarter, Operation, Reply, Text};
@@ -24,20 +24,25 @@ impl<A: Allocator + Copy> Sup<A> {
         ensures history { (history : List Entry) → IsAfter self.old history
             → (result ≡ reply_after self.old.template history entry.now) × IsAfter self.new (history ++ entry.now ∷ []) }
     {
-        self.advance(entry.moment, &entry.operation, entry.answer, NO_PLACE)
+        self.apply_at(entry.moment, &entry.operation, entry.answer, NO_INDEX)
     }
 
-    /// Enters an entry as [`Sup::step`] does. The child is looked for at this spot first, and by its number only if it
-    /// is not there. So the reply is right for any spot: that of [`Sup::asks`] for this entry, or the [`Sup::spot`]
+    /// Enters an entry as [`Sup::step`] does. The child is looked for at this index first, and by its number only if it
+    /// is not there. So the reply is right for any index: that of [`Sup::asks`] for this entry, or the [`Sup::cached_index`]
     /// that another supervisor had after it.
-    pub fn step_at(&mut self, entry: &Entry, spot: Spot) -> Reply
+    pub fn step_at(&mut self, entry: &Entry, cached_index: CachedIndex) -> Reply
         requires { self.old.steps < self.old.template.entries }
         ensures reply { result ≡ reply_to self.old entry.now }
         ensures next { self.new ≡ next_state self.old entry.now }
         ensures history { (history : List Entry) → IsAfter self.old history
             → (result ≡ reply_after self.old.template history entry.now) × IsAfter self.new (history ++ entry.now ∷ []) }
     {
-        self.advance(entry.moment, &entry.operation, entry.answer, spot.place())
+        self.apply_at(
+            entry.moment,
+            &entry.operation,
+            entry.answer,
+            cached_index.index(),
+        )
     }
 
     /// Enters an operation at this moment, in seconds, as the next entry, with the start function's answer if it is
@@ -74,7 +79,7 @@ impl<A: Allocator + Copy> Sup<A> {
     {
         let asked = self.asked_argument(operation, moment);
         let answer = answer_to(starter, &asked.arg, moment);
-        self.advance(moment, operation, answer, asked.spot.place())
+        self.apply_at(moment, operation, answer, asked.cached_index.index())
     }
 }
 

@@ -26,19 +26,19 @@
 //!     None => Answer::Ignore,
 //! };
 //! let entry = Entry { handle: 0, serial: sup.stamp(), moment, operation, answer };
-//! let reply = sup.step_at(&entry, asked.spot);
+//! let reply = sup.step_at(&entry, asked.cached_index);
 //! ```
 //!
 //! `supervisor` has the supervisor, `entering` how entries come in, `asked` what it asks of its caller, `table` its rows by
-//! their numbers, `near` the hash of a number, and `child` what is kept of one.
+//! their numbers, `sequential` the hash of a number, and `child` what is kept of one.
 #![tactic(auto)]
 
 mod asked;
 mod child;
 mod entering;
-mod near;
+mod sequential;
 mod supervisor;
 mod table;
 
-pub use asked::{Asked, Spot};
+pub use asked::{Asked, CachedIndex};
 pub use supervisor::Sup;

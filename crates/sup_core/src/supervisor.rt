@@ -1,7 +1,7 @@
 //! The supervisor: its entries and its queries.
 //!
 //! A public function that only calls a private one (`counts` calls `count`, `child` calls `find`, `rows` calls `copied`, `step` calls
-//! `advance`) is proved of the whole history, by lemmas on the reference semantics. The private one is proved of the supervisor's
+//! `apply_at`) is proved of the whole history, by lemmas on the reference semantics. The private one is proved of the supervisor's
 //! state, by its code. So no proof walks through code and history at once.
 ghost use Rattle.std.specs.Prelude.{◌≡◌, ◌==◌, ◌<◌, ◌≤◌, ℕ, ◌+◌, List, [], ◌∷◌, ◌++◌, None, IsTrue, IfOk, IsOk, ◌⊎◌, MatchOption, false, true, length, if◌then◌else◌};
 ghost use Rattle.std.specs.List.{list_any};
@@ -11,12 +11,12 @@ ghost use Rattle.sup_types.specs.declared.history.Operation.{Operation};
 ghost use Rattle.sup_types.specs.declared.history.Answer.{Answer};
 ghost use Rattle.sup_core.specs.Rows.{has_number, runs_as, stands_as, row_at, counts_of};
 ghost use Rattle.sup_core.specs.State.{State, arrived, seen_of, MatchSeen};
-ghost use Rattle.sup_core.specs.Replies.{reply_to, reply_up, let_go, shuts_down, attempted, bears, is_full, asked_argument, asked_again};
+ghost use Rattle.sup_core.specs.Replies.{reply_to, reply_up, removed, shuts_down, attempted, allows_restart, is_full, asked_argument, asked_again};
 ghost use Rattle.sup_core.specs.Changes.{running, changed, next_state};
 ghost use Rattle.sup_core.specs.Account.{IsAfter, reply_after, state_after, account, is_down};
 ghost use Rattle.sup_core.specs.Queries.{which, count, child};
 
-use crate::asked::{Asked, NO_PLACE, Spot};
+use crate::asked::{Asked, CachedIndex, NO_INDEX};
 use crate::table::Table;
 use std::alloc::{Allocator, Global};
 use std::marker::Model;
@@ -199,7 +199,7 @@ impl<A: Allocator + Copy> Sup<A> {
                 if self.is_full() {
                     return Asked::nothing();
                 }
-                return Asked::new(Some(*arg), NO_PLACE);
+                return Asked::new(Some(*arg), NO_INDEX);
             }
             Operation::Exit(number, reason) => {
                 if !self.template.restart.restarts_after(reason) {
@@ -223,33 +223,33 @@ impl<A: Allocator + Copy> Sup<A> {
         self.table.asked_of(status, number)
     }
 
-    /// Returns where the child was that the last entry of a child took out or let wait. A supervisor that lacks just this entry
-    /// has it there, so that [`Sup::step_at`] need not look for it.
-    pub fn spot(&self) -> Spot {
-        Spot::at(self.table.stood())
+    /// Returns where the child was that the last entry removed or left waiting. A supervisor that lacks just this entry
+    /// has it there, so that [`Sup::step_at`] need not look it up.
+    pub fn cached_index(&self) -> CachedIndex {
+        CachedIndex::at(self.table.last_index())
     }
 
-    /// Enters an entry of any handle with this moment, operation and answer. `place` is where the operation's child may have been found.
-    pub(crate) fn advance(
+    /// Enters an entry of any handle with this moment, operation and answer. `index` is where the operation's child may have been found.
+    pub(crate) fn apply_at(
         &mut self,
         moment: u64,
         operation: &Operation,
         answer: Answer,
-        place: usize,
+        index: usize,
     ) -> Reply
         requires { self.old.steps < self.old.template.entries }
         ensures reply { (handle serial : ℕ) → result ≡ reply_to self.old (record { handle = handle; serial = serial; moment = moment; operation = operation.now; answer = answer }) }
         ensures next { (handle serial : ℕ) → self.new ≡ next_state self.old (record { handle = handle; serial = serial; moment = moment; operation = operation.now; answer = answer }) }
     {
-        self.arrive(moment);
+        self.record_moment(moment);
         if self.is_down() {
             return Reply::Down;
         }
-        self.perform(operation, answer, place)
+        self.apply(operation, answer, index)
     }
 
-    /// Enters an operation that has arrived. `place` is where its child may have been found.
-    fn perform(&mut self, operation: &Operation, answer: Answer, place: usize) -> Reply
+    /// Applies an operation whose moment was recorded. `index` is where its child may have been found.
+    fn apply(&mut self, operation: &Operation, answer: Answer, index: usize) -> Reply
         requires up { self.old.down ≡ false }
         requires room { self.old.made < self.old.steps }
         ensures reply { result ≡ reply_up self.old operation.now answer }
@@ -257,14 +257,15 @@ impl<A: Allocator + Copy> Sup<A> {
     {
         match operation {
             Operation::Start(arg) => self.start(arg, answer),
-            Operation::Exit(number, reason) => self.exit(*number, reason, answer, place),
-            Operation::Retry(number) => self.retry(*number, answer, place),
-            Operation::Terminate(number) => self.terminate(*number, place),
+            Operation::Exit(number, reason) => self.exit(*number, reason, answer, index),
+            Operation::Retry(number) => self.retry(*number, answer, index),
+            Operation::Terminate(number) => self.terminate(*number, index),
             Operation::Stop => self.stop(),
         }
     }
 
-    fn arrive(&mut self, moment: u64)
+    /// Counts an entry, and records its moment.
+    fn record_moment(&mut self, moment: u64)
         requires { self.old.steps < self.old.template.entries }
         ensures next { self.new ≡ arrived self.old moment }
         ensures room { self.new.made < self.new.steps }
@@ -289,28 +290,28 @@ impl<A: Allocator + Copy> Sup<A> {
         }
     }
 
-    fn exit(&mut self, number: u64, reason: &Reason, answer: Answer, place: usize) -> Reply
+    fn exit(&mut self, number: u64, reason: &Reason, answer: Answer, index: usize) -> Reply
         requires up { self.old.down ≡ false }
         requires room { self.old.made < self.old.steps }
         ensures reply { result ≡ reply_up self.old (Operation.Exit number reason.now) answer }
         ensures next { self.new ≡ changed self.old (Operation.Exit number reason.now) result }
     {
         if !self.template.restart.restarts_after(reason) {
-            return self.let_go(number, place);
+            return self.remove(number, index);
         }
-        match self.restart(Status::Running, number, answer, place) {
+        match self.restart(Status::Running, number, answer, index) {
             Some(reply) => reply,
             None => Reply::Stray(number),
         }
     }
 
-    /// Lets a child go that ended and is not started again.
-    fn let_go(&mut self, number: u64, place: usize) -> Reply
+    /// Removes a child that ended and is not started again.
+    fn remove(&mut self, number: u64, index: usize) -> Reply
         requires { self.old.down ≡ false }
-        ensures reply { result ≡ if list_any (runs_as number) self.old.rows then let_go self.old number else Reply.Stray number }
+        ensures reply { result ≡ if list_any (runs_as number) self.old.rows then removed self.old number else Reply.Stray number }
         ensures next { (operation : Operation) → self.new ≡ changed self.old operation result }
     {
-        if self.table.take_as(Status::Running, number, place).is_none() {
+        if self.table.take_as(Status::Running, number, index).is_none() {
             return Reply::Stray(number);
         }
         if !self.shuts_down() {
@@ -332,24 +333,24 @@ impl<A: Allocator + Copy> Sup<A> {
             }
     }
 
-    fn retry(&mut self, number: u64, answer: Answer, place: usize) -> Reply
+    fn retry(&mut self, number: u64, answer: Answer, index: usize) -> Reply
         requires up { self.old.down ≡ false }
         requires room { self.old.made < self.old.steps }
         ensures reply { result ≡ reply_up self.old (Operation.Retry number) answer }
         ensures next { self.new ≡ changed self.old (Operation.Retry number) result }
     {
-        match self.restart(Status::Restarting, number, answer, place) {
+        match self.restart(Status::Restarting, number, answer, index) {
             Some(reply) => reply,
             None => Reply::NotFound,
         }
     }
 
-    fn terminate(&mut self, number: u64, place: usize) -> Reply
+    fn terminate(&mut self, number: u64, index: usize) -> Reply
         requires { self.old.down ≡ false }
         ensures reply { result ≡ if list_any (has_number number) self.old.rows then Reply.Ended else Reply.NotFound }
         ensures next { self.new ≡ changed self.old (Operation.Terminate number) result }
     {
-        if self.table.take(number, place) {
+        if self.table.take(number, index) {
             Reply::Ended
         } else {
             Reply::NotFound
@@ -371,7 +372,7 @@ impl<A: Allocator + Copy> Sup<A> {
         status: Status,
         number: u64,
         answer: Answer,
-        place: usize,
+        index: usize,
     ) -> Option<Reply>
         requires up { self.old.down ≡ false }
         requires room { self.old.made < self.old.steps }
@@ -381,8 +382,8 @@ impl<A: Allocator + Copy> Sup<A> {
             × ((operation : Operation) → self.new ≡ changed self.old operation reply)) }
     {
         let arg = match answer {
-            Answer::Running | Answer::Ignore => self.table.take_as(status, number, place)?,
-            Answer::Failed(_) => self.table.wait_as(status, number, place)?,
+            Answer::Running | Answer::Ignore => self.table.take_as(status, number, index)?,
+            Answer::Failed(_) => self.table.wait_as(status, number, index)?,
         };
         if !self.note_attempt() {
             return Some(self.give_up());
@@ -394,7 +395,7 @@ impl<A: Allocator + Copy> Sup<A> {
         })
     }
 
-    /// Goes down, since there were more attempts than are allowed.
+    /// Takes the supervisor down, since there were more attempts than are allowed.
     fn give_up(&mut self) -> Reply
         ensures reply { result ≡ Reply.GaveUp }
         ensures next { self.new ≡ record self.old { rows = []; down = true } }
@@ -403,9 +404,9 @@ impl<A: Allocator + Copy> Sup<A> {
         Reply::GaveUp
     }
 
-    /// Notes an attempt at the latest moment, and returns whether it is allowed.
+    /// Records an attempt at the latest moment, and returns whether it is allowed.
     fn note_attempt(&mut self) -> bool
-        ensures value { result ≡ bears self.old }
+        ensures value { result ≡ allows_restart self.old }
         ensures next { self.new ≡ record self.old { attempts = remembered self.old.template.intensity (self.old.attempts ++ self.old.latest ∷ []) } }
     {
         self.window.attempt(self.latest)

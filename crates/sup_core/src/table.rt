@@ -13,16 +13,16 @@ ghost use Rattle.sup_core.specs.Changes.{running};
 ghost use Rattle.sup_core.specs.Children.{Listed, listed, place_of, running_count, one_if};
 ghost use Rattle.sup_core.specs.declared.child.Child.{Child};
 
-use crate::asked::{Asked, NO_PLACE};
+use crate::asked::{Asked, NO_INDEX};
 use crate::child::Child;
-use crate::near::Near;
+use crate::sequential::SequentialHasher;
 use indexmap::IndexMap;
 use indexmap::map::Entry;
 use std::alloc::{AllocError, Allocator};
 use std::marker::Model;
 use sup_types::{Row, Status, Text};
 
-type Children<A> = IndexMap<u64, Option<Child>, Near, A>;
+type Children<A> = IndexMap<u64, Option<Child>, SequentialHasher, A>;
 
 /// That few numbers without a child are not worth giving back.
 const FEW: usize = 64;
@@ -36,7 +36,7 @@ pub(crate) struct Table<A: Allocator> {
     live: u64,
     running: u64,
     // Where the child was that was taken or let wait last. No reply depends on it.
-    stood: usize,
+    last_index: usize,
 }
 
 impl<A: Allocator> Model for Table<A> {
@@ -61,14 +61,18 @@ impl<A: Allocator + Copy> Table<A> {
         requires { max ≤ 65536 }
         ensures { IfOk result (λ t. (t.rows ≡ []) × (t.made ≡ 0) × (t.max ≡ max)) }
     {
-        let children = IndexMap::with_capacity_and_hasher(alloc, 2 * max as usize, Near::new())?;
+        let children = IndexMap::with_capacity_and_hasher(
+            alloc,
+            2 * max as usize,
+            SequentialHasher::new(),
+        )?;
         Ok(Table {
             children,
             made: 0,
             max,
             live: 0,
             running: 0,
-            stood: NO_PLACE,
+            last_index: NO_INDEX,
         })
     }
 
@@ -87,25 +91,25 @@ impl<A: Allocator + Copy> Table<A> {
         self.running
     }
 
-    /// Returns where the child was that was taken out or let wait last; `NO_PLACE` before the first.
-    pub(crate) fn stood(&self) -> usize {
-        self.stood
+    /// Returns where the child was that was taken out or let wait last; `NO_INDEX` before the first.
+    pub(crate) fn last_index(&self) -> usize {
+        self.last_index
     }
 
     /// Returns the row with this number.
     pub(crate) fn row_at(&self, number: u64) -> Option<Row>
         ensures { result ≡ row_at number self.now.rows }
     {
-        let (_, child) = find(&self.children, number, NO_PLACE)?;
+        let (_, child) = find(&self.children, number, NO_INDEX)?;
         Some(child.row(number))
     }
 
-    /// Returns the argument of the row with this number, if it has this status, and the place where it was found.
+    /// Returns the argument of the row with this number, if it has this status, and its index.
     pub(crate) fn asked_of(&self, status: Status, number: u64) -> Asked
         ensures { result.arg ≡ if list_any (stands_as status number) self.now.rows then Some (argument_at number self.now.rows) else None }
     {
-        match find_as(&self.children, status, number, NO_PLACE) {
-            Some((place, arg)) => Asked::new(Some(arg), place),
+        match find_as(&self.children, status, number, NO_INDEX) {
+            Some((index, arg)) => Asked::new(Some(arg), index),
             None => Asked::nothing(),
         }
     }
@@ -135,46 +139,49 @@ impl<A: Allocator + Copy> Table<A> {
         self.made
     }
 
-    /// Takes the row with this number out, and returns whether there was one. `place` is where it may have been found.
-    pub(crate) fn take(&mut self, number: u64, place: usize) -> bool
+    /// Takes the row with this number out, and returns whether there was one. It may be at `index`.
+    pub(crate) fn take(&mut self, number: u64, index: usize) -> bool
         ensures { MatchBool result
             ((list_any (has_number number) self.old.rows ≡ true) × (self.new ≡ record self.old { rows = without number self.old.rows }))
             ((list_any (has_number number) self.old.rows ≡ false) × (self.new ≡ self.old)) }
     {
-        self.take_as(Status::Running, number, place).is_some()
-            || self.take_as(Status::Restarting, number, place).is_some()
+        let Some((index, child)) = find(&self.children, number, index) else {
+            return false;
+        };
+        let status = child.status;
+        self.take_as(status, number, index).is_some()
     }
 
-    /// Takes the row with this number out, if it has this status, and returns its argument. It may be at `place`.
-    pub(crate) fn take_as(&mut self, status: Status, number: u64, place: usize) -> Option<Text>
+    /// Takes the row with this number out, if it has this status, and returns its argument. It may be at `index`.
+    pub(crate) fn take_as(&mut self, status: Status, number: u64, index: usize) -> Option<Text>
         ensures taken { MatchOption result
             ((list_any (stands_as status number) self.old.rows ≡ false) × (self.new ≡ self.old))
             (λ arg. (list_any (stands_as status number) self.old.rows ≡ true) × (arg ≡ argument_at number self.old.rows)
             × (self.new ≡ record self.old { rows = without number self.old.rows })) }
         ensures room { IsSome result → length self.new.rows < self.old.max }
     {
-        let (place, arg) = find_as(&self.children, status, number, place)?;
-        self.children[place] = None;
+        let (index, arg) = find_as(&self.children, status, number, index)?;
+        self.children[index] = None;
         self.live -= 1;
         self.running -= one_if(status.is_running());
-        self.stood = place;
+        self.last_index = index;
         Some(arg)
     }
 
-    /// Lets the row with this number wait, if it has this status, and returns its argument. It may be at `place`.
-    pub(crate) fn wait_as(&mut self, status: Status, number: u64, place: usize) -> Option<Text>
+    /// Lets the row with this number wait, if it has this status, and returns its argument. It may be at `index`.
+    pub(crate) fn wait_as(&mut self, status: Status, number: u64, index: usize) -> Option<Text>
         ensures { MatchOption result
             ((list_any (stands_as status number) self.old.rows ≡ false) × (self.new ≡ self.old))
             (λ arg. (list_any (stands_as status number) self.old.rows ≡ true) × (arg ≡ argument_at number self.old.rows)
             × (self.new ≡ record self.old { rows = map (waiting_at number) self.old.rows })) }
     {
-        let (place, arg) = find_as(&self.children, status, number, place)?;
-        self.children[place] = Some(Child {
+        let (index, arg) = find_as(&self.children, status, number, index)?;
+        self.children[index] = Some(Child {
             arg,
             status: Status::Restarting,
         });
         self.running -= one_if(status.is_running());
-        self.stood = place;
+        self.last_index = index;
         Some(arg)
     }
 
@@ -194,38 +201,38 @@ fn one_if(counts: bool) -> u64
     if counts { 1 } else { 0 }
 }
 
-/// Returns the child of this number, and its index. It is looked for by its number only if it is not at `place`.
-fn find<A: Allocator>(children: &Children<A>, number: u64, place: usize) -> Option<(usize, &Child)>
+/// Returns the child of this number, and its index. It is looked up by its number only if it is not at `index`.
+fn find<A: Allocator>(children: &Children<A>, number: u64, index: usize) -> Option<(usize, &Child)>
     requires { IsUnique nat_eq children.now }
     ensures none { IfNone result (row_at number (listed children.now.entries) ≡ None) }
     ensures some { IfSome result (λ p. slice_get children.now.entries p.0 ≡ Some (number, Some p.1.now)) }
 {
-    match children.get_index(place) {
-        Some((there, child)) if *there == number => Some((place, child.as_ref()?)),
+    match children.get_index(index) {
+        Some((there, child)) if *there == number => Some((index, child.as_ref()?)),
         _ => {
-            let (place, _, child) = children.get_full(&number)?;
-            Some((place, child.as_ref()?))
+            let (index, _, child) = children.get_full(&number)?;
+            Some((index, child.as_ref()?))
         }
     }
 }
 
-/// Returns the argument of this number's child, if it has this status, and its index. `place` is where it may be.
+/// Returns the argument of this number's child, if it has this status, and its index. It may be at `index`.
 fn find_as<A: Allocator>(
     children: &Children<A>,
     status: Status,
     number: u64,
-    place: usize,
+    index: usize,
 ) -> Option<(usize, Text)>
     requires { IsUnique nat_eq children.now }
     ensures none { IfNone result (list_any (stands_as status number) (listed children.now.entries) ≡ false) }
     ensures some { IfSome result (λ p. (list_any (stands_as status number) (listed children.now.entries) ≡ true) × (p.1 ≡ argument_at number (listed children.now.entries))) }
     ensures there { IfSome result (λ p. (child : Child) × (slice_get children.now.entries p.0 ≡ Some (number, Some child)) × (is_status status child.status ≡ true) × (child.arg ≡ p.1)) }
 {
-    let (place, child) = find(children, number, place)?;
-    Some((place, child.argument_as(status)?))
+    let (index, child) = find(children, number, index)?;
+    Some((index, child.argument_as(status)?))
 }
 
-/// Puts a child that runs in the last place.
+/// Puts a child that runs in the last index.
 fn put_next<A: Allocator>(children: &mut Children<A>, number: u64, arg: &Text)
     requires absent { get nat_eq children.old number ≡ None }
     requires spare { 0 < spare children.old }

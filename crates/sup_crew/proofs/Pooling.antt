@@ -13,8 +13,8 @@ use Rattle.sup_desk.specs.declared.name.Name.{Ghosts}
 use Rattle.sup_crew.specs.declared.plan.Report.{Report}
 use Rattle.sup_crew.specs.declared.driver.Tally.{Tally}
 use Rattle.sup_crew.specs.Calls.{Call, calls_of, starts_in, child_made, children_made, AreDriven}
-use Rattle.sup_crew.specs.Drivers.{front_of, calls_since}
-use Rattle.sup_crew.specs.Reports.{IsRunOfItsOwn, AreNamed, child_ended, children_ended, items_of_run, calls_of_run}
+use Rattle.sup_crew.specs.Drivers.{front_of, calls_since, run_of}
+use Rattle.sup_crew.specs.Reports.{IsRun, AreNamed, child_ended, children_ended, items_of_run, calls_of_run}
 use Rattle.sup_crew.specs.Tallies.{tally_of}
 use Rattle.logbook.specs.Pages.{Book}
 use Rattle.sup_core.specs.Account.{Item}
@@ -80,33 +80,33 @@ ended_are items = is_count_by (λ cs. weigh (λ _. 1) (children_ended items cs))
     (λ c cs. weigh-append (λ _. 1) (child_ended items c.operation) (children_ended items cs) ∙ one_more (is_exit c.operation) _ _ (ended_once items c.operation))
 
 -- no more children ended than were made
-pub few_ended : {N : Type 0} {G : Ghosts N} (may_end : ℕ → Text → Reason → Type 0) (template : Template) (press : Book) (moment : ℕ) (plan : List Text) (r : Report N G)
-    → IsRunOfItsOwn may_end template press moment plan r → r.tally.exits ≤ r.tally.made
-few_ended may_end template press moment plan r run =
+pub few_ended : {N : Type 0} {G : Ghosts N} (may_end : ℕ → Text → Reason → Type 0) (template : Template) (press : Book) (moment : ℕ) (plan : List Text) (before after : Knowledge) (r : Report N G)
+    → IsRun may_end (run_of template press moment before) plan after r → r.tally.exits ≤ r.tally.made
+few_ended may_end template press moment plan before after r ran =
     let items = items_of_run template r in
-    let calls = calls_of_run template run.before r in
-    let all = run.ran.agree (λ _. 1) in
+    let calls = calls_of_run template before r in
+    let all = ran.agree (λ _. 1) in
     let a = made_are items calls in
     let b = ended_are items calls in
-    let made = ap (λ (t : Tally). t.made) run.ran.counts in
-    let ended = ap (λ (t : Tally). t.exits) run.ran.counts in
+    let made = ap (λ (t : Tally). t.made) ran.counts in
+    let ended = ap (λ (t : Tally). t.exits) ran.counts in
     omega (arith, all, a, b, made, ended)
 
-pub pooled : {N : Type 0} {G : Ghosts N} (may_end : ℕ → Text → Reason → Type 0) (template : Template) (press : Book) (moment : ℕ) (plan : List Text) (r : Report N G) (p : PoolReport)
-    → IsRunOfItsOwn may_end template press moment plan r → r.fault ≡ None → p.made ≡ p.exits + p.left → p.made ≡ r.tally.made → p.exits ≡ r.tally.exits → p.restarts ≡ r.tally.restarts → p.given_up ≡ r.tally.given_up → IsPooled may_end template plan p
-pooled may_end template press moment plan r p run sound whole a b c d =
-    let own : calls_since template run.before r.ticket ≡ calls_of template (front_of r.ticket) run.before.number = own_calls template run.before r.ticket run.new in
+pub pooled : {N : Type 0} {G : Ghosts N} (may_end : ℕ → Text → Reason → Type 0) (template : Template) (press : Book) (moment : ℕ) (plan : List Text) (before after : Knowledge) (r : Report N G) (p : PoolReport)
+    → IsRun may_end (run_of template press moment before) plan after r → before.calls ≡ [] → r.fault ≡ None → p.made ≡ p.exits + p.left → p.made ≡ r.tally.made → p.exits ≡ r.tally.exits → p.restarts ≡ r.tally.restarts → p.given_up ≡ r.tally.given_up → IsPooled may_end template plan p
+pooled may_end template press moment plan before after r p ran new sound whole a b c d =
+    let own : calls_since template before r.ticket ≡ calls_of template (front_of r.ticket) before.number = own_calls template before r.ticket new in
     record {
       history = front_of r.ticket;
-      driver = run.before.number;
-      driven = subst (λ (l : List Call). AreDriven l) own run.ran.driven;
-      starts = subst (λ (l : List Call). starts_in l ≡ plan) own (all_started r run.ran.all sound _ plan run.ran.starts);
-      named = subst (λ (l : List Call). AreNamed may_end (items_of_run template r) l) own run.ran.named;
-      made = a ∙ ap (λ (t : Tally). t.made) run.ran.counts ∙ ap (λ (l : List Call). (tally_of l).made) own;
+      driver = before.number;
+      driven = subst (λ (l : List Call). AreDriven l) own ran.driven;
+      starts = subst (λ (l : List Call). starts_in l ≡ plan) own (all_started r ran.all sound _ plan ran.starts);
+      named = subst (λ (l : List Call). AreNamed may_end (items_of_run template r) l) own ran.named;
+      made = a ∙ ap (λ (t : Tally). t.made) ran.counts ∙ ap (λ (l : List Call). (tally_of l).made) own;
       whole = whole;
-      exits = b ∙ ap (λ (t : Tally). t.exits) run.ran.counts ∙ ap (λ (l : List Call). (tally_of l).exits) own;
-      restarts = c ∙ ap (λ (t : Tally). t.restarts) run.ran.counts ∙ ap (λ (l : List Call). (tally_of l).restarts) own;
-      given_up = d ∙ ap (λ (t : Tally). t.given_up) run.ran.counts ∙ ap (λ (l : List Call). (tally_of l).given_up) own;
+      exits = b ∙ ap (λ (t : Tally). t.exits) ran.counts ∙ ap (λ (l : List Call). (tally_of l).exits) own;
+      restarts = c ∙ ap (λ (t : Tally). t.restarts) ran.counts ∙ ap (λ (l : List Call). (tally_of l).restarts) own;
+      given_up = d ∙ ap (λ (t : Tally). t.given_up) ran.counts ∙ ap (λ (l : List Call). (tally_of l).given_up) own;
     }
 
 pub of_pool : (result : Result PoolReport PoolFault) (may_end : ℕ → Text → Reason → Type 0) (template given : Template) (texts arguments : List Text) → template ≡ given → texts ≡ arguments

@@ -15,7 +15,7 @@ use Rattle.sup_types.specs.declared.history.Reply.{Reply}
 use Rattle.sup_types.specs.declared.history.Reply.TheVariants.{Started, Full, Removed, ShutDown, Restarted, Stray, GaveUp, Down}
 use Rattle.sup_core.specs.Rows.{runs_as, without}
 use Rattle.sup_core.specs.State.{State, arrived}
-use Rattle.sup_core.specs.Replies.{bears, is_full, started, restarted, attempted, shuts_down, let_go, reply_up, reply_to}
+use Rattle.sup_core.specs.Replies.{allows_restart, is_full, started, restarted, attempted, shuts_down, removed, reply_up, reply_to}
 use Rattle.sup_core.specs.Changes.{makes_child, start_argument}
 use Rattle.sup_core.specs.Account.{Item, made_count, with_argument, arguments, argument_of, is_gone, row_of, listed_rows, standing, item_of, account}
 use Rattle.sup_core.specs.ListingLaws.{listed-below}
@@ -56,9 +56,9 @@ names_up : (s : State) (operation : Operation) (answer : Answer) → Names opera
 names_up s (Start arg) answer = cond_both (is_full s) Full (started s.made answer) NamesStart (λ _. tt) (λ _. names_started s.made answer)
 names_up s (Exit ended reason) answer =
     let again = restarts_after s.template.restart reason in
-    cond_both (list_any (runs_as ended) s.rows) (if again then attempted s ended answer else let_go s ended) (Stray ended) (NamesExit ended)
-    (λ _. cond_both again (attempted s ended answer) (let_go s ended) (NamesExit ended)
-    (λ _. cond_both (bears s) (restarted s.made ended answer) GaveUp (NamesExit ended) (λ _. names_restarted s.made ended answer) (λ _. tt))
+    cond_both (list_any (runs_as ended) s.rows) (if again then attempted s ended answer else removed s ended) (Stray ended) (NamesExit ended)
+    (λ _. cond_both again (attempted s ended answer) (removed s ended) (NamesExit ended)
+    (λ _. cond_both (allows_restart s) (restarted s.made ended answer) GaveUp (NamesExit ended) (λ _. names_restarted s.made ended answer) (λ _. tt))
     (λ _. cond_both (shuts_down s.template (without ended s.rows)) (ShutDown ended) (Removed ended) (NamesExit ended) (λ _. tt) (λ _. tt)))
     (λ _. tt)
 names_up s (Retry number) answer = tt

@@ -1,5 +1,5 @@
 -- What a run did: the calls of its driver, and what became of each child that they made.
-use Rattle.std.specs.Prelude.{◌≡◌, ℕ, ◌+◌, List, [], ◌∷◌, ◌++◌, IfSome, IfNone}
+use Rattle.std.specs.Prelude.{◌≡◌, ℕ, ◌+◌, List, [], ◌∷◌, ◌++◌, Some, IfSome, IfNone}
 use Rattle.sup_types.specs.declared.text.Text.{Text}
 use Rattle.sup_types.specs.declared.reason.Reason.{Reason}
 use Rattle.sup_types.specs.declared.template.Template.{Template}
@@ -71,9 +71,10 @@ module _ {N : Type 0} {G : Ghosts N} where
     pub ends : AreEnds may_end (notes_of_run r)
     pub counts : r.tally ≡ tally_of (calls_of_run run.template run.before r)
 
-  -- the same by a handle that made no call before the run and belongs to it
+  -- the same by a handle that made no call before the run, and is in the report
   pub record IsRunOfItsOwn (may_end : ℕ → Text → Reason → Type 0) (template : Template) (press : Book) (moment : ℕ) (plan : List Text) (r : Report N G) : Type 0 where
     pub before : Knowledge
     pub new : before.calls ≡ []
     pub after : Knowledge
+    pub caller : r.caller ≡ Some after
     pub ran : IsRun may_end (run_of template press moment before) plan after r

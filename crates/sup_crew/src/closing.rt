@@ -108,6 +108,7 @@ pub fn close<N: Name, B: Body, R: Wait>(
     drop(unstarted.drain(..outcome.started));
     Report {
         driver: outcome.driver,
+        caller: None,
         ticket: outcome.ticket,
         tally: outcome.tally,
         unstarted,

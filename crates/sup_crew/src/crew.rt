@@ -27,7 +27,7 @@ pub struct Crew<N: Name> {
 pub struct Signals {
     /// A job was queued, or the run is over.
     pub queued: Condvar,
-    /// An exit was posted.
+    /// An exit was posted, or the run is over.
     pub posted: Condvar,
     /// The inbox was drained, or the run is over.
     pub drained: Condvar,
@@ -45,10 +45,11 @@ impl Signals {
         self.over.load(Ordering::SeqCst)
     }
 
-    /// Says that the run is over, and wakes the workers.
+    /// Says that the run is over, and wakes the workers and the driver.
     pub fn end(&self) {
         self.over.store(true, Ordering::SeqCst);
         self.queued.notify_all();
+        self.posted.notify_all();
         self.drained.notify_all();
     }
 }

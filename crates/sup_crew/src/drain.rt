@@ -1,5 +1,5 @@
 //! The drain: it takes notes and enters them as exits, in order, and holds those that it could not enter.
-ghost use Rattle.std.specs.Prelude.{◌≡◌, List, ◌+◌, ◌<◌, ◌≤◌, ◌⊎◌, [], ◌++◌, take, IfOk, IfErr, MatchResult, length, vec_len, vec_capacity};
+ghost use Rattle.std.specs.Prelude.{◌≡◌, List, ◌+◌, ◌<◌, ◌≤◌, ◌⊎◌, [], ◌++◌, None, take, IfOk, IfErr, MatchResult, length, vec_len, vec_capacity};
 ghost use Rattle.std.specs.VecDeque.{deque_len, deque_capacity};
 ghost use Rattle.arrayvec.specs.ArrayVec.{array_vec_len};
 ghost use mathlib.Core.List.{IsPrefix};
@@ -183,7 +183,7 @@ impl Drain {
         ensures ok { IfOk result (λ d. IsEntered S.may_answer N.template N.press handle.old handle.new moment d.pairs.items d.ticket) }
         ensures entered { IfOk result (λ d. self.new.entered ≡ self.old.entered ++ notes_of d.pairs.items) }
         ensures all { IfOk result (λ d. (vec_len d.pairs ≡ limit) ⊎ (self.new.held ≡ [])) }
-        ensures idle { IfOk result (λ d. d.pairs.items ≡ [] → handle.new ≡ handle.old) }
+        ensures idle { IfOk result (λ d. d.pairs.items ≡ [] → (handle.new ≡ handle.old) × (d.ticket ≡ None)) }
         ensures few { MatchResult result (λ d. vec_len d.pairs ≤ limit) (λ e. vec_len e.done.pairs ≤ limit) }
 
         // What a fault leaves, and when it comes.

@@ -80,14 +80,13 @@ impl<'d, N: Name, S: Starter + Drop, P: Wait + Drop, J: Journal + Drop> Driver<'
         Ok(())
     }
 
-    /// Drains until as many notes were taken as jobs are queued, a fault comes, or this number of turns in a row took none. It does
-    /// nothing if there is a fault already.
+    /// Drains until as many notes were taken as jobs are queued, a fault comes, or the plan's number of turns in a row took none, of
+    /// which one is enough once the run is over. It does nothing if there is a fault already.
     pub fn drain_all<R: Wait>(
         &mut self,
         rt: &R,
         alloc: Global,
         crew: &Crew<N>,
-        turns: u64,
         fault: Option<UpdateFault>,
     ) -> Option<UpdateFault>
         requires at_work { IsAtWork crew.now.jobs crew.now.inbox.id self.old }
@@ -104,7 +103,8 @@ impl<'d, N: Name, S: Starter + Drop, P: Wait + Drop, J: Journal + Drop> Driver<'
         let mut taken = 0usize;
         let mut idle = 0u64;
         for _ in rt.forever() {
-            if taken >= self.jobs.queued() || idle >= turns {
+            let is_over = idle >= crew.plan.turns || idle > 0 && signals.is_over();
+            if is_over || taken >= self.jobs.queued() {
                 return None;
             }
             let noted = signals.posted.notifications();
@@ -119,7 +119,7 @@ impl<'d, N: Name, S: Starter + Drop, P: Wait + Drop, J: Journal + Drop> Driver<'
                 continue;
             }
             idle += 1;
-            if idle < turns {
+            if idle < crew.plan.turns && !signals.is_over() {
                 sleep(rt, &signals.posted, noted);
             }
         }

@@ -53,6 +53,12 @@ pub trait Body {
     /// The reasons for which a child with this number and argument may end.
     ghost may_end: { Self → ℕ → Text → Reason → Type 0 };
 
+    /// Returns whether a worker is to run further children, by what its asker sees. If it says no, the run is over: the jobs that
+    /// nobody took are left. By default each job is run.
+    fn goes_on<N: Name>(&self, _asker: &mut Asker<N>) -> bool {
+        true
+    }
+
     /// Runs the child of this job to its end, and returns why it ended. It may ask about the children, and so see that its own was
     /// ended. The asker has seen that its own was made.
     fn run<N: Name>(&self, job: Job<N>, asker: &mut Asker<N>) -> Reason

@@ -2,7 +2,7 @@
 
 use crate::driver::Tally;
 use crate::job::Job;
-use sup_desk::{Name, UpdateFault};
+use sup_desk::{DetachedHandle, Name, UpdateFault};
 use sup_inbox::Note;
 use sup_log::Ticket;
 use sup_types::Text;
@@ -28,6 +28,8 @@ pub struct Plan {
 pub struct Report<N: Name> {
     /// The number of the driver's handle, by which all updates were made.
     pub driver: u64,
+    /// The driver's handle, if it was made for this run: an audit asks for it.
+    pub caller: Option<DetachedHandle<N>>,
     /// The ticket of its last update.
     pub ticket: Option<Ticket>,
     /// How many updates of each kind it made.

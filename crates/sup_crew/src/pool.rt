@@ -9,14 +9,14 @@ ghost use Rattle.sup_types.specs.declared.text.Text.{Text as AText};
 use crate::fault::PoolFault;
 use crate::job::{Body, Job};
 use crate::plan::Plan;
-use crate::run::run_crew;
+use crate::run::run_crew_with;
 use std::alloc::{AllocGlobal, Global};
 use std::convert::AsStr;
 use std::marker::Brand;
 use std::sync::Wait;
 use std::thread::Threads;
 use sup_desk::{Asker, Desk, Ground, Name};
-use sup_types::{AlwaysRunning, AutoShutdown, Kind, Reason, Restart, Template, Text};
+use sup_types::{AlwaysRunning, AutoShutdown, Kind, Reason, Restart, Seen, Template, Text};
 
 /// The notes that the inbox of a pool holds at most.
 const INBOX: usize = 1024;
@@ -40,7 +40,7 @@ pub struct PoolReport {
     pub made: u64,
     /// How many ended.
     pub exits: u64,
-    /// How many were made and did not end, since the run stopped before.
+    /// How many were made, and were not run or whose exit was not entered, since the run stopped before.
     pub left: u64,
     /// How many were started again.
     pub restarts: u64,
@@ -67,6 +67,11 @@ struct Working<'w, T> {
 
 impl<'w, T: Work> Body for Working<'w, T> {
     ghost may_end = { λ body number arg reason. T.may_end body.work.now arg reason };
+
+    /// Returns whether the supervisor is up. Once it is down, no child is listed, and so none is begun.
+    fn goes_on<N: Name>(&self, asker: &mut Asker<N>) -> bool {
+        matches!(asker.count_children(), Ok(Seen::Up(_)))
+    }
 
     fn run<N: Name>(&self, job: Job<N>, _asker: &mut Asker<N>) -> Reason {
         self.work.run(job.arg)
@@ -112,8 +117,9 @@ impl Pool {
         Ok(Pool { workers, template })
     }
 
-    /// Starts a child for each of the arguments, and does the work of each in one of the threads. It returns when all have ended,
-    /// or when the supervisor gave up.
+    /// Starts a child for each of the arguments, and does the work of each in one of the threads. It returns when all have ended. If
+    /// the supervisor gives up, a thread that sees that begins no further work, and it returns when the works that were begun have
+    /// ended. So a work that never ends keeps it.
     ///
     /// # Errors
     /// OutOfMemory and BadArgument come before anything is run; Stopped if an update was refused, say since the history was full.
@@ -162,20 +168,23 @@ fn read_arguments<S: AsStr>(alloc: Global, arguments: &[S]) -> Result<Vec<Text>,
 fn run_named<N: Name + Send + Sync, R: Threads + Wait + Sync, T: Work + Sync>(
     rt: &R,
     alloc: Global,
-    ground: Ground<&R>,
+    ground: Ground,
     plan: Plan,
     work: &T,
 ) -> Result<PoolReport, PoolFault>
-    requires name { (ground.press ≡ N.press) × (ground.template ≡ N.template) × (ground.roll ≡ N.roll) }
+    requires name { (ground.press ≡ N.press) × (ground.template ≡ N.template) × (ground.sessions ≡ N.sessions) }
     requires workers { (1 ≤ plan.workers) × (plan.workers ≤ 64) }
     requires inbox { plan.inbox ≡ 1024 }
     requires turns { plan.turns ≡ 2 ^ 62 }
     ensures pool { IfOk result (λ r. IsPooled (λ number arg reason. T.may_end work.now arg reason) N.template plan.children.items r) }
     ensures fault { IfErr result (λ f. (f ≡ OutOfMemory) ⊎ ((why : AFault) × (f ≡ Stopped why))) }
 {
-    let desk: Desk<N, AlwaysRunning, &R> = Desk::new(ground, AlwaysRunning);
+    let desk: Desk<N, AlwaysRunning, &R> = Desk::new(ground, rt, AlwaysRunning);
     // The desk has room for the handle and the lenses, so a fault is one of memory.
-    let Ok(report) = run_crew(rt, alloc, &desk, &Working { work }, plan) else {
+    let Ok(mut driver) = desk.handle(rt) else {
+        return Err(PoolFault::OutOfMemory);
+    };
+    let Ok(report) = run_crew_with(rt, alloc, &mut driver, &Working { work }, plan) else {
         return Err(PoolFault::OutOfMemory);
     };
     if let Some(fault) = report.fault {

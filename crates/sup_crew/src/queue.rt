@@ -137,7 +137,7 @@ impl<N: Name> Endpoint<N> {
         jobs.line.absorb::<GivesPart>(&mut self.pass, pass);
     }
 
-    /// Queues a job. It comes back if memory runs out.
+    /// Queues a job, or returns it if memory runs out.
     pub fn put<R: Wait>(&mut self, rt: &R, jobs: &Jobs<N>, job: Job<N>) -> Result<(), Job<N>>
         requires { (self.old.queue ≡ jobs.now) × (0 < self.old.permission.parts) }
         ensures { MatchResult result (λ _. self.new ≡ record { queue = jobs.now; permission = permission self.old.permission.parts (self.old.permission.put ++ child_of job ∷ []) self.old.permission.taken }) (λ back. (back ≡ job) × (self.new ≡ self.old)) }

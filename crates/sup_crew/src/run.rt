@@ -18,7 +18,7 @@ use std::alloc::Global;
 use std::sync::Wait;
 use std::thread;
 use std::thread::{Scope, Threads};
-use sup_desk::{Caller, Desk, Handle, Journal, Name, UpdateFault};
+use sup_desk::{Desk, DetachedHandle, Handle, Journal, Name, UpdateFault};
 use sup_inbox::{Inbox, Poster, Taker};
 use sup_log::Ticket;
 use sup_types::{OutOfMemory, Starter};
@@ -36,7 +36,7 @@ pub struct Parts<N: Name> {
     pub finished: Vec<Finished<N>>,
 }
 
-/// Holds a run that is to begin: what its threads share, and its parts, which are of its queue and its inbox.
+/// Holds a run that is to begin: what its threads share, and the endpoints of its queue and inbox.
 #[derive(Drop)]
 pub struct Beginning<'s, N: Name> {
     /// What the driver and the workers share.
@@ -109,8 +109,8 @@ fn drive<'s, 'd: 's, E, N, S, P, J, B, R>(
     run: Beginning<'s, N>,
     body: &'s B,
     desk: &'d Desk<N, S, P, J>,
-    caller: Caller<N>,
-) -> (Caller<N>, Result<RunOutcome<N>, CrewFault>)
+    caller: DetachedHandle<N>,
+) -> (DetachedHandle<N>, Result<RunOutcome<N>, CrewFault>)
 where
     N: Name + Send + Sync + 's,
     S: Starter + Drop + Send + Sync + 's,
@@ -135,10 +135,10 @@ where
         tally: Tally::default(),
     };
     let (started, fault) = driver.start_all(rt, crew);
-    let fault = driver.drain_all(rt, alloc, crew, crew.plan.turns, fault);
+    let fault = driver.drain_all(rt, alloc, crew, fault);
     crew.signals.end();
     let finished = join_all(rt, crew, body, workers, parts.finished);
-    let fault = driver.drain_all(rt, alloc, crew, 1, fault);
+    let fault = driver.drain_all(rt, alloc, crew, fault);
     let Driver {
         handle,
         jobs,
@@ -162,9 +162,9 @@ where
 
 /// Runs a crew over the desk of this handle, which is its driver: it starts the plan's children in order, the workers run the body
 /// of each and post how it ended, and the driver enters their exits. A restarted child is run again. All updates are the driver's,
-/// at the plan's moment, and all bodies ask by one asker a worker, which gives its place back. It returns when each child that was
-/// made has ended, when the driver found no note for the plan's number of turns in a row, or when an update is refused. What was
-/// not done is in the report.
+/// at the plan's moment, and all bodies ask by one asker a worker, which gives its place back. The run is over when each child that
+/// was made has ended, when the driver found no note for the plan's number of turns in a row, when the body says so, or when an
+/// update is refused. It returns once the workers were joined, so a body that never ends keeps it. What was not done is in the report.
 ///
 /// # Errors
 /// Faults come before the first update, and leave the history and the driver's calls as they were: `NoPlace` if the desk has no
@@ -212,8 +212,10 @@ where
     Ok(close(rt, crew, body, outcome, buffers))
 }
 
-/// Does the same with a handle that is made for the run and not given back, so that an audit then lacks it. `NoHandle` if all
-/// handles of the desk were made.
+/// Does the same with a handle that is made for the run, and is in the report.
+///
+/// # Errors
+/// `NoHandle` if all handles of the desk were made, and the faults of [`run_crew_with`]. They come before the first update.
 pub fn run_crew<N, S, P, J, B, R>(
     rt: &R,
     alloc: Global,
@@ -234,5 +236,10 @@ where
     ensures { IfOk result (λ r. IsRunOfItsOwn (B.may_end body.now) N.template N.press plan.moment plan.children.items r) }
 {
     let mut driver = desk.handle(rt)?;
-    run_crew_with(rt, alloc, &mut driver, body, plan)
+    let report = run_crew_with(rt, alloc, &mut driver, body, plan)?;
+    let (caller, _) = driver.unbind();
+    Ok(Report {
+        caller: Some(caller),
+        ..report
+    })
 }

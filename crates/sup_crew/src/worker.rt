@@ -27,7 +27,7 @@ pub struct Finished<N: Name> {
 }
 
 /// Posts the poster's next note, and tries again if the inbox is full: at most `turns` times, each after a drain or 0.1 s, and not
-/// once the run is over. A note that was not posted comes back.
+/// once the run is over. Returns a note that was not posted.
 fn post_until<N: Name, R: Wait>(
     rt: &R,
     crew: &Crew<N>,
@@ -54,8 +54,8 @@ fn post_until<N: Name, R: Wait>(
     Err(note)
 }
 
-/// Takes jobs, runs the body and posts how each ended, until the run is over or an exit can't be posted. The asker has
-/// learnt a job's ticket before its body runs.
+/// Takes jobs, runs the body and posts how each ended, until the run is over, the body says that it is, or an exit can't be posted.
+/// The asker has learnt a job's ticket before its body runs.
 pub fn work<N: Name, B: Body, R: Wait>(
     rt: &R,
     crew: &Crew<N>,
@@ -68,17 +68,26 @@ pub fn work<N: Name, B: Body, R: Wait>(
     requires poster { (poster.inbox ≡ crew.now.inbox.id) × (poster.posted ≡ []) }
     ensures { IsWorked (B.may_end body.now) crew.now.jobs crew.now.inbox.id poster.number result }
 {
+    let signals = &crew.signals;
     for _ in rt.forever() {
-        let noted = crew.signals.queued.notifications();
+        if !body.goes_on(&mut asker) {
+            signals.end();
+            return Finished {
+                endpoint,
+                poster,
+                unposted: None,
+            };
+        }
+        let noted = signals.queued.notifications();
         let Some(job) = endpoint.take(rt, &crew.jobs) else {
-            if crew.signals.is_over() {
+            if signals.is_over() {
                 return Finished {
                     endpoint,
                     poster,
                     unposted: None,
                 };
             }
-            sleep(rt, &crew.signals.queued, noted);
+            sleep(rt, &signals.queued, noted);
             continue;
         };
         let note = run_job(body, job, &mut asker, &poster);

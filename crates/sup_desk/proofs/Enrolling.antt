@@ -1,4 +1,4 @@
--- Each step keeps the rule of the roll.
+-- Each step keeps the rule of the session registry.
 use Rattle.std.proofs.Common.{◌≡◌, ◌≢◌, ◌⊎◌, ℕ, zero, suc, ◌+◌, true, false, true≢false, cond, eq-eqb, ne_eqb, List, [], ◌∷◌, ◌++◌, length, set, refl, sym, ap, ◌∙◌, subst, inl, inr, ⊎_elim, arith, append-nil}
 use Rattle.std.specs.Prelude.{◌==◌}
 use mathlib.Core.Option.{none, some, some-ne-none, some-injective}
@@ -6,12 +6,12 @@ use lib.ListN.{get_elem?}
 use Rattle.atomic_table.specs.Table.{State, Me, Allows, Splits, Joins, step, keeps}
 use Rattle.atomic_table.proofs.Lists.{at_set, set_again}
 use Rattle.sup_types.specs.declared.history.Entry.{Entry}
-use Rattle.sup_desk.specs.declared.roll.Known.{Known}
+use Rattle.sup_desk.specs.declared.sessions.Known.{Known}
 use Rattle.sup_desk.specs.Books.{IsMade}
 use Rattle.sup_desk.specs.Knowledge.{entries_of}
 use Rattle.sup_desk.specs.EntryLaws.{entries-append}
 use Rattle.sup_desk.proofs.Counted.{others_none, own_all}
-use Rattle.sup_desk.specs.Rolls.{keeper_view, nobody, opened, newcomer, joined, kept, handed, Fits, Enrols, Entered}
+use Rattle.sup_desk.specs.Sessions.{keeper_view, nobody, opened, newcomer, joined, kept, handed, Fits, Enrols, Entered}
 
 abbrev Table : Type 0
 Table = State (Unit {0}) Known
@@ -104,15 +104,15 @@ spares id v s h at = (
       (fits_nobody h.0 h.1 h.2 h.3 (length (set s.views id v))),
 )
 
-pub takes : (id : ℕ) (history : List Entry) (made : ℕ) (other : ℕ) (u : Known) → u.claims ≡ true
+pub takes : (id : ℕ) (history : List Entry) (made : ℕ) (other : ℕ) (u : Known) → u.is_token ≡ true
     → Joins holds id (keeper_view history made) other u (joined (keeper_view history made) u) nobody
-takes id history made other u claims s h at apart there =
+takes id history made other u tokens s h at apart there =
     let place = h.0 in let places = h.1 in let all = h.2 in let many = h.3 in
     let v = keeper_view history made in
     let w = joined v u in
     let mine = (h.4 id v at).0 refl in
     let is_there : get_elem? s.views other ≡ some u = ⊎_elim (λ (t : (other ≡ id) × (w ≡ u)). absurd (apart t.0)) (λ (t : (other ≢ id) × (get_elem? s.views other ≡ some u)). t.1) (at_set s.views id other w u there) in
-    let theirs = (h.4 other u is_there).1 claims in
+    let theirs = (h.4 other u is_there).1 tokens in
     let places' : ℕ → ℕ = put places u.number (suc id) in
     let still : (j : ℕ) (x : Known) → j ≢ other → get_elem? s.views j ≡ some x → j ≢ id → Fits place places' all many j x = λ j x far e away.
     let f = h.4 j x e in (
@@ -135,11 +135,11 @@ takes id history made other u claims s h at apart there =
           (fits_nobody place places' all many other),
     )
 
-pub hands : (id : ℕ) (v : Known) → v.keeps ≡ true → v.claims ≡ true → Splits holds id v (kept v) (handed v)
-hands id v knows claims s h at =
+pub hands : (id : ℕ) (v : Known) → v.keeps ≡ true → v.is_token ≡ true → Splits holds id v (kept v) (handed v)
+hands id v knows tokens s h at =
     let place = h.0 in let places = h.1 in let all = h.2 in let many = h.3 in
     let mine = (h.4 id v at).0 knows in
-    let held = (h.4 id v at).1 claims in
+    let held = (h.4 id v at).1 tokens in
     let views' : List Known = set s.views id (kept v) in
     let places' : ℕ → ℕ = put places v.number (suc (length views')) in
     let old : AllFit place places' all many views' =
@@ -162,14 +162,14 @@ hands id v knows claims s h at =
     )
 
 abbrev with_entries : List Entry → Known → Known
-with_entries entries v = record { keeps = v.keeps; history = v.history ++ entries; made = v.made; claims = v.claims; number = v.number; calls = v.calls ++ entries }
+with_entries entries v = record { keeps = v.keeps; history = v.history ++ entries; made = v.made; is_token = v.is_token; number = v.number; calls = v.calls ++ entries }
 
-pub enters : (slots id : ℕ) (entries : List Entry) (v : Known) → v.keeps ≡ true → v.claims ≡ true → entries_of entries v.number ≡ entries
+pub enters : (slots id : ℕ) (entries : List Entry) (v : Known) → v.keeps ≡ true → v.is_token ≡ true → entries_of entries v.number ≡ entries
     → Allows holds slots id (v, []) 0 (λ n. n) (Entered entries (step slots 0 0 0 none) (v, []))
-enters slots id entries v knows claims own s h homes at small =
+enters slots id entries v knows tokens own s h homes at small =
     let place = h.0 in let places = h.1 in let all = h.2 in let many = h.3 in
     let mine = (h.4 id v at).0 knows in
-    let held = (h.4 id v at).1 claims in
+    let held = (h.4 id v at).1 tokens in
     let w = with_entries entries v in (
       w,
       keeps,
@@ -198,10 +198,10 @@ enters slots id entries v knows claims own s h homes at small =
 pub opens_as : (id : ℕ) (v : Known) (history : List Entry) (made : ℕ) → v ≡ keeper_view history made → Splits holds id v (opened v) (newcomer v)
 opens_as id v history made is = subst (λ (x : Known). Splits holds id x (opened x) (newcomer x)) (sym is) (opens id history made)
 
-pub takes_as : (id other : ℕ) (v u : Known) (history : List Entry) (made : ℕ) → v ≡ keeper_view history made → u.claims ≡ true → Joins holds id v other u (joined v u) nobody
-takes_as id other v u history made is claims = subst (λ (x : Known). Joins holds id x other u (joined x u) nobody) (sym is) (takes id history made other u claims)
+pub takes_as : (id other : ℕ) (v u : Known) (history : List Entry) (made : ℕ) → v ≡ keeper_view history made → u.is_token ≡ true → Joins holds id v other u (joined v u) nobody
+takes_as id other v u history made is tokens = subst (λ (x : Known). Joins holds id x other u (joined x u) nobody) (sym is) (takes id history made other u tokens)
 
-pub enters_as : (slots id : ℕ) (entries : List Entry) (me : Me (Unit {0}) Known) → me.0.keeps ≡ true → me.0.claims ≡ true → entries_of entries me.0.number ≡ entries → me.1 ≡ []
+pub enters_as : (slots id : ℕ) (entries : List Entry) (me : Me (Unit {0}) Known) → me.0.keeps ≡ true → me.0.is_token ≡ true → entries_of entries me.0.number ≡ entries → me.1 ≡ []
     → Allows holds slots id me 0 (λ n. n) (Entered entries (step slots 0 0 0 none) me)
-enters_as slots id entries (v, held) knows claims own nothing =
-    subst (λ l. Allows holds slots id (v, l) 0 (λ n. n) (Entered entries (step slots 0 0 0 none) (v, l))) (sym nothing) (enters slots id entries v knows claims own)
+enters_as slots id entries (v, held) knows tokens own nothing =
+    subst (λ l. Allows holds slots id (v, l) 0 (λ n. n) (Entered entries (step slots 0 0 0 none) (v, l))) (sym nothing) (enters slots id entries v knows tokens own)

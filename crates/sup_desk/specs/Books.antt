@@ -13,15 +13,15 @@ use Rattle.sup_desk.specs.declared.faults.UpdateFault.TheVariants.{Gone, Journal
 abbrev pub no_press : Book
 no_press = record { number = 0; log_name = 0; cells_name = 0 }
 
--- the name of no roll
-abbrev pub no_roll : TableId
-no_roll = record { words = 0; slots = 0; views_name = 0; atom = 0; block = 0; offset = 0; slot_names = [] }
+-- the name of no sessions
+abbrev pub no_sessions : TableId
+no_sessions = record { words = 0; slots = 0; views_name = 0; atom = 0; block = 0; offset = 0; slot_names = [] }
 
--- the press of a ground, its template, its roll, and how many handles there may be
+-- the press of a ground, its template, its sessions, and how many handles there may be
 pub record Plot : Type 0 where
   pub press : Book
   pub template : Template
-  pub roll : TableId
+  pub sessions : TableId
   pub handles : ℕ
 
 -- the publications, the history that they make, how many handles were made, how many there may be, and the fault of the journal,

@@ -1,6 +1,6 @@
 pub mod Knowledge
 pub mod Books
-pub mod Rolls
+pub mod Sessions
 pub mod Journals
 pub mod Faults
 pub mod Asking

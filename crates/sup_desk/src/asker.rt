@@ -10,11 +10,11 @@ use crate::faults::QueryFault;
 use crate::name::Name;
 use std::marker::{Model, PhantomData};
 use sup_log::{Gone, Lens, Ticket, View};
-use sup_types::{Counts, Row, Seen};
+use sup_types::{Counts, Row, Seen, Template};
 
-/// Asks the desk that `N` names, and makes no update. It carries the front that it has seen. Each query is answered at
-/// one front that begins with that one and is then what it has seen. It borrows nothing, and may go to any thread. Its
-/// queries take no lock and never wait: each is proved to return, `inspect` if its function does.
+/// Asks the desk that `N` names, and makes no update. It carries the front that it has seen. Each query is answered at one front that
+/// begins with that one and is then what it has seen. It borrows nothing, and may go to any thread. Its queries take no lock and never
+/// wait: each is proved to return, `inspect` if its function does.
 #[derive(Drop)]
 pub struct Asker<N: Name> {
     pub(crate) lens: Lens,
@@ -55,8 +55,8 @@ impl<N: Name> Asker<N> {
         }
     }
 
-    /// Returns the length of its front, in entries. The front is what the publications make that it has seen, so it
-    /// ends with a whole one. It enters nothing.
+    /// Returns the length of its front, in entries. The front is what the publications make that it has seen, so it ends with a whole one.
+    /// It enters nothing.
     pub fn front(&self) -> u64
         ensures front { result ≡ length self.now.front }
         ensures whole { self.now.front ≡ history_of self.now.editions }
@@ -64,8 +64,15 @@ impl<N: Name> Asker<N> {
         self.lens.front().stamp()
     }
 
-    /// Returns how many children there are at one front, which begins with all that it had seen or learnt (OTP's manual
-    /// of `supervisor`, `count_children/1`).
+    /// Returns the template of the children (OTP's manual of `supervisor`, `get_childspec/2`). It enters nothing.
+    pub fn template(&self) -> &Template
+        ensures { result.now ≡ N.template }
+    {
+        self.lens.template()
+    }
+
+    /// Returns how many children there are at one front, which begins with all that it had seen or learnt (OTP's manual of `supervisor`,
+    /// `count_children/1`).
     ///
     /// # Errors
     /// `Gone` if the desk has ended.
@@ -89,8 +96,7 @@ impl<N: Name> Asker<N> {
         self.inspect(|view| view.get(number))
     }
 
-    /// Returns the listed children at such a front, in ascending order of number (OTP's manual of `supervisor`,
-    /// `which_children/1`).
+    /// Returns the listed children at such a front, in ascending order of number (OTP's manual of `supervisor`, `which_children/1`).
     ///
     /// # Errors
     /// `Gone` if the desk has ended, `OutOfMemory` if there is no memory for the list.
@@ -105,9 +111,9 @@ impl<N: Name> Asker<N> {
         }
     }
 
-    /// Calls `f` once on a view at such a front, and not at all if the supervisor is down. `f` must make no update, no
-    /// handle and no asker: these wait for the lock, and the thread that has it may wait for this look. `f` should be
-    /// short: an update that waits for this look yields and does not sleep, so it keeps its core busy.
+    /// Calls `f` once on a view at such a front, and not at all if the supervisor is down. `f` must make no update, no handle and no asker:
+    /// these wait for the lock, and the thread that has it may wait for this look. `f` should be short: an update that waits for this look
+    /// yields and does not sleep, so it keeps its core busy.
     ///
     /// # Errors
     /// `Gone` if the desk has ended. Then `f` is not called.
@@ -121,8 +127,7 @@ impl<N: Name> Asker<N> {
         self.lens.look(|view| inspected(view, f))
     }
 
-    /// Makes each later front begin with the ticket's, which is of the same desk. It enters nothing and always
-    /// succeeds.
+    /// Makes each later front begin with the ticket's, which is of the same desk. It enters nothing and always succeeds.
     pub fn learn(&mut self, ticket: &Ticket) -> Result<(), Gone>
         requires { ticket.now.press ≡ N.press }
         ensures answered { IsOk result }

@@ -1,5 +1,5 @@
 //! The book: what is under the lock, and the transaction in it.
-ghost use Rattle.std.specs.Prelude.{◌≡◌, ◌+◌, ◌<◌, ◌≤◌, ◌++◌, ◌∷◌, [], length, All, IfOk, OnOk, OnErr, IfErr, IfSome, MatchResult, Some, None, true};
+ghost use Rattle.std.specs.Prelude.{◌≡◌, ◌+◌, ◌<◌, ◌≤◌, ◌++◌, ◌∷◌, [], length, All, IfOk, OnOk, OnErr, IfErr, IfSome, MatchResult, Some, None};
 ghost use mathlib.Core.List.{IsPrefix};
 ghost use Rattle.sup_core.specs.Account.{reply_after};
 ghost use Rattle.sup_log.specs.Tokens.{history_of, in_one_step};
@@ -8,34 +8,33 @@ ghost use Rattle.sup_desk.specs.Books.{IsMade, IsOfStep, stepped_with, with_pend
 ghost use Rattle.sup_desk.specs.Journals.{HasJust, HoldsOneMore, HoldsAsBefore};
 
 use crate::faults::UpdateFault;
-use crate::handle::Caller;
+use crate::handle::DetachedHandle;
 use crate::journal::{Journal, JournalFault, NoJournal};
 use crate::name::Name;
-use crate::roll::Roll;
+use crate::sessions::SessionRegistry;
 use std::marker::{Brand, Model, PhantomData};
 use std::sync::Wait;
 use sup_core::Asked;
-use sup_log::{Press, Ticket};
+use sup_log::{Press, Ready, Ticket};
 use sup_types::{Answer, Entry, Operation, OutOfMemory, Reply, Starter};
 
-/// The press, which has stepped all that is pending, the journal and its fault, if it broke off, and the roll of the handles, on which
-/// all that is published was entered.
-#[derive(Drop)]
-pub struct Transaction<N: Name, R: Wait + Drop, J: Journal + Drop> {
-    pub(crate) press: Press<R>,
+/// The press, which has stepped all that is pending, the journal and its fault, if it broke off, and the session registry of the handles,
+/// on which all that is published was entered.
+pub struct Transaction<N: Name, J: Journal + Drop> {
+    pub(crate) press: Press,
     pub(crate) journal: J,
     pub(crate) fault: Option<JournalFault>,
-    pub(crate) roll: Roll,
+    pub(crate) sessions: SessionRegistry,
     pub(crate) made: u64,
     pub(crate) handles: u64,
     pub(crate) of: PhantomData<N>,
 }
 
-impl<N: Name, R: Wait + Drop, J: Journal + Drop> Model for Transaction<N, R, J> {
+impl<N: Name, J: Journal + Drop> Model for Transaction<N, J> {
     ghost use Rattle.std.specs.Prelude.{◌≡◌, ◌+◌, ◌≤◌, length};
     ghost use Rattle.sup_log.specs.Tokens.{history_of};
     ghost use Rattle.sup_desk.specs.Books.{Written};
-    ghost use Rattle.sup_desk.specs.Rolls.{IsEnrolled};
+    ghost use Rattle.sup_desk.specs.Sessions.{IsEnrolled};
     ghost use Rattle.sup_desk.specs.Journals.{IsKept};
 
     ghost Value = { Written };
@@ -44,13 +43,12 @@ impl<N: Name, R: Wait + Drop, J: Journal + Drop> Model for Transaction<N, R, J> 
 
     ghost invariant = { λ t. (t.press.press ≡ N.press) × (t.press.template ≡ N.template) × (t.press.published ≡ history_of t.press.editions)
         × (t.press.stepped ≡ length t.press.pending) × (length t.press.published + length t.press.pending ≤ N.template.entries)
-        × IsEnrolled N.roll t.press.published t.made t.roll
+        × IsEnrolled N.sessions t.press.published t.made t.sessions
         × (t.made ≤ t.handles) × (t.handles ≤ 1024)
         × IsKept (J.has t.journal N.template) (J.is_torn t.journal N.template) J.may_fail t.fault t.press.published t.press.pending };
 }
 
-/// Holds what remains of a desk that was closed: a ticket for all of its history, and its journal with the fault, if it
-/// broke off.
+/// Holds what remains of a desk that was closed: a ticket for all of its history, and its journal with the fault, if it broke off.
 #[derive(Drop)]
 pub struct Closed<J> {
     pub ticket: Ticket,
@@ -60,28 +58,28 @@ pub struct Closed<J> {
 
 /// Makes an entry, for which this was asked, pending in the press and ready in the journal, and steps it. After a refusal both are as
 /// before.
-pub(crate) fn take<R: Wait + Drop, J: Journal>(
-    press: &mut Press<R>,
+pub(crate) fn take<J: Journal>(
+    ready: &mut Ready<'_>,
     journal: &mut J,
     entry: Entry,
     asked: &Asked,
 ) -> Result<Reply, OutOfMemory>
-    requires ready { press.old.is_out ≡ true }
-    requires stepped { press.old.stepped ≡ length press.old.pending }
-    requires room { length press.old.published + length press.old.pending < press.old.template.entries }
-    ensures press { IfOk result (λ r. (r ≡ reply_after press.old.template (press.old.published ++ press.old.pending) entry) × (press.new ≡ stepped_with press.old entry)) }
+    requires stepped { ready.old.press.now.stepped ≡ length ready.old.press.now.pending }
+    requires room { length ready.old.press.now.published + length ready.old.press.now.pending < ready.old.press.now.template.entries }
+    ensures same_press { ready.new.press.ghost_name ≡ ready.old.press.ghost_name }
+    ensures press { IfOk result (λ r. (r ≡ reply_after ready.old.press.now.template (ready.old.press.now.published ++ ready.old.press.now.pending) entry) × (ready.new.press.now ≡ stepped_with ready.old.press.now entry)) }
     ensures journal { OnOk result (HoldsOneMore J.has journal.old journal.new entry) }
-    ensures err { OnErr result ((press.new ≡ press.old) × HoldsAsBefore J.has journal.old journal.new) }
+    ensures err { OnErr result ((ready.new.press.now ≡ ready.old.press.now) × HoldsAsBefore J.has journal.old journal.new) }
 {
-    press.append(entry)?;
+    ready.append(&entry)?;
     if journal.prepare(&entry).is_err() {
-        press.retract();
+        ready.retract();
         return Err(OutOfMemory);
     }
-    Ok(press.step(asked))
+    Ok(ready.step(asked))
 }
 
-impl<N: Name, R: Wait + Drop, J: Journal + Drop> Transaction<N, R, J> {
+impl<N: Name, J: Journal + Drop> Transaction<N, J> {
     /// Returns a ticket for all that was published: each entry of it is of a handle that was made.
     pub fn tell(&self) -> Ticket
         ensures ticket { result ≡ record { press = N.press; editions = self.now.editions; front = self.now.published } }
@@ -98,10 +96,10 @@ impl<N: Name, R: Wait + Drop, J: Journal + Drop> Transaction<N, R, J> {
         self.fault
     }
 
-    /// Shows that what the caller has seen begins what is published, and that its calls are all of this under its
-    /// number. It changes nothing, and serves the proofs alone: what a ticket and a claim say is evidence, which is
-    /// compared with the press's and the roll's by a step on their words.
-    pub fn meet(&mut self, caller: &mut Caller<N>)
+    /// Shows that what the caller has seen begins what is published, and that its calls are all of this under its number. It changes
+    /// nothing, and serves the proofs alone: what a ticket and a token say is evidence, which is compared with the press's and the session
+    /// registry's by a step on their words.
+    pub fn lemma_calls_are_all(&mut self, caller: &mut DetachedHandle<N>)
         ensures met { entries_of self.old.published caller.old.number ≡ caller.old.calls }
         ensures made { IsMade self.old.made caller.old.number }
         ensures covered { IsPrefix caller.old.front self.old.published × IsPrefix caller.old.editions self.old.editions }
@@ -109,12 +107,12 @@ impl<N: Name, R: Wait + Drop, J: Journal + Drop> Transaction<N, R, J> {
         ensures within { length self.old.published ≤ N.template.entries }
         ensures same { (self.new ≡ self.old) × (caller.new ≡ caller.old) }
     {
-        self.press.covers(caller.asker.lens.front());
-        self.roll.enter::<Brand>(&mut caller.claim, &[]);
+        self.press.lemma_is_prefix(caller.asker.lens.front());
+        self.sessions.enter::<Brand>(&mut caller.token, &[]);
     }
 
     /// Lets the caller see all that is published, by the ticket for it that is returned.
-    pub fn show(&self, caller: &mut Caller<N>) -> Ticket
+    pub fn show(&self, caller: &mut DetachedHandle<N>) -> Ticket
         requires covered { IsPrefix caller.old.front self.now.published × IsPrefix caller.old.editions self.now.editions }
         ensures caller { caller.new ≡ record caller.old { editions = self.now.editions; front = self.now.published } }
         ensures ticket { result ≡ record { press = N.press; editions = self.now.editions; front = self.now.published } }
@@ -126,8 +124,9 @@ impl<N: Name, R: Wait + Drop, J: Journal + Drop> Transaction<N, R, J> {
 
     /// Writes the entry of an operation of the handle with this number, which has made `serial` before, and leaves it pending. The start
     /// function is asked if the reply depends on it. After a refusal nothing has changed. It waits for the lenses that still look.
-    pub fn write<S: Starter>(
+    pub fn write<S: Starter, W: Wait>(
         &mut self,
+        rt: &W,
         starter: &S,
         number: u64,
         serial: u64,
@@ -142,8 +141,8 @@ impl<N: Name, R: Wait + Drop, J: Journal + Drop> Transaction<N, R, J> {
         ensures room { MatchResult result (λ _. length (self.old.published ++ self.old.pending) < N.template.entries) (λ e. e ≡ UpdateFault.OutOfMemory → length (self.old.published ++ self.old.pending) < N.template.entries) }
         ensures faults { IfErr result (λ e. IsOfStep e) }
     {
-        self.press.ready();
-        let Some(asked) = self.press.asks(operation, moment) else {
+        let mut ready = self.press.ready(rt);
+        let Some(asked) = ready.asks(operation, moment) else {
             return Err(UpdateFault::HistoryFull);
         };
         let answer = match &asked.arg {
@@ -157,7 +156,7 @@ impl<N: Name, R: Wait + Drop, J: Journal + Drop> Transaction<N, R, J> {
             operation: *operation,
             answer,
         };
-        match take(&mut self.press, &mut self.journal, entry, &asked) {
+        match take(&mut ready, &mut self.journal, entry, &asked) {
             Ok(reply) => Ok(reply),
             Err(_) => Err(UpdateFault::OutOfMemory),
         }
@@ -165,7 +164,11 @@ impl<N: Name, R: Wait + Drop, J: Journal + Drop> Transaction<N, R, J> {
 
     /// Has the journal record what is pending, which is all of this caller, and then publishes it as one publication. If the journal breaks
     /// off, nothing is published.
-    pub fn commit(&mut self, caller: &mut Caller<N>) -> Result<(), JournalFault>
+    pub fn commit<W: Wait>(
+        &mut self,
+        rt: &W,
+        caller: &mut DetachedHandle<N>,
+    ) -> Result<(), JournalFault>
         requires going { self.old.fault ≡ None }
         requires mine { entries_of self.old.pending caller.old.number ≡ self.old.pending }
         ensures ok { OnOk result (self.new ≡ record self.old { editions = self.old.editions ++ in_one_step self.old.pending; published = self.old.published ++ self.old.pending; pending = [] }) }
@@ -177,21 +180,21 @@ impl<N: Name, R: Wait + Drop, J: Journal + Drop> Transaction<N, R, J> {
             self.fault = Some(fault);
             return Err(fault);
         }
-        self.roll
-            .enter::<Brand>(&mut caller.claim, self.press.pending());
-        self.press.publish();
+        let ready = self.press.ready(rt);
+        self.sessions
+            .enter::<Brand>(&mut caller.token, ready.pending());
+        ready.publish(rt);
         Ok(())
     }
 }
 
 /// What is under the lock: a transaction with nothing pending, whose journal has recorded just what is published, as long as the journal
 /// does not break off. What was pending then is never published.
-#[derive(Drop)]
-pub struct Book<N: Name, R: Wait + Drop, J: Journal + Drop> {
-    pub(crate) transaction: Transaction<N, R, J>,
+pub struct Book<N: Name, J: Journal + Drop> {
+    pub(crate) transaction: Transaction<N, J>,
 }
 
-impl<N: Name, R: Wait + Drop, J: Journal + Drop> Model for Book<N, R, J> {
+impl<N: Name, J: Journal + Drop> Model for Book<N, J> {
     ghost use Rattle.sup_desk.specs.Books.{Kept, IsClean};
 
     ghost Value = { Kept };
@@ -201,38 +204,57 @@ impl<N: Name, R: Wait + Drop, J: Journal + Drop> Model for Book<N, R, J> {
     ghost invariant = { λ b. IsClean b.transaction.fault b.transaction.pending };
 }
 
-impl<N: Name, R: Wait + Drop> Book<N, R, NoJournal> {
+impl<N: Name> Book<N, NoJournal> {
     /// Returns the same with this journal, which has recorded all of the history.
-    pub(crate) fn with_journal<J: Journal + Drop>(self, journal: J) -> Book<N, R, J>
+    pub(crate) fn with_journal<J: Journal + Drop>(self, journal: J) -> Book<N, J>
         requires going { self.fault ≡ None }
         requires journal { J.has journal N.template self.history [] }
         ensures { result ≡ self }
     {
         let Book {
-            transaction: before,
+            transaction: Transaction {
+                press,
+                journal: _,
+                fault: _,
+                sessions,
+                made,
+                handles,
+                of,
+            },
         } = self;
         Book {
             transaction: Transaction {
-                press: before.press,
+                press,
                 journal,
                 fault: None,
-                roll: before.roll,
-                made: before.made,
-                handles: before.handles,
-                of: before.of,
+                sessions,
+                made,
+                handles,
+                of,
             },
         }
     }
 }
 
-impl<N: Name, R: Wait + Drop, J: Journal + Drop> Book<N, R, J> {
+impl<N: Name, J: Journal + Drop> Book<N, J> {
     /// Ends the book, and returns what remains of it. It waits for the lenses that look.
-    pub(crate) fn close(self) -> Closed<J>
+    pub(crate) fn close<W: Wait>(self, rt: &W) -> Closed<J>
         ensures ticket { result.ticket ≡ record { press = N.press; editions = self.editions; front = self.history } }
         ensures journal { HasJust (J.has result.journal N.template) (J.is_torn result.journal N.template) J.may_fail result.fault self.history }
     {
         let ticket = self.transaction.press.tell();
-        let Transaction { journal, fault, .. } = self.transaction;
+        let Book {
+            transaction: Transaction {
+                press,
+                journal,
+                fault,
+                sessions: _sessions,
+                made: _,
+                handles: _,
+                of: _,
+            },
+        } = self;
+        press.close(rt);
         Closed {
             ticket,
             journal,

@@ -17,24 +17,24 @@ use crate::faults::{QueryFault, UpdateFault};
 use crate::journal::{Journal, NoJournal};
 use crate::laws::{Done, Rest, enter, enter_all, give_ticket};
 use crate::name::Name;
-use crate::roll::Claim;
+use crate::sessions::SessionToken;
 use std::alloc::{Allocator, Global};
 use std::collections::VecDeque;
 use std::marker::Model;
-use std::sync::Wait;
+use std::sync::{MutexGuard, Wait};
 use sup_log::{Gone, Ticket, View};
-use sup_types::{Counts, Operation, Reason, Refusal, Reply, Row, Seen, Starter, Text};
+use sup_types::{Counts, Operation, Reason, Refusal, Reply, Row, Seen, Starter, Template, Text};
 
-/// Holds what came of operations that were entered together: the reply to each, in their order, and a ticket for the
-/// history up to and with the last.
+/// Holds what came of operations that were entered together: the reply to each, in their order, and a ticket for the history up to and with
+/// the last.
 #[derive(Drop)]
 pub struct Dones<A: Allocator = Global> {
     pub replies: Vec<Reply, A>,
     pub ticket: Ticket,
 }
 
-/// Holds what came of operations of which only the first were entered: the replies to these, a ticket for the history
-/// up to and with the last of them, if there is one, and why the others were not.
+/// Holds the result of a batch of which only the first operations were entered: the replies to these, a ticket for the history up to and
+/// with the last of them, if there is one, and why the others were not.
 #[derive(Drop)]
 pub struct Part<A: Allocator = Global> {
     pub replies: Vec<Reply, A>,
@@ -42,44 +42,43 @@ pub struct Part<A: Allocator = Global> {
     pub fault: UpdateFault,
 }
 
-/// Holds what a handle knows, without a borrow of its desk. It may leave the scope in which a desk is borrowed.
-/// `Desk::bind` makes the handle of it again.
+/// Holds what a handle knows, without a borrow of its desk. It may leave the scope in which a desk is borrowed. `Desk::bind` makes the
+/// handle of it again.
 #[derive(Drop)]
-pub struct Caller<N: Name> {
-    pub(crate) claim: Claim,
+pub struct DetachedHandle<N: Name> {
+    pub(crate) token: SessionToken,
     pub(crate) asker: Asker<N>,
 }
 
-impl<N: Name> Model for Caller<N> {
+impl<N: Name> Model for DetachedHandle<N> {
     ghost use Rattle.std.specs.Prelude.{◌≡◌};
     ghost use Rattle.sup_desk.specs.Knowledge.{Knowledge};
 
     ghost Value = { Knowledge };
 
-    ghost view = { λ c. record { number = c.claim.number; editions = c.asker.editions; front = c.asker.front; calls = c.claim.calls } };
+    ghost view = { λ c. record { number = c.token.number; editions = c.asker.editions; front = c.asker.front; calls = c.token.calls } };
 
-    ghost invariant = { λ c. c.claim.roll ≡ N.roll };
+    ghost invariant = { λ c. c.token.sessions ≡ N.sessions };
 }
 
-impl<N: Name> Caller<N> {
+impl<N: Name> DetachedHandle<N> {
     /// Returns its number: 1, 2, 3, .. in the order of making. No other caller of its desk has it.
     pub fn number(&self) -> u64
         ensures { result ≡ self.now.number }
     {
-        self.claim.number()
+        self.token.number()
     }
 }
 
-/// Calls the desk `D`, which it borrows: it makes updates, and asks by an asker of its own. It may be moved to one
-/// thread. Its queries take no lock, and each is proved to return.
+/// Calls the desk `D`, which it borrows: it makes updates, and asks by an asker of its own. It may be moved to one thread. Its queries take
+/// no lock, and each is proved to return.
 #[derive(Drop)]
 pub struct HandleOf<'d, N: Name, D> {
-    pub(crate) caller: Caller<N>,
+    pub(crate) caller: DetachedHandle<N>,
     pub(crate) desk: &'d D,
 }
 
-/// Calls a desk with this starter, whose publications wait by `R`, and with the journal `J`, which is none if it is
-/// left out.
+/// Calls a desk with this starter, whose publications wait by `R`, and with the journal `J`, by default none.
 pub type Handle<'d, N, S, R, J = NoJournal> = HandleOf<'d, N, Desk<N, S, R, J>>;
 
 impl<'d, N: Name, D> Model for HandleOf<'d, N, D> {
@@ -90,13 +89,13 @@ impl<'d, N: Name, D> Model for HandleOf<'d, N, D> {
     ghost view = { λ h. h.caller };
 }
 
-/// Makes updates. Each waits for the lock, learns all that is published, and is entered in the history at once: its
-/// reply is that of a supervisor of one thread after a history that begins with all that the handle had seen, learnt or
-/// done. Moments are in seconds. The start function is asked under the lock.
+/// Makes updates. Each waits for the lock, learns all that is published, and is entered in the history at once: its reply is that of a
+/// supervisor of one thread after a history that begins with all that the handle had seen, learnt or done. Moments are in seconds. The
+/// start function is asked under the lock.
 ///
-/// Each refusal leaves the history and every published answer as they were: `HistoryFull` if the history has as many
-/// entries as the template allows, `OutOfMemory` if memory runs out, and `Journal` if the journal breaks off or broke
-/// off before. Then it refuses this update and all later ones.
+/// Each refusal leaves the history and every published answer as they were: `HistoryFull` if the history has as many entries as the
+/// template allows, `OutOfMemory` if memory runs out, and `Journal` if the journal breaks off or broke off before. Then it refuses this
+/// update and all later ones.
 impl<'d, N: Name, S: Starter + Drop, R: Wait + Drop, J: Journal + Drop> HandleOf<
     'd,
     N,
@@ -137,8 +136,7 @@ impl<'d, N: Name, S: Starter + Drop, R: Wait + Drop, J: Journal + Drop> HandleOf
         self.update(rt, moment, &Operation::Retry(number))
     }
 
-    /// Ends the child with this number: its row goes, and whoever runs it is to end it (OTP's manual of `supervisor`,
-    /// `terminate_child/2`).
+    /// Ends the child with this number: its row goes, and whoever runs it is to end it (OTP's manual of `supervisor`, `terminate_child/2`).
     pub fn terminate_child<W: Wait>(
         &mut self,
         rt: &W,
@@ -171,17 +169,18 @@ impl<'d, N: Name, S: Starter + Drop, R: Wait + Drop, J: Journal + Drop> HandleOf
     {
         let desk = self.desk;
         let mut book = desk.book.lock(rt);
-        enter(&mut *book, &desk.starter, self, moment, operation)
+        let done = enter(rt, &mut *book, &desk.starter, self, moment, operation);
+        MutexGuard::unlock(book);
+        done
     }
 
-    /// Enters the operations of the queue as updates, from its front on and in order, and publishes them in one step:
-    /// they are one publication, so that everyone who asks sees all of them or none. An operation that is entered
-    /// leaves the queue. An empty queue enters nothing.
+    /// Enters the operations of the queue as updates, from its front on and in order, and publishes them in one step: they are one
+    /// publication, so that everyone who asks sees all of them or none. An operation that is entered leaves the queue. An empty queue
+    /// enters nothing.
     ///
     /// # Errors
-    /// Those of an update. What was entered before the fault is published, and the queue has the others in order. The
-    /// room for the replies is made first, so a refusal of it enters nothing; a journal that breaks off leaves the
-    /// whole queue.
+    /// Those of an update. What was entered before the fault is published, and the queue has the others in order. The room for the replies
+    /// is made first, so a refusal of it enters nothing; a journal that breaks off leaves the whole queue.
     pub fn apply_all<W: Wait, A: Allocator + Copy>(
         &mut self,
         rt: &W,
@@ -213,9 +212,18 @@ impl<'d, N: Name, S: Starter + Drop, R: Wait + Drop, J: Journal + Drop> HandleOf
                 fault: UpdateFault::OutOfMemory,
             });
         };
-        let Desk { book, starter } = self.desk;
+        let Desk { book, starter, .. } = self.desk;
         let mut book = book.lock(rt);
-        let entered = enter_all(&mut *book, starter, self, moment, operations, &mut replies);
+        let entered = enter_all(
+            rt,
+            &mut *book,
+            starter,
+            self,
+            moment,
+            operations,
+            &mut replies,
+        );
+        MutexGuard::unlock(book);
         match entered {
             Ok(ticket) => Ok(Dones { replies, ticket }),
             Err(Rest { ticket, fault }) => Err(Part {
@@ -226,8 +234,8 @@ impl<'d, N: Name, S: Starter + Drop, R: Wait + Drop, J: Journal + Drop> HandleOf
         }
     }
 
-    /// Returns a ticket for all of the history, which the handle has then seen. Its calls are all the entries there
-    /// under its number. It waits for the lock.
+    /// Returns a ticket for all of the history, which the handle has then seen. Its calls are all the entries there under its number. It
+    /// waits for the lock.
     pub fn ticket<W: Wait>(&mut self, rt: &W) -> Ticket
         ensures ticket { result ≡ record { press = N.press; editions = self.new.editions; front = self.new.front } }
         ensures own { entries_of self.new.front self.new.number ≡ self.new.calls }
@@ -236,7 +244,10 @@ impl<'d, N: Name, S: Starter + Drop, R: Wait + Drop, J: Journal + Drop> HandleOf
         ensures calls { (self.new.calls ≡ self.old.calls) × (self.new.number ≡ self.old.number) }
     {
         let desk = self.desk;
-        give_ticket(&mut *desk.book.lock(rt), &mut self.caller)
+        let mut book = desk.book.lock(rt);
+        let ticket = give_ticket(&mut *book, &mut self.caller);
+        MutexGuard::unlock(book);
+        ticket
     }
 }
 
@@ -250,7 +261,7 @@ impl<'d, N: Name, D> HandleOf<'d, N, D> {
     }
 
     /// Returns the handle without its desk, and the desk.
-    pub fn unbind(self) -> (Caller<N>, &'d D)
+    pub fn unbind(self) -> (DetachedHandle<N>, &'d D)
         ensures { result.0 ≡ self.entry }
     {
         (self.caller, self.desk)
@@ -268,13 +279,20 @@ impl<'d, N: Name, D> HandleOf<'d, N, D> {
         true
     }
 
-    /// Returns the length of its front, in entries. The front is what the publications make that the handle has seen,
-    /// so it ends with a whole one. It enters nothing.
+    /// Returns the length of its front, in entries. The front is what the publications make that the handle has seen, so it ends with a
+    /// whole one. It enters nothing.
     pub fn front(&self) -> u64
         ensures front { result ≡ length self.now.front }
         ensures whole { self.now.front ≡ history_of self.now.editions }
     {
         self.caller.asker.front()
+    }
+
+    /// Returns the template of the children, as [`Asker::template`] does.
+    pub fn template(&self) -> &Template
+        ensures { result.now ≡ N.template }
+    {
+        self.caller.asker.template()
     }
 
     /// Asks as [`Asker::count_children`] does, at one front that begins with all that the handle had seen, learnt or done.
@@ -331,16 +349,15 @@ impl<'d, N: Name, D> HandleOf<'d, N, D> {
         self.caller.asker.learn(ticket)
     }
 
-    /// Refuses to end a child by an identifier: a termination names a process (OTP's manual of `supervisor`,
-    /// `terminate_child/2`).
+    /// Refuses to end a child by an identifier: a termination names a process (OTP's manual of `supervisor`, `terminate_child/2`).
     pub fn terminate_id(&self, _id: &Text) -> Refusal
         ensures { result ≡ Refusal.SimpleOneForOne }
     {
         Refusal::SimpleOneForOne
     }
 
-    /// Refuses to delete a child specification: children of one template have none of their own (OTP's manual of
-    /// `supervisor`, `delete_child/2`).
+    /// Refuses to delete a child specification: children of one template have none of their own (OTP's manual of `supervisor`,
+    /// `delete_child/2`).
     pub fn delete_child(&self, _id: &Text) -> Refusal
         ensures { result ≡ Refusal.SimpleOneForOne }
     {

@@ -3,21 +3,22 @@ ghost use Rattle.std.specs.Prelude.{◌≡◌, OnOk, OnErr, IfErr};
 ghost use Rattle.sup_desk.specs.Faults.{journal_fault_number};
 ghost use Rattle.sup_desk.specs.Journals.{HoldsOneMore, HoldsAsBefore, HasAll, IsTornOff};
 
+use std::io::ErrorKind;
 use sup_types::{Entry, OutOfMemory};
 use thiserror::Error;
 
 /// Says why a journal records nothing more.
 #[derive(Clone, Copy, Debug, PartialEq, Eq, Error)]
 pub enum JournalFault {
-    /// Its writer answered an error.
+    /// Its writer answered this error.
     #[error("its writer answered an error")]
-    Failed,
+    Failed(ErrorKind),
     /// Its writer took nothing of bytes that were not empty.
     #[error("its writer took nothing")]
     TookNothing,
-    /// Its writer took all of a record, and could not flush it.
+    /// Its writer took all of a record, and answered this error as it was flushed.
     #[error("its writer could not flush what it took")]
-    NotFlushed,
+    NotFlushed(ErrorKind),
 }
 
 impl JournalFault {
@@ -29,20 +30,19 @@ impl JournalFault {
     }
 }
 
-/// Keeps a record of a supervisor's history: in a file, say, to which the text of each entry is written. A desk makes
-/// each entry ready before the supervisor takes it, and has it recorded before it is published.
+/// Keeps a record of a supervisor's history: in a file, say, to which the text of each entry is written. A desk makes each entry ready
+/// before the supervisor takes it, and has it recorded before it is published.
 pub trait Journal {
     ghost use Rattle.std.specs.Prelude.{List};
     ghost use Rattle.sup_types.specs.declared.template.Template.{Template};
     ghost use Rattle.sup_types.specs.declared.history.Entry.{Entry};
     ghost use Rattle.sup_desk.specs.declared.journal.JournalFault.{JournalFault};
 
-    /// Says whether the journal has recorded this history of a supervisor of this template, and holds these further
-    /// entries ready.
+    /// Says whether the journal has recorded this history of a supervisor of this template, and holds these further entries ready.
     ghost has: { Self → Template → List Entry → List Entry → Type 0 };
 
-    /// Says whether a record of these further entries broke off: the journal has recorded this history, and then a part
-    /// of these, or all of them if a flush failed.
+    /// Says whether a record of these further entries broke off: the journal has recorded this history, and then a part of these, or all of
+    /// them if a flush failed.
     ghost is_torn: { Self → Template → List Entry → List Entry → Type 0 };
 
     /// Says whether a record may have this fault.

@@ -1,5 +1,4 @@
-//! What a call does with the book that is lent to it: the answers and the refusals of the calls of the same kind, and
-//! what the book is afterwards.
+//! The operations on the locked state, with contracts on what they return and what they leave.
 ghost use Rattle.std.specs.Prelude.{◌≡◌, ◌+◌, ◌++◌, ◌∷◌, [], length, take, drop, vec_len, vec_capacity, All, List, ◌<◌, ◌≤◌, ◌↔◌, ◌⊎◌, IfOk, OnOk, OnErr, IfErr, MatchResult, IfSome, IfNone, Some};
 ghost use mathlib.Core.List.{IsPrefix};
 ghost use Rattle.sup_log.specs.Tokens.{history_of};
@@ -14,9 +13,8 @@ ghost use Rattle.std.specs.VecDeque.{deque_len};
 
 use crate::asker::Asker;
 use crate::book::{Book, Transaction};
-use crate::desk::Desk;
 use crate::faults::{HandleFault, TicketFault, UpdateFault};
-use crate::handle::{Caller, HandleOf};
+use crate::handle::{DetachedHandle, HandleOf};
 use crate::journal::Journal;
 use crate::name::Name;
 use std::alloc::Allocator;
@@ -33,9 +31,9 @@ pub struct Done {
 }
 
 /// Gives the handle a ticket for all of the history, in which its calls are all the entries under its number.
-pub fn give_ticket<N: Name, R: Wait + Drop, J: Journal + Drop>(
-    book: &mut Book<N, R, J>,
-    handle: &mut Caller<N>,
+pub fn give_ticket<N: Name, J: Journal + Drop>(
+    book: &mut Book<N, J>,
+    handle: &mut DetachedHandle<N>,
 ) -> Ticket
     ensures ticket { result ≡ record { press = N.press; editions = handle.new.editions; front = handle.new.front } }
     ensures front { (handle.new.front ≡ book.old.history) × (handle.new.editions ≡ book.old.editions) }
@@ -47,16 +45,16 @@ pub fn give_ticket<N: Name, R: Wait + Drop, J: Journal + Drop>(
     ensures calls { (handle.new.calls ≡ handle.old.calls) × (handle.new.number ≡ handle.old.number) }
     ensures same { book.new ≡ book.old }
 {
-    book.transaction.meet(handle);
+    book.transaction.lemma_calls_are_all(handle);
     book.transaction.show(handle)
 }
 
-/// Enters an update of a caller whose calls are all the entries under its number. What the caller has seen stays as it
-/// was.
-fn enter_one<N: Name, S: Starter, R: Wait + Drop, J: Journal + Drop>(
-    book: &mut Book<N, R, J>,
+/// Enters an update of a caller whose calls are all the entries under its number. What the caller has seen stays as it was.
+fn enter_one<N: Name, S: Starter, W: Wait, J: Journal + Drop>(
+    rt: &W,
+    book: &mut Book<N, J>,
     starter: &S,
-    caller: &mut Caller<N>,
+    caller: &mut DetachedHandle<N>,
     moment: u64,
     operation: &Operation,
 ) -> Result<Reply, UpdateFault>
@@ -71,19 +69,20 @@ fn enter_one<N: Name, S: Starter, R: Wait + Drop, J: Journal + Drop>(
     if let Some(broken) = book.transaction.fault() {
         return Err(UpdateFault::Journal(broken));
     }
-    let serial = caller.claim.count();
+    let serial = caller.token.count();
     let reply = book
         .transaction
-        .write(starter, caller.number(), serial, moment, operation)?;
-    match book.transaction.commit(caller) {
+        .write(rt, starter, caller.number(), serial, moment, operation)?;
+    match book.transaction.commit(rt, caller) {
         Ok(()) => Ok(reply),
         Err(fault) => Err(UpdateFault::Journal(fault)),
     }
 }
 
 /// Enters an update of the handle in the book.
-pub fn enter<N: Name, D, S: Starter, R: Wait + Drop, J: Journal + Drop>(
-    book: &mut Book<N, R, J>,
+pub fn enter<N: Name, D, S: Starter, W: Wait, J: Journal + Drop>(
+    rt: &W,
+    book: &mut Book<N, J>,
     starter: &S,
     handle: &mut HandleOf<'_, N, D>,
     moment: u64,
@@ -101,8 +100,8 @@ pub fn enter<N: Name, D, S: Starter, R: Wait + Drop, J: Journal + Drop>(
     ensures broken { IfSome book.old.fault (λ f. result ≡ Err (UpdateFault.Journal f)) }
     ensures learnt { IsPrefix book.old.history handle.new.front }
 {
-    book.transaction.meet(&mut handle.caller);
-    let entered = enter_one(book, starter, &mut handle.caller, moment, operation);
+    book.transaction.lemma_calls_are_all(&mut handle.caller);
+    let entered = enter_one(rt, book, starter, &mut handle.caller, moment, operation);
     let ticket = book.transaction.show(&mut handle.caller);
     Ok(Done {
         reply: entered?,
@@ -111,10 +110,11 @@ pub fn enter<N: Name, D, S: Starter, R: Wait + Drop, J: Journal + Drop>(
 }
 
 /// Writes the operations of the queue one after another, up to the first fault.
-fn write_all<N: Name, S: Starter, R: Wait + Drop, J: Journal + Drop, A: Allocator>(
-    transaction: &mut Transaction<N, R, J>,
+fn write_all<N: Name, S: Starter, W: Wait, J: Journal + Drop, A: Allocator>(
+    rt: &W,
+    transaction: &mut Transaction<N, J>,
     starter: &S,
-    caller: &Caller<N>,
+    caller: &DetachedHandle<N>,
     moment: u64,
     operations: &VecDeque<Operation>,
     replies: &mut Vec<Reply, A>,
@@ -133,8 +133,8 @@ fn write_all<N: Name, S: Starter, R: Wait + Drop, J: Journal + Drop, A: Allocato
     ensures faults { IfSome result (λ e. IsOfStep e) }
 {
     'queue: while let Some(operation) = operations.get(replies.len()) {
-        let serial = caller.claim.count() + replies.len() as u64;
-        match transaction.write(starter, caller.number(), serial, moment, operation) {
+        let serial = caller.token.count() + replies.len() as u64;
+        match transaction.write(rt, starter, caller.number(), serial, moment, operation) {
             Ok(reply) => replies.push_reserved(reply),
             Err(fault) => return Some(fault),
         }
@@ -142,13 +142,13 @@ fn write_all<N: Name, S: Starter, R: Wait + Drop, J: Journal + Drop, A: Allocato
     None
 }
 
-/// Enters the operations of a queue for a caller whose calls are all the entries under its number, and returns the
-/// fault that ended it. Each that is entered leaves the queue. If the journal breaks off, none is entered. What the
-/// caller has seen stays as it was.
-fn enter_queue<N: Name, S: Starter, R: Wait + Drop, J: Journal + Drop, A: Allocator>(
-    book: &mut Book<N, R, J>,
+/// Enters the operations of a queue for a caller whose calls are all the entries under its number, and returns the fault that ended it.
+/// Each that is entered leaves the queue. If the journal breaks off, none is entered. What the caller has seen stays as it was.
+fn enter_queue<N: Name, S: Starter, W: Wait, J: Journal + Drop, A: Allocator>(
+    rt: &W,
+    book: &mut Book<N, J>,
     starter: &S,
-    caller: &mut Caller<N>,
+    caller: &mut DetachedHandle<N>,
     moment: u64,
     operations: &mut VecDeque<Operation>,
     replies: &mut Vec<Reply, A>,
@@ -172,11 +172,19 @@ fn enter_queue<N: Name, S: Starter, R: Wait + Drop, J: Journal + Drop, A: Alloca
         return Some(UpdateFault::Journal(broken));
     }
     let transaction = &mut book.transaction;
-    let fault = write_all(transaction, starter, caller, moment, operations, replies);
+    let fault = write_all(
+        rt,
+        transaction,
+        starter,
+        caller,
+        moment,
+        operations,
+        replies,
+    );
     if replies.is_empty() {
         return fault;
     }
-    if let Err(broken) = book.transaction.commit(caller) {
+    if let Err(broken) = book.transaction.commit(rt, caller) {
         replies.clear();
         return Some(UpdateFault::Journal(broken));
     }
@@ -191,10 +199,11 @@ pub struct Rest {
     pub fault: UpdateFault,
 }
 
-/// Enters the operations of a queue as updates of the handle, each of which then leaves it, up to the first fault, and
-/// publishes them in one step. The replies need no memory: their room was made before.
-pub fn enter_all<N: Name, D, S: Starter, R: Wait + Drop, J: Journal + Drop, A: Allocator>(
-    book: &mut Book<N, R, J>,
+/// Enters the operations of a queue as updates of the handle, each of which then leaves it, up to the first fault, and publishes them in
+/// one step. The replies need no memory: their room was made before.
+pub fn enter_all<N: Name, D, S: Starter, W: Wait, J: Journal + Drop, A: Allocator>(
+    rt: &W,
+    book: &mut Book<N, J>,
     starter: &S,
     handle: &mut HandleOf<'_, N, D>,
     moment: u64,
@@ -223,9 +232,9 @@ pub fn enter_all<N: Name, D, S: Starter, R: Wait + Drop, J: Journal + Drop, A: A
     ensures journal { IfErr result (λ r. (f : JournalFault) → r.fault ≡ UpdateFault.Journal f → (replies.new.items ≡ []) × (book.new.fault ≡ Some f) × J.may_fail f) }
     ensures broken { IfSome book.old.fault (λ f. IfErr result (λ r. r.fault ≡ UpdateFault.Journal f) × IfOk result (λ _. ⊥)) }
 {
-    book.transaction.meet(&mut handle.caller);
+    book.transaction.lemma_calls_are_all(&mut handle.caller);
     let caller = &mut handle.caller;
-    let fault = enter_queue(book, starter, caller, moment, operations, replies);
+    let fault = enter_queue(rt, book, starter, caller, moment, operations, replies);
     let ticket = book.transaction.show(&mut handle.caller);
     let Some(fault) = fault else {
         return Ok(ticket);
@@ -243,9 +252,9 @@ pub fn enter_all<N: Name, D, S: Starter, R: Wait + Drop, J: Journal + Drop, A: A
 }
 
 /// Makes the caller of a handle. It has seen all of the history, and no entry is its own.
-pub fn add_handle<N: Name, R: Wait + Drop, J: Journal + Drop>(
-    book: &mut Book<N, R, J>,
-) -> Result<Caller<N>, HandleFault>
+pub fn add_handle<N: Name, J: Journal + Drop>(
+    book: &mut Book<N, J>,
+) -> Result<DetachedHandle<N>, HandleFault>
     ensures ok { IfOk result (λ c. (c ≡ record { number = book.old.made + 1; editions = book.old.editions; front = book.old.history; calls = [] }) × (entries_of c.front c.number ≡ [])) }
     ensures added { OnOk result (book.new ≡ record book.old { made = book.old.made + 1 }) }
     ensures err { OnErr result (book.new ≡ book.old) }
@@ -259,30 +268,28 @@ pub fn add_handle<N: Name, R: Wait + Drop, J: Journal + Drop>(
     let Ok(lens) = transaction.press.lens() else {
         return Err(HandleFault::NoPlace);
     };
-    let claim = transaction.roll.open(transaction.made + 1);
+    let token = transaction.sessions.open(transaction.made + 1);
     transaction.made += 1;
     let asker = Asker::begin(lens);
-    Ok(Caller { claim, asker })
+    Ok(DetachedHandle { token, asker })
 }
 
 /// Makes an asker. It has seen all of the history, and the book is as it was.
-pub fn add_asker<N: Name, R: Wait + Drop, J: Journal + Drop>(
-    book: &mut Book<N, R, J>,
-) -> Result<Asker<N>, NoPlace>
+pub fn add_asker<N: Name, J: Journal + Drop>(book: &mut Book<N, J>) -> Result<Asker<N>, NoPlace>
     ensures ok { IfOk result (λ a. a ≡ record { editions = book.old.editions; front = book.old.history }) }
     ensures same { book.new ≡ book.old }
 {
     Ok(Asker::begin(book.transaction.press.lens()?))
 }
 
-/// Lets the handles see all of the history, and shows that it is their calls and nothing else: they are as many as were
-/// made, in the order of making.
+/// Lets the handles see all of the history, and shows that it is their calls and nothing else: they are as many as were made, in the order
+/// of making.
 ///
 /// # Errors
 /// `Split` if they are not. Nothing changes.
-pub fn audit<N: Name, S: Starter + Drop, R: Wait + Drop, J: Journal + Drop>(
-    book: &mut Book<N, R, J>,
-    handles: &mut [HandleOf<'_, N, Desk<N, S, R, J>>],
+pub fn audit<N: Name, D, J: Journal + Drop>(
+    book: &mut Book<N, J>,
+    handles: &mut [HandleOf<'_, N, D>],
 ) -> Result<Ticket, TicketFault>
     requires { AreNumbered handles.old }
     ensures ok { IfOk result (λ t. HaveSeenAll book.old.history handles.new (length handles.new) × (t ≡ record { press = N.press; editions = book.old.editions; front = book.old.history })) }

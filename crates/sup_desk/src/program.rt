@@ -7,7 +7,7 @@ use crate::book::Closed;
 use crate::desk::{Desk, Recovered};
 use crate::faults::DeskFault;
 use crate::ground::Ground;
-use crate::handle::Caller;
+use crate::handle::DetachedHandle;
 use crate::journal::Journal;
 use crate::name::Name;
 use crate::recovery::RecoverFault;
@@ -21,8 +21,8 @@ pub trait Program<S: Starter + Drop, R: Wait> {
     /// What comes of it.
     type Outcome: Drop;
 
-    /// Uses the desk, from which it makes handles and askers. One that shares the desk with other threads names its desk
-    /// itself (see the crate's page): the borrow checker of this kit does not cover such a `run` yet.
+    /// Uses the desk, from which it makes handles and askers. One that shares the desk with other threads names its desk itself (see the
+    /// crate's page): the borrow checker of this kit does not cover such a `run` yet.
     fn run<N: Name + Send + Sync>(self, rt: &R, desk: &Desk<N, S, &R>) -> Self::Outcome;
 }
 
@@ -31,18 +31,18 @@ pub trait JournaledProgram<S: Starter + Drop, R: Wait, J: Journal + Drop> {
     /// What comes of it.
     type Outcome: Drop;
 
-    /// Uses the desk, as a [`Program`] does. `before` are the callers of the history that the desk continues, in the
-    /// order of their numbers: none on a new desk.
+    /// Uses the desk, as a [`Program`] does. `before` are the callers of the history that the desk continues, in the order of their
+    /// numbers: none on a new desk.
     fn run<N: Name + Send + Sync>(
         self,
         rt: &R,
         desk: &Desk<N, S, &R, J>,
-        before: Vec<Caller<N>>,
+        before: Vec<DetachedHandle<N>>,
     ) -> Self::Outcome;
 }
 
-/// Makes a desk for a supervisor of this template and 1 to 1,024 handles, each of which costs each update (see
-/// [`Ground::new`]), and runs the program on it. Its caller writes no proof.
+/// Makes a desk for a supervisor of this template and 1 to 1,024 handles, each of which costs each update (see [`Ground::new`]), and runs
+/// the program on it. Its caller writes no proof.
 ///
 /// # Errors
 /// `BadTemplate` for another number of handles, `OutOfMemory` if memory runs out. The program is not run then.
@@ -63,20 +63,20 @@ pub fn on_desk<S: Starter + Drop, R: Wait, P: Program<S, R> + Drop>(
 /// Runs the program on a desk of this ground, which N names.
 fn run_named<N: Name + Send + Sync, S: Starter + Drop, R: Wait, P: Program<S, R>>(
     rt: &R,
-    ground: Ground<&R>,
+    ground: Ground,
     starter: S,
     program: P,
 ) -> P::Outcome
-    requires { (ground.press ≡ N.press) × (ground.template ≡ N.template) × (ground.roll ≡ N.roll) }
+    requires { (ground.press ≡ N.press) × (ground.template ≡ N.template) × (ground.sessions ≡ N.sessions) }
 {
-    let desk: Desk<N, S, &R> = Desk::new(ground, starter);
+    let desk: Desk<N, S, &R> = Desk::new(ground, rt, starter);
     program.run(rt, &desk)
 }
 
-/// Makes a desk with a journal, runs the program on it and closes it. Returns what came of the program, and the journal
-/// with a ticket for all of the history. The desk continues the history that the journal has recorded, which is empty
-/// for a new one. At the end the journal has recorded just the history of the ticket, unless it broke off (see
-/// `Desk::close`). The desk has 1 to 1,024 handles, those of the history included. Its caller writes no proof.
+/// Makes a desk with a journal, runs the program on it and closes it. Returns what came of the program, and the journal with a ticket for
+/// all of the history. The desk continues the history that the journal has recorded, which is empty for a new one. At the end the journal
+/// has recorded just the history of the ticket, unless it broke off (see `Desk::close`). The desk has 1 to 1,024 handles, those of the
+/// history included. Its caller writes no proof.
 ///
 /// # Errors
 /// Those of [`Desk::recover`], and `BadTemplate` for another number of handles. The program is not run then.
@@ -112,19 +112,19 @@ fn run_recorded<
     P: JournaledProgram<S, R, J> + Drop,
 >(
     rt: &R,
-    ground: Ground<&R>,
+    ground: Ground,
     starter: S,
     journal: J,
     entries: &[Entry],
     program: P,
 ) -> Result<(P::Outcome, Closed<J>), RecoverFault>
-    requires name { (ground.press ≡ N.press) × (ground.template ≡ N.template) × (ground.roll ≡ N.roll) }
+    requires name { (ground.press ≡ N.press) × (ground.template ≡ N.template) × (ground.sessions ≡ N.sessions) }
     requires journal { J.has journal N.template entries.now [] }
     ensures journal { IfOk result (λ p. HasJust (J.has p.1.journal N.template) (J.is_torn p.1.journal N.template) J.may_fail p.1.fault p.1.ticket.front) }
-    ensures err { IfErr result (λ f. IsCauseOf f N.template ground.entry.handles entries.now) }
+    ensures err { IfErr result (λ f. IsCauseOf f N.template ground.handles entries.now) }
 {
     let Recovered { desk, callers, .. } = Desk::<N, S, &R, J>::recover(
-        ground, starter, journal, entries,
+        ground, rt, starter, journal, entries,
     )?;
     let outcome = program.run(rt, &desk, callers);
     Ok((outcome, desk.close()))

@@ -10,7 +10,7 @@ use crate::book::{Book, Transaction, take};
 use crate::desk::{Desk, Recovered};
 use crate::faults::{DeskFault, HandleFault};
 use crate::ground::Ground;
-use crate::handle::Caller;
+use crate::handle::DetachedHandle;
 use crate::journal::{Journal, NoJournal};
 use crate::laws::{add_handle, give_ticket};
 use crate::name::Name;
@@ -61,12 +61,23 @@ impl From<DeskFault> for RecoverFault {
     }
 }
 
-/// Enters a recorded history again, entry by entry, as updates were: by the callers that its handles were. Beside the
-/// ground it takes memory for the callers, and none that grows with the history.
-#[derive(Drop)]
+/// Enters a recorded history again, entry by entry, as updates were: by the callers that its handles were. Beside the ground it takes
+/// memory for the callers, and none that grows with the history.
 pub struct Recovery<N: Name, R: Wait + Drop> {
-    book: Book<N, R, NoJournal>,
-    callers: Vec<Caller<N>>,
+    book: Book<N, NoJournal>,
+    callers: Vec<DetachedHandle<N>>,
+    rt: R,
+}
+
+impl<N: Name, R: Wait + Drop> Drop for Recovery<N, R> {
+    fn drop(self) {
+        let Recovery {
+            book,
+            callers: _callers,
+            rt,
+        } = self;
+        drop(book.close(&rt));
+    }
 }
 
 impl<N: Name, R: Wait + Drop> Model for Recovery<N, R> {
@@ -82,9 +93,10 @@ impl<N: Name, R: Wait + Drop> Model for Recovery<N, R> {
 }
 
 /// Enters a recorded entry for the caller that has made it.
-fn enter_again<N: Name, R: Wait + Drop>(
-    book: &mut Book<N, R, NoJournal>,
-    caller: &mut Caller<N>,
+fn enter_again<N: Name, W: Wait>(
+    rt: &W,
+    book: &mut Book<N, NoJournal>,
+    caller: &mut DetachedHandle<N>,
     entry: Entry,
 ) -> Result<(), RecoverFault>
     requires going { book.old.fault ≡ None }
@@ -96,21 +108,21 @@ fn enter_again<N: Name, R: Wait + Drop>(
     ensures faults { IfErr result (λ f. (f ≡ RecoverFault.NoHandle → ⊥) × (f ≡ RecoverFault.BadTemplate → ⊥)) }
 {
     let Transaction { press, journal, .. } = &mut book.transaction;
-    press.ready();
-    let Some(asked) = press.asks(&entry.operation, entry.moment) else {
+    let mut ready = press.ready(rt);
+    let Some(asked) = ready.asks(&entry.operation, entry.moment) else {
         return Err(RecoverFault::HistoryFull);
     };
-    if take(press, journal, entry, &asked).is_err() {
+    if take(&mut ready, journal, entry, &asked).is_err() {
         return Err(RecoverFault::OutOfMemory);
     }
-    match book.transaction.commit(caller) {
+    match book.transaction.commit(rt, caller) {
         Ok(()) => Ok(()),
         Err(_) => unreachable!(),
     }
 }
 
 /// Lets the callers see all of the history.
-fn see_all_of<N: Name, R: Wait + Drop>(book: &mut Book<N, R, NoJournal>, callers: &mut [Caller<N>])
+fn see_all_of<N: Name>(book: &mut Book<N, NoJournal>, callers: &mut [DetachedHandle<N>])
     ensures seen { HaveSeenAll book.old.history callers.new (length callers.new) }
     ensures grown { AreGrown callers.old callers.new }
     ensures same { book.new ≡ book.old }
@@ -125,17 +137,19 @@ impl<N: Name, R: Wait + Drop> Recovery<N, R> {
     ///
     /// # Errors
     /// `OutOfMemory` if there is no memory for the callers.
-    pub fn begin(ground: Ground<R>) -> Result<Recovery<N, R>, RecoverFault>
-        requires { (ground.press ≡ N.press) × (ground.template ≡ N.template) × (ground.roll ≡ N.roll) }
+    pub fn begin(ground: Ground, rt: R) -> Result<Recovery<N, R>, RecoverFault>
+        requires { (ground.press ≡ N.press) × (ground.template ≡ N.template) × (ground.sessions ≡ N.sessions) }
         ensures ok { IfOk result (λ r. r ≡ record { history = []; made = 0; handles = ground.handles }) }
         ensures err { IfErr result (λ f. f ≡ RecoverFault.OutOfMemory) }
     {
         let Ok(callers) = Vec::with_capacity(ground.alloc, ground.handles as usize) else {
+            ground.close(&rt);
             return Err(RecoverFault::OutOfMemory);
         };
         Ok(Recovery {
             book: ground.book(NoJournal),
             callers,
+            rt,
         })
     }
 
@@ -155,12 +169,12 @@ impl<N: Name, R: Wait + Drop> Recovery<N, R> {
         Ok(())
     }
 
-    /// Enters a recorded entry, after those that were entered. A handle is made when its number is first seen, and
-    /// those of the lower numbers before it.
+    /// Enters a recorded entry, after those that were entered. A handle is made when its number is first seen, and those of the lower
+    /// numbers before it.
     ///
     /// # Errors
-    /// `NoHandle` if no handle of the ground can have its number, `HistoryFull` if there are as many entries as the
-    /// template allows, and `OutOfMemory` if memory runs out. The history is as it was.
+    /// `NoHandle` if no handle of the ground can have its number, `HistoryFull` if there are as many entries as the template allows, and
+    /// `OutOfMemory` if memory runs out. The history is as it was.
     pub fn enter(&mut self, entry: Entry) -> Result<(), RecoverFault>
         ensures ok { OnOk result (self.new.history ≡ self.old.history ++ entry ∷ []) }
         ensures kept { OnErr result (self.new.history ≡ self.old.history) }
@@ -172,7 +186,7 @@ impl<N: Name, R: Wait + Drop> Recovery<N, R> {
         }
         self.open_to(entry.handle)?;
         let place = (entry.handle - 1) as usize;
-        enter_again(&mut self.book, &mut self.callers[place], entry)
+        enter_again(&self.rt, &mut self.book, &mut self.callers[place], entry)
     }
 
     /// Ends the recovery with a desk that continues the history, which this journal has recorded. The ticket is for this history.
@@ -189,6 +203,7 @@ impl<N: Name, R: Wait + Drop> Recovery<N, R> {
         let Recovery {
             mut book,
             mut callers,
+            rt,
         } = self;
         see_all_of(&mut book, callers.as_mut_slice());
         let ticket = book.transaction.tell();
@@ -196,6 +211,7 @@ impl<N: Name, R: Wait + Drop> Recovery<N, R> {
             desk: Desk {
                 book: Mutex::new(book.with_journal(journal)),
                 starter,
+                rt,
             },
             ticket,
             callers,

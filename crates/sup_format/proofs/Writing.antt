@@ -1,4 +1,3 @@
 -- What is written.
 pub mod Written
 pub mod Sending
-pub mod Children

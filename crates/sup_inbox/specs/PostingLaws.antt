@@ -26,10 +26,6 @@ pub are_of-snoc : (id : TableId) (ps : List Posting) (p : Posting) → AreOf id 
 are_of-snoc id [] p h i = (i, tt)
 are_of-snoc id (q ∷ ps) p h i = (h.0, are_of-snoc id ps p h.1 i)
 
--- what holds of all holds of the first and of the others
-pub all-parts : {X : Type 0} (P : X → Type 0) (x : X) (xs ys : List X) → ys ≡ x ∷ xs → All P ys → P x × All P xs
-all-parts P x xs ys e h = let a = subst (All P) e h in (a 0 x (omega arith), λ k d low. a (suc k) d (omega arith))
-
 each_sent : (ps : List Posting) (notes : List Note) → AreSent notes (map sent_of ps) → All (λ (p : Posting). from notes p.number ≡ p.posted) ps
 each_sent [] notes h k d low = absurd (omega arith)
 each_sent (p ∷ ps) notes h zero d low = h.0

@@ -80,7 +80,7 @@ fn empty<R: Wait, A: Allocator, C: Allocator>(
 /// there is no other note: each is one that a poster posted.
 ///
 /// # Errors
-/// All comes back as it was if there is no memory, which cannot be if the room has space for the inbox's capacity.
+/// Returns its arguments as they were if memory runs out, which cannot be if the room has space for the inbox's capacity.
 pub fn settle<R: Wait, A: Allocator, B: Allocator, C: Allocator>(
     rt: &R,
     posters: Vec<Poster, B>,

@@ -21,9 +21,9 @@ IsLeft (Some (end.NotFlushed kind)) left = left ≡ []
 
 -- the fault that a record answers
 abbrev pub fault_of : End → JournalFault
-fault_of (end.Error kind) = fault.Failed
+fault_of (end.Error kind) = fault.Failed kind
 fault_of end.TookNothing = fault.TookNothing
-fault_of (end.NotFlushed kind) = fault.NotFlushed
+fault_of (end.NotFlushed kind) = fault.NotFlushed kind
 
 -- the error that ended it, if an error did
 abbrev pub error_of : Option End → Option ErrorKind

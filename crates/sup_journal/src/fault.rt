@@ -57,9 +57,9 @@ impl End {
         ensures { result ≡ fault_of self }
     {
         match self {
-            End::Error(_) => JournalFault::Failed,
+            End::Error(kind) => JournalFault::Failed(kind),
             End::TookNothing => JournalFault::TookNothing,
-            End::NotFlushed(_) => JournalFault::NotFlushed,
+            End::NotFlushed(kind) => JournalFault::NotFlushed(kind),
         }
     }
 }

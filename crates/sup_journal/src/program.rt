@@ -41,7 +41,13 @@ where
         ⟦<TextJournal<Unknown, Synced<R::File>, Global> as Journal>⟧.may_fail p.1.fault p.1.ticket.front) }
 {
     let ground = Ground::new(alloc, rt, template, handles)?;
-    let file = open_file(rt, path)?;
+    let file = match open_file(rt, path) {
+        Ok(file) => file,
+        Err(fault) => {
+            ground.close(rt);
+            return Err(fault);
+        }
+    };
     run_named::<Brand, S, R, R::File, P>(rt, alloc, file, flush, template, ground, starter, program)
 }
 
@@ -52,7 +58,7 @@ fn run_named<N, S, R, F, P>(
     file: F,
     flush: Flush,
     template: Template,
-    ground: Ground<&R>,
+    ground: Ground,
     starter: S,
     program: P,
 ) -> Result<(P::Outcome, Closed<FileJournal<F>>), OpenFault>
@@ -62,13 +68,13 @@ where
     R: Wait,
     F: Read + Write + OpenFile + Drop,
     P: JournaledProgram<S, R, FileJournal<F>> + Drop,
-    requires name { (ground.press ≡ N.press) × (ground.template ≡ N.template) × (ground.roll ≡ N.roll) }
+    requires name { (ground.press ≡ N.press) × (ground.template ≡ N.template) × (ground.sessions ≡ N.sessions) }
     requires template { template ≡ N.template }
     ensures { IfOk result (λ p. HasJust (⟦<TextJournal<Unknown, Synced<F>, Global> as Journal>⟧.has p.1.journal N.template)
         (⟦<TextJournal<Unknown, Synced<F>, Global> as Journal>⟧.is_torn p.1.journal N.template)
         ⟦<TextJournal<Unknown, Synced<F>, Global> as Journal>⟧.may_fail p.1.fault p.1.ticket.front) }
 {
-    let mut recovery: Recovery<N, &R> = Recovery::begin(ground)?;
+    let mut recovery: Recovery<N, &R> = Recovery::begin(ground, rt)?;
     let journal = continue_journal(alloc, file, &template, &mut recovery)?;
     let Recovered { desk, callers, .. } = recovery.finish(starter, journal.with_flush(flush));
     let outcome = program.run(rt, &desk, callers);

@@ -15,7 +15,7 @@ use crate::started::{NotStarted, Started};
 use std::time::Duration;
 use sup_desk::{Asker, Done, HandleFault, Name, QueryFault, UpdateFault};
 use sup_log::{NoPlace, Ticket, View};
-use sup_types::{Counts, Operation, Row, Seen, Text};
+use sup_types::{Counts, Operation, Row, Seen, Template, Text};
 use sup_yard::{Behaviour, ChildRef, Gone};
 
 /// A client of a live crew whose children do what `B` says. It starts children, sends to them, ends them and asks about them, and it
@@ -63,6 +63,10 @@ pub trait LiveClient<B: Behaviour>: Drop {
     fn front(&self) -> u64
         ensures front { result ≡ length (knows self.now).front }
         ensures whole { (knows self.now).front ≡ history_of (knows self.now).editions };
+
+    /// Returns the template of the crew's children (OTP's manual of `supervisor`, `get_childspec/2`). It asks nothing.
+    fn template(&self) -> &Template
+        ensures { result.now ≡ template };
 
     /// Starts a child with this argument, which owns this. At `Started` it runs, and is sent to by its address. Room for its exit
     /// is made first. What it was to own comes back if no child was made.

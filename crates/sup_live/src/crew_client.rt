@@ -11,7 +11,7 @@ use std::time::{Clock, Duration, Instant};
 use sup_desk::{Asker, Desk, Done, HandleFault, HandleOf, Journal, Name, QueryFault, UpdateFault};
 use sup_ledger::Witness;
 use sup_log::{NoPlace, Ticket, View};
-use sup_types::{Counts, Reply, Row, Seen, Starter, Text};
+use sup_types::{Counts, Reply, Row, Seen, Starter, Template, Text};
 use sup_yard::{Alive, Behaviour, ChildRef, Host, Office, Yard};
 
 /// A client of a crew. It does not give its handle out while it is one: an exit that was entered past the crew would be a second
@@ -189,6 +189,10 @@ impl<
         hub.end_all(moment);
         hub.news.tell();
         Ok(done)
+    }
+
+    fn template(&self) -> &Template {
+        self.handle.template()
     }
 
     fn address(&self, number: u64) -> Option<ChildRef<B::Message>> {

@@ -6,14 +6,14 @@ ghost use Rattle.sup_live.specs.Accounts.{AreStartedBy};
 use std::alloc::{AllocError, Global};
 use std::marker::PhantomData;
 use std::sync::Mutex;
-use sup_desk::{Caller, Name};
+use sup_desk::{DetachedHandle, Name};
 use sup_ledger::{Ledger, Witness};
 use sup_yard::Office;
 
 /// What clients left that were let go: their handles, for an audit, and a witness that shows the children that they started.
 #[derive(Drop)]
 pub(crate) struct Left<N: Name, I: Office> {
-    pub(crate) callers: Vec<Caller<N>>,
+    pub(crate) callers: Vec<DetachedHandle<N>>,
     pub(crate) witness: Witness,
     of: PhantomData<I>,
     ghost of_ledger: { witness.ledger ≡ I.ledger },
@@ -42,7 +42,7 @@ impl<N: Name, I: Office> Left<N, I> {
     }
 
     /// Adds what a client left. If memory runs out, its handle is lost, which an audit says.
-    pub(crate) fn add(&mut self, ledger: &Ledger, caller: Caller<N>, witness: Witness)
+    pub(crate) fn add(&mut self, ledger: &Ledger, caller: DetachedHandle<N>, witness: Witness)
         requires ledger { (ledger.now.id ≡ I.ledger) × (witness.ledger ≡ I.ledger) }
         requires started { HasStarted N.template caller witness.shown }
     {

@@ -132,7 +132,7 @@ where
 /// Runs a crew over a desk of this ground, which N names, audits it, and closes the desk.
 fn run_recorded<N, S, J, B, T, U, R>(
     rt: &R,
-    ground: Ground<&R>,
+    ground: Ground,
     starter: S,
     journal: J,
     entries: &[Entry],
@@ -153,13 +153,13 @@ where
     U: Program<B> + Drop + Send,
     U::Outcome: Send,
     R: Threads + Wait + Clock + RandomSource + AllocGlobal + Sync,
-    requires name { (ground.press ≡ N.press) × (ground.template ≡ N.template) × (ground.roll ≡ N.roll) }
+    requires name { (ground.press ≡ N.press) × (ground.template ≡ N.template) × (ground.sessions ≡ N.sessions) }
     requires workers { (1 ≤ plan.workers) × (plan.workers ≤ 64) }
     requires journal { J.has journal N.template entries.now [] }
     ensures report { IfOk result (λ r. IsCrewReport (B.may_end behaviour.now) (λ moment. true) N.template (vec_len peers) r.0) }
     ensures journal { IfOk result (λ r. HasJust (J.has r.1.journal N.template) (J.is_torn r.1.journal N.template) J.may_fail r.1.fault r.1.ticket.front) }
 {
-    let recovered = Desk::<N, S, &R, J>::recover(ground, starter, journal, entries)?;
+    let recovered = Desk::<N, S, &R, J>::recover(ground, rt, starter, journal, entries)?;
     let Recovered { desk, callers, .. } = recovered;
     let moments = Moments::from_now(rt);
     let (report, _) = run_over(rt, &desk, behaviour, moments, plan, program, peers, callers)?;

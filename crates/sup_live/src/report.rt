@@ -7,7 +7,7 @@ use crate::peers::NotRun;
 use crate::threads::Joined;
 use std::alloc::Global;
 use std::sync::Wait;
-use sup_desk::{Caller, Desk, Handle, Journal, Name, UpdateFault};
+use sup_desk::{Desk, DetachedHandle, Handle, Journal, Name, UpdateFault};
 use sup_driver::Tally;
 use sup_log::Ticket;
 use sup_types::Starter;
@@ -102,7 +102,7 @@ where
 pub(crate) fn bind_all<'d, N: Name, S: Starter + Drop, Q: Wait + Drop, J: Journal + Drop>(
     desk: &'d Desk<N, S, Q, J>,
     handles: Vec<Handle<'d, N, S, Q, J>>,
-    callers: Vec<Caller<N>>,
+    callers: Vec<DetachedHandle<N>>,
 ) -> Vec<Handle<'d, N, S, Q, J>>
     requires { vec_len handles + vec_len callers ≤ vec_capacity handles }
     ensures { result.items ≡ handles.entry.items ++ callers.items }
@@ -121,7 +121,7 @@ fn audited<'d, N: Name, S: Starter + Drop, Q: Wait + Drop, J: Journal + Drop, R:
     desk: &'d Desk<N, S, Q, J>,
     before: Vec<Handle<'d, N, S, Q, J>>,
     driver: Handle<'d, N, S, Q, J>,
-    clients: Vec<Caller<N>>,
+    clients: Vec<DetachedHandle<N>>,
 ) -> (Vec<Handle<'d, N, S, Q, J>>, Option<Ticket>)
     ensures audited { MatchOption result.1 ((result.0.items ≡ before.entry.items) ⊎ AreAtHand ((before.entry.items ++ driver.entry ∷ []) ++ clients.items) result.0.items)
         (λ t. IsWhole ((before.entry.items ++ driver.entry ∷ []) ++ clients.items) result.0.items t.front) }

@@ -14,7 +14,7 @@ use std::random::RandomSource;
 use std::sync::Wait;
 use std::thread::Threads;
 use std::time::Clock;
-use sup_desk::{Caller, Desk, Handle, Journal, Name};
+use sup_desk::{Desk, DetachedHandle, Handle, Journal, Name};
 use sup_driver::Driver;
 use sup_ledger::{Account, Ledger};
 use sup_types::Starter;
@@ -131,7 +131,7 @@ pub fn run_over<'d, N, S, Q, J, B, T, U, R, M>(
     plan: Plan,
     program: T,
     peers: Vec<U>,
-    before: Vec<Caller<N>>,
+    before: Vec<DetachedHandle<N>>,
 ) -> Result<
     (
         CrewReport<T::Outcome, U::Outcome>,

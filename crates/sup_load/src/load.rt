@@ -216,7 +216,7 @@ where
 fn on_ground<N, R, J>(
     rt: &R,
     alloc: Global,
-    ground: Ground<&R>,
+    ground: Ground,
     load: Load,
     journal: J,
     is_person: bool,
@@ -225,11 +225,11 @@ where
     N: Name + Send + Sync,
     R: Threads + Wait + Eprint + Sync,
     J: Journal + Drop + Send,
-    requires name { (ground.press ≡ N.press) × (ground.template ≡ N.template) × (ground.roll ≡ N.roll) }
+    requires name { (ground.press ≡ N.press) × (ground.template ≡ N.template) × (ground.sessions ≡ N.sessions) }
     requires journal { J.has journal N.template [] [] }
     ensures { IfOk result (λ s. AreCounts N.template s) }
 {
-    let desk: Desk<N, ScriptStarter, &R, J> = Desk::with_journal(ground, ScriptStarter, journal);
+    let desk: Desk<N, ScriptStarter, &R, J> = Desk::with_journal(ground, rt, ScriptStarter, journal);
     on_desk(rt, alloc, &desk, load, is_person)
 }
 

@@ -139,7 +139,7 @@ impl History {
 
     /// Proves that a ticket tells no more than there is. It takes one load of the word: the load shows a history that begins with all that was
     /// told, and the right says how long it is.
-    pub fn covers(&mut self, told: &Ticket)
+    pub fn lemma_is_prefix(&mut self, told: &Ticket)
         requires { told.now.press ≡ self.old.press }
         ensures kept { self.new ≡ self.old }
         ensures front { IsPrefix told.now.front self.old.front }

@@ -1,4 +1,4 @@
-//! Lenses, which look at the copies.
+//! Lenses, which look at the replicas.
 ghost use Rattle.std.specs.Prelude.{◌≡◌, ◌⊎◌, true, IfOk, IfSome, OnErr, IsOk};
 ghost use Rattle.std.specs.Fn.{FnOnceReturnsAt};
 ghost use mathlib.Core.List.{IsPrefix};

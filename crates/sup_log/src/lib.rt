@@ -1,4 +1,4 @@
-//! Publishes the history of a supervisor in two copies, which threads look at without a lock.
+//! Publishes the history of a supervisor in two replicas, which threads look at without a lock.
 //!
 //! A [`Press`] collects pending entries, answers them in order, and publishes them in one step. A [`Lens`] is the place of one
 //! reader: a look enters a copy, calls a function once on a [`View`] of it, and leaves. The copy is the supervisor after one front (a
@@ -8,19 +8,20 @@
 //! ```text
 //! let mut press = Press::new(alloc, &rt, template, 2)?;
 //! let mut lens = press.lens()?;
-//! press.ready();
-//! let Some(asked) = press.asks(&operation, moment) else { return Err(Full) };
-//! press.append(entry)?;
-//! let reply = press.step(&asked);
-//! press.publish();
+//! let mut ready = press.ready(&rt);
+//! let Some(asked) = ready.asks(&operation, moment) else { .. };
+//! ready.append(&entry)?;
+//! let reply = ready.step(&asked);
+//! ready.publish(&rt);
 //! let ticket = press.tell();
 //! lens.learn(&ticket)?;
 //! let (stamp, counts) = lens.look(|view| (view.stamp(), view.counts()))?;
+//! press.close(&rt);
 //! ```
 //!
-//! The copies are those of `left_right`, under a rule of this crate. The press answers entries on the copy that is not shown:
-//! [`Press::ready`] takes that copy out of the reach of lenses and steps what it lacks, [`Press::step`] steps an entry there, and
-//! [`Press::publish`] shows it. So each copy steps each entry once, and there is no third supervisor that decides. The history is a
+//! The replicas are those of `left_right`, under a rule of this crate. The press answers entries on the copy that is not shown:
+//! [`Press::ready`] takes that copy out of the reach of lenses and has it step what it lacks, [`Ready::step`] steps an entry there, and
+//! [`Ready::publish`] shows it. So each copy steps each entry once, and there is no third supervisor that decides. The history is a
 //! book of `logbook`, which exists in the proofs alone.
 //!
 //! # What is proved
@@ -28,7 +29,7 @@
 //! - An entry that `append` refused is not pending, so it is never published.
 //! - A look shows the supervisor of the press's own template after the front that the lens then has. That front begins with each
 //!   front that the lens had seen or learnt. A refused look changes nothing.
-//! - No call of a lens, a ticket or a view waits.
+//! - No call of a lens, a ticket or a view waits, and of a press only `new`, `ready`, `publish` and `close` may.
 //!
 //! # What is on trust
 //! The toolchain, and what the crates of the kit state. That a wait ends is not proved. `ready` waits until the looks at the copy that it
@@ -39,18 +40,18 @@
 //! - That no look is refused while its press exists.
 #![tactic(auto)]
 
-mod copies;
 mod faults;
 mod history;
 mod lens;
 mod press;
 mod publication;
+mod replicas;
 mod right;
 mod ticket;
 mod view;
 
 pub use faults::{Gone, NoPlace};
 pub use lens::Lens;
-pub use press::Press;
+pub use press::{Press, Ready};
 pub use ticket::Ticket;
 pub use view::View;

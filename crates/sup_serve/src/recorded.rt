@@ -48,7 +48,10 @@ where
         Ok(file) => serve_named::<Brand, T, R, R::File>(
             rt, file, ground, template, plan, sessions, server,
         ),
-        Err(error) => Err(ServeFault::NoJournal(OpenFault::File(error.kind()))),
+        Err(error) => {
+            ground.close(rt);
+            Err(ServeFault::NoJournal(OpenFault::File(error.kind())))
+        }
     }
 }
 
@@ -56,7 +59,7 @@ where
 fn serve_named<N, T, R, F>(
     rt: &R,
     file: F,
-    ground: Ground<&R>,
+    ground: Ground,
     template: Template,
     plan: Plan,
     sessions: &Sessions,
@@ -67,11 +70,11 @@ where
     T: Program<Sessions> + Drop,
     R: Threads + Wait + Clock + RandomSource + AllocGlobal + Sync,
     F: Read + Write + OpenFile + Drop + Send,
-    requires name { (ground.press ≡ N.press) × (ground.template ≡ N.template) × (ground.roll ≡ N.roll) }
+    requires name { (ground.press ≡ N.press) × (ground.template ≡ N.template) × (ground.sessions ≡ N.sessions) }
     requires template { template ≡ N.template }
     requires workers { (1 ≤ plan.workers) × (plan.workers ≤ 64) }
 {
-    let Ok(mut recovery): Result<Recovery<N, &R>, _> = Recovery::begin(ground) else {
+    let Ok(mut recovery): Result<Recovery<N, &R>, _> = Recovery::begin(ground, rt) else {
         return Err(ServeFault::OutOfMemory);
     };
     let journal = continue_journal(rt.alloc(), file, &template, &mut recovery)?;

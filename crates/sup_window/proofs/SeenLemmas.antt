@@ -9,9 +9,9 @@ use Rattle.std.proofs.lemmas.Bool.{eq-eqb, le-leb, lt-leb, leb-true, cases_Bool,
 use Rattle.std.proofs.lemmas.List.Elements.{filter-append}
 use Rattle.std.proofs.lemmas.List.Sums.{length-filter, count_by-le-length}
 use Rattle.std.proofs.lemmas.List.Sorted.{IsNonDecreasingBy-drop}
-use Rattle.sup_window.specs.Attempts.{still_counts, is_borne, greatest, keep_last, remembered, Recent, HasSeen, with_attempt, front_counts, counts_at}
+use Rattle.sup_window.specs.Attempts.{still_counts, is_allowed, greatest, keep_last, remembered, Recent, HasSeen, with_attempt, front_counts, counts_at}
 use Rattle.sup_window.specs.Last.{tail_above, all_pass, kept_count}
-use Rattle.sup_window.specs.Laws.{rises-push, greatest-push, remembered-push, is_borne-remembered}
+use Rattle.sup_window.specs.Laws.{rises-push, greatest-push, remembered-push, is_allowed-remembered}
 
 pub seen-with_attempt : (window : Recent) (attempts : List ℕ) (moment : ℕ) → HasSeen window attempts
     → HasSeen (with_attempt window moment) (attempts ++ max (greatest attempts) moment ∷ [])
@@ -27,13 +27,13 @@ seen-with_attempt window attempts moment seen =
     }
 
 -- a window that has seen these attempts decides as all of them do
-pub is_borne-seen : (window : Recent) (attempts : List ℕ) (moment : ℕ) → HasSeen window attempts
-    → is_borne window.intensity window.period window.moments (max window.latest moment)
-    ≡ is_borne window.intensity window.period attempts (max (greatest attempts) moment)
-is_borne-seen window attempts moment seen =
-    ap (λ l. is_borne window.intensity window.period l (max window.latest moment)) seen.kept
-    ∙ is_borne-remembered window.intensity window.period attempts (max window.latest moment) seen.rising
-    ∙ ap (λ m. is_borne window.intensity window.period attempts (max m moment)) seen.latest
+pub is_allowed-seen : (window : Recent) (attempts : List ℕ) (moment : ℕ) → HasSeen window attempts
+    → is_allowed window.intensity window.period window.moments (max window.latest moment)
+    ≡ is_allowed window.intensity window.period attempts (max (greatest attempts) moment)
+is_allowed-seen window attempts moment seen =
+    ap (λ l. is_allowed window.intensity window.period l (max window.latest moment)) seen.kept
+    ∙ is_allowed-remembered window.intensity window.period attempts (max window.latest moment) seen.rising
+    ∙ ap (λ m. is_allowed window.intensity window.period attempts (max m moment)) seen.latest
 
 counted_le : (p : ℕ → Bool) (xs : List ℕ) → length (filter p xs) ≤ length xs
 counted_le p xs = omega (arith, length-filter p xs, count_by-le-length p xs)
@@ -81,10 +81,10 @@ full_decides intensity period at xs (y ∷ ys) rising short same =
     ]
 
 -- what a window keeps after an attempt tells whether it is borne
-pub is_borne-full : (intensity period at : ℕ) (moments : List ℕ) → IsNonDecreasing moments → greatest moments ≤ at
-    → is_borne intensity period moments at
+pub is_allowed-full : (intensity period at : ℕ) (moments : List ℕ) → IsNonDecreasing moments → greatest moments ≤ at
+    → is_allowed intensity period moments at
     ≡ not ((length (keep_last (intensity + 1) (moments ++ at ∷ [])) == intensity + 1) && front_counts period at (slice_get (keep_last (intensity + 1) (moments ++ at ∷ [])) 0))
-is_borne-full intensity period at moments rising low =
+is_allowed-full intensity period at moments rising low =
     let p = still_counts period at in
     let up : (x y : ℕ) → x ≤ y → p x ≡ true → p y ≡ true =
     λ x y below passes. let reach : at ≤ x + period = leb-true at (x + period) passes in le-leb at (y + period) (omega arith) in
@@ -97,27 +97,16 @@ is_borne-full intensity period at moments rising low =
     (omega (arith, length-drop (length all - (intensity + 1)) all))
     (elim (kept_count p up (intensity + 1) all rises) [ inl e ↦ inl (e ∙ more) | inr (a, b) ↦ inr (a, omega (arith, more)) ])
 
--- fewer moments than may be borne leave room for one more
-pub is_borne-few : (intensity period at : ℕ) (moments : List ℕ) → IsNonDecreasing moments → greatest moments ≤ at → length moments < intensity
-    → is_borne intensity period moments at ≡ true
-is_borne-few intensity period at moments rising low few =
-    let all = moments ++ at ∷ [] in
-    let kept = keep_last (intensity + 1) all in
-    let long = length-append moments (at ∷ []) in
-    let short : length kept ≡ intensity + 1 → ⊥ = λ e. omega (arith, e, few, long, length-drop (length all - (intensity + 1)) all) in
-    is_borne-full intensity period at moments rising low
-    ∙ ap (λ b. not (b && front_counts period at (slice_get kept 0))) (ne_eqb (length kept) (intensity + 1) short)
-
 -- with as many, the moment that would then be the oldest decides
-pub is_borne-oldest : (intensity period at : ℕ) (moments : List ℕ) → IsNonDecreasing moments → greatest moments ≤ at → intensity ≤ length moments
-    → length moments ≤ intensity + 1 → is_borne intensity period moments at ≡ not (counts_at period at (slice_get moments (length moments - intensity)))
-is_borne-oldest intensity period at moments rising low many most =
+pub is_allowed-oldest : (intensity period at : ℕ) (moments : List ℕ) → IsNonDecreasing moments → greatest moments ≤ at → intensity ≤ length moments
+    → length moments ≤ intensity + 1 → is_allowed intensity period moments at ≡ not (counts_at period at (slice_get moments (length moments - intensity)))
+is_allowed-oldest intensity period at moments rising low many most =
     let all = moments ++ at ∷ [] in
     let kept = keep_last (intensity + 1) all in
     let long = length-append moments (at ∷ []) in
     let full : length kept ≡ intensity + 1 = omega (arith, many, most, long, length-drop (length all - (intensity + 1)) all) in
     let place : length moments - intensity ≡ (length all - (intensity + 1)) + 0 = omega (arith, long, many) in
-    is_borne-full intensity period at moments rising low
+    is_allowed-full intensity period at moments rising low
     ∙ ap (λ b. not (b && front_counts period at (slice_get kept 0))) (eq-eqb (length kept) (intensity + 1) full)
     ∙ ap (λ o. not (front_counts period at o)) (slice_get-drop (length all - (intensity + 1)) all 0 (length moments - intensity) place)
     ∙ ap not (oldest (cases_lt (length moments - intensity) (length moments)))

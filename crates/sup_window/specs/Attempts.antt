@@ -11,8 +11,8 @@ abbrev pub attempts_within : ℕ → List ℕ → ℕ → ℕ
 attempts_within period attempts at = count_by (still_counts period at) attempts
 
 -- whether one more attempt at this moment is allowed
-abbrev pub is_borne : ℕ → ℕ → List ℕ → ℕ → Bool
-is_borne intensity period attempts at = nat_le (attempts_within period attempts at + 1) intensity
+abbrev pub is_allowed : ℕ → ℕ → List ℕ → ℕ → Bool
+is_allowed intensity period attempts at = nat_le (attempts_within period attempts at + 1) intensity
 
 -- the greatest moment
 abbrev pub greatest : List ℕ → ℕ

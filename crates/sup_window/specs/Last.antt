@@ -6,7 +6,7 @@ use Rattle.std.proofs.Common.{inl, inr, sym, ap, ◌∙◌, arith, length-append
 use Rattle.std.proofs.lemmas.Bool.{le-leb, lt-leb, leb-true, cases_Bool, cond-true, cond-false, cases_lt}
 use Rattle.std.proofs.lemmas.List.Sums.{length-filter}
 use Rattle.std.proofs.lemmas.List.Sorted.{IsNonDecreasingBy-drop}
-use Rattle.sup_window.specs.Attempts.{still_counts, attempts_within, is_borne, keep_last}
+use Rattle.sup_window.specs.Attempts.{still_counts, attempts_within, is_allowed, keep_last}
 
 pub keep_last-short : {X : Type 0} (n : ℕ) (xs : List X) → length xs ≤ n → keep_last n xs ≡ xs
 keep_last-short n xs short = let none : length xs - n ≡ 0 = omega arith in ap (λ k. drop k xs) none
@@ -65,9 +65,9 @@ module _ (p : ℕ → Bool) (up : (x y : ℕ) → x ≤ y → p x ≡ true → p
   ]
 
 -- the last attempts, one more than are borne, decide as all attempts do
-pub is_borne-keep_last : (intensity period : ℕ) (attempts : List ℕ) (at : ℕ) → IsNonDecreasing attempts
-    → is_borne intensity period (keep_last (intensity + 1) attempts) at ≡ is_borne intensity period attempts at
-is_borne-keep_last intensity period attempts at rising =
+pub is_allowed-keep_last : (intensity period : ℕ) (attempts : List ℕ) (at : ℕ) → IsNonDecreasing attempts
+    → is_allowed intensity period (keep_last (intensity + 1) attempts) at ≡ is_allowed intensity period attempts at
+is_allowed-keep_last intensity period attempts at rising =
     let p = still_counts period at in
     let up : (x y : ℕ) → x ≤ y → p x ≡ true → p y ≡ true =
     λ x y below passes. let low : at ≤ x + period = leb-true at (x + period) passes in le-leb at (y + period) (omega arith) in

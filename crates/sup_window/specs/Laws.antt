@@ -5,8 +5,8 @@ use Rattle.std.specs.List.Sorted.{IsNonDecreasing}
 use Rattle.std.proofs.Common.{arith}
 use Rattle.std.proofs.lemmas.List.Sums.{fold_push}
 use Rattle.std.proofs.lemmas.List.Sorted.{IsNonDecreasingBy-push}
-use Rattle.sup_window.specs.Attempts.{is_borne, greatest, remembered}
-use Rattle.sup_window.specs.Last.{keep_last-push, is_borne-keep_last, below_greatest}
+use Rattle.sup_window.specs.Attempts.{is_allowed, greatest, remembered}
+use Rattle.sup_window.specs.Last.{keep_last-push, is_allowed-keep_last, below_greatest}
 
 -- a moment that is no lower than the greatest keeps them rising
 pub rises-push : (moments : List ℕ) (at : ℕ) → IsNonDecreasing moments → greatest moments ≤ at → IsNonDecreasing (moments ++ at ∷ [])
@@ -22,7 +22,7 @@ unfolding remembered
 remembered-push intensity attempts at = keep_last-push (intensity + 1) attempts at (omega arith)
 
 -- what is remembered of rising attempts decides as all of them do
-pub is_borne-remembered : (intensity period : ℕ) (attempts : List ℕ) (at : ℕ) → IsNonDecreasing attempts
-    → is_borne intensity period (remembered intensity attempts) at ≡ is_borne intensity period attempts at
+pub is_allowed-remembered : (intensity period : ℕ) (attempts : List ℕ) (at : ℕ) → IsNonDecreasing attempts
+    → is_allowed intensity period (remembered intensity attempts) at ≡ is_allowed intensity period attempts at
 unfolding remembered
-is_borne-remembered intensity period attempts at rising = is_borne-keep_last intensity period attempts at rising
+is_allowed-remembered intensity period attempts at rising = is_allowed-keep_last intensity period attempts at rising

@@ -2,12 +2,12 @@
 
 ghost use Rattle.std.specs.Prelude.{◌≡◌, ℕ, List, ◌++◌, ◌∷◌, []};
 ghost use Rattle.std.specs.List.Sorted.{IsNonDecreasing};
-ghost use Rattle.sup_window.specs.Attempts.{is_borne, remembered};
+ghost use Rattle.sup_window.specs.Attempts.{is_allowed, remembered};
 
 /// Shows that what a window remembers of attempts decides as all of them do.
 pub fn remembered_attempts_decide()
     ensures { (intensity period : ℕ) (attempts : List ℕ) (at : ℕ) → IsNonDecreasing attempts
-        → is_borne intensity period (remembered intensity attempts) at ≡ is_borne intensity period attempts at }
+        → is_allowed intensity period (remembered intensity attempts) at ≡ is_allowed intensity period attempts at }
 {}
 
 /// Shows that to remember one attempt more, a window needs no other than those that it remembers.

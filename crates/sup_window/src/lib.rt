@@ -17,7 +17,7 @@
 
 ghost use Rattle.std.specs.Prelude.{◌≡◌, ◌≤◌, ℕ, ◌+◌, List, [], ◌∷◌, ◌++◌, IfOk, max, length, slice_get, ◌==◌, ◌&&◌};
 ghost use Rattle.circular_buffer.specs.Buffer.{buffer};
-ghost use Rattle.sup_window.specs.Attempts.{HasSeen, is_borne, with_attempt, still_counts, greatest, keep_last, front_counts, counts_at};
+ghost use Rattle.sup_window.specs.Attempts.{HasSeen, is_allowed, with_attempt, still_counts, greatest, keep_last, front_counts, counts_at};
 
 pub mod laws;
 
@@ -79,9 +79,9 @@ impl<A: Allocator> Window<A> {
     /// Returns whether one more attempt at this moment, in seconds, is allowed. A moment lower than that of an earlier
     /// attempt is taken as the highest so far. Nothing changes.
     pub fn would_allow(&self, moment: u64) -> bool
-        ensures value { result ≡ is_borne self.now.intensity self.now.period self.now.moments (max self.now.latest moment) }
+        ensures value { result ≡ is_allowed self.now.intensity self.now.period self.now.moments (max self.now.latest moment) }
         ensures seen { (attempts : List ℕ) → HasSeen self.now attempts
-            → result ≡ is_borne self.now.intensity self.now.period attempts (max (greatest attempts) moment) }
+            → result ≡ is_allowed self.now.intensity self.now.period attempts (max (greatest attempts) moment) }
     {
         self.decides(moment)
     }
@@ -89,7 +89,7 @@ impl<A: Allocator> Window<A> {
     // Whether the ring would then be full of moments that still count depends on its oldest one: so the answer takes
     // one look, however many attempts are kept.
     fn decides(&self, moment: u64) -> bool
-        ensures { result ≡ is_borne self.now.intensity self.now.period self.now.moments (max self.now.latest moment) }
+        ensures { result ≡ is_allowed self.now.intensity self.now.period self.now.moments (max self.now.latest moment) }
     {
         let at = self.latest.max(moment);
         let kept = self.moments.len() as u64;
@@ -103,10 +103,10 @@ impl<A: Allocator> Window<A> {
     /// Notes an attempt at this moment, in seconds, and returns whether it is allowed. One that is not allowed counts
     /// as well. A moment lower than that of an earlier attempt is taken as the highest so far.
     pub fn attempt(&mut self, moment: u64) -> bool
-        ensures value { result ≡ is_borne self.old.intensity self.old.period self.old.moments (max self.old.latest moment) }
+        ensures value { result ≡ is_allowed self.old.intensity self.old.period self.old.moments (max self.old.latest moment) }
         ensures next { self.new ≡ with_attempt self.old moment }
         ensures seen { (attempts : List ℕ) → HasSeen self.old attempts
-            → (result ≡ is_borne self.old.intensity self.old.period attempts (max (greatest attempts) moment))
+            → (result ≡ is_allowed self.old.intensity self.old.period attempts (max (greatest attempts) moment))
             × HasSeen self.new (attempts ++ max (greatest attempts) moment ∷ []) }
     {
         self.note(moment)
@@ -115,7 +115,7 @@ impl<A: Allocator> Window<A> {
     // Once it is noted, an attempt is allowed if the ring is not full, or its oldest moment no longer counts.
     #[tactic(auto, unfolding(crate::specs::Attempts::remembered))]
     fn note(&mut self, moment: u64) -> bool
-        ensures value { result ≡ is_borne self.old.intensity self.old.period self.old.moments (max self.old.latest moment) }
+        ensures value { result ≡ is_allowed self.old.intensity self.old.period self.old.moments (max self.old.latest moment) }
         ensures next { self.new ≡ with_attempt self.old moment }
     {
         self.latest = self.latest.max(moment);

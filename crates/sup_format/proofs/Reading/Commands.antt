@@ -103,13 +103,6 @@ either_is false true c e = inr (inl refl)
 either_is false false true e = inr (inr refl)
 either_is false false false e = absurd (false≢true e)
 
-pub identifier_found : (word : List ℕ) → is_identifier_word word ≡ true → IsIdentifierWord word
-identifier_found word e =
-    elim (either_is _ _ _ e) [
-      | inl a ↦ inl ((bytes_eq-Decides word (codes "terminate_id")).0 a)
-      | inr r ↦ elim r [ inl b ↦ inr (inl ((bytes_eq-Decides word (codes "delete_child")).0 b)) | inr c ↦ inr (inr ((bytes_eq-Decides word (codes "restart_child")).0 c)) ]
-    ]
-
 -- ---- words that spell no command
 
 pub no_update : (v : Verb) (ws : List (List ℕ)) → ((m : ℕ) (o : Operation) → m < 2 ^ 64 → IsOperation o → operation_verb o ≡ v → ws ≡ decimal m ∷ argument_words o → ⊥) → MeansNothing (verb_word v ∷ ws)
@@ -137,12 +130,6 @@ no_command word ws verb identifier which count (command.ById text) s =
     no_identifier word identifier (subst IsIdentifierWord (sym (first_same _ _ _ _ s.spelled.2)) s.spelled.1)
 
 -- ---- reasons
-
-pub no_reason : (word : List ℕ) → word ≢ codes "normal" → word ≢ codes "shutdown" → ((t : List ℕ) → IsText t → word ≡ codes "shutdown:" ++ t → ⊥) → (IsWord word → ⊥) → (r : Reason) → IsReason r → word ≢ reason_word r
-no_reason word normal shutdown term other reason.Normal fits e = normal e
-no_reason word normal shutdown term other reason.Shutdown fits e = shutdown e
-no_reason word normal shutdown term other (reason.ShutdownWith t) fits e = term t fits e
-no_reason word normal shutdown term other (reason.Other w) fits e = other (subst IsWord (sym e) fits)
 
 -- a text after `shutdown:` is a word of its own, and so is what it makes
 pub term_is : (t u word : List ℕ) → word ≡ codes "shutdown:" ++ t → word ≡ codes "shutdown:" ++ u → t ≡ u

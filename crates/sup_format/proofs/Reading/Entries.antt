@@ -27,17 +27,7 @@ no_answer word ws failed running ignore answer.Running fits e = running (first_s
 no_answer word ws failed running ignore answer.Ignore fits e = ignore (first_same _ _ _ _ e) (rest_same _ _ _ _ e)
 no_answer word ws failed running ignore (answer.Failed code) fits e = failed (first_same _ _ _ _ e)
 
-pub no_failure : (ws : List (List ℕ)) → ((code : ℕ) → code < 2 ^ 32 → ws ≡ decimal code ∷ [] → ⊥) → (a : Answer) → IsAnswer a → codes "failed" ∷ ws ≡ answer_words a → ⊥
-no_failure ws none answer.Running fits e = texts_differ (codes "failed") (codes "running") refl (first_same _ _ _ _ e)
-no_failure ws none answer.Ignore fits e = texts_differ (codes "failed") (codes "ignore") refl (first_same _ _ _ _ e)
-no_failure ws none (answer.Failed code) fits e = none code fits (rest_same _ _ _ _ e)
-
 -- ---- operations and what follows them
-
-pub past_arguments : (o p : Operation) (ws xs ys : List (List ℕ)) → operation_verb o ≡ operation_verb p → ws ≡ argument_words o ++ xs → ws ≡ argument_words p ++ ys → xs ≡ ys
-past_arguments o p ws xs ys same e f =
-    let count : length (argument_words p) ≡ length (argument_words o) = arguments_same p o (sym same) in
-    sym (drop-append_seam (argument_words o) xs) ∙ ap (drop (length (argument_words o))) (sym e ∙ f) ∙ ap (λ n. drop n (argument_words p ++ ys)) (sym count) ∙ drop-append_seam (argument_words p) ys
 
 -- ---- lines
 
@@ -55,28 +45,3 @@ pub no_entry_in : (bytes line more : List ℕ) → IsSplit 10 bytes line more �
 no_entry_in bytes line more split none line' more' other = subst MeansNoEntry (line_same bytes line more line' more' split other) none
 
 -- ---- first lines
-
-versions_differ : codes "1" ≡ codes "2" → ⊥
-versions_differ e = texts_differ (codes "1") (codes "2") refl e
-
-module _ (line : List ℕ) (ws : List (List ℕ)) where
-  pub plain_parts : words_of line ≡ codes "history" ∷ codes "1" ∷ ws → (found : Option Parts) → HasPlain ws found → HasParts AreFirstWords line found
-  plain_parts e None none = λ parts h. elim h.words [
-    | inl plain ↦ none parts h.fits (rest_same _ _ _ _ (rest_same _ _ _ _ (sym e ∙ plain.1)))
-    | inr marked ↦ versions_differ (first_same _ _ _ _ (rest_same _ _ _ _ (sym e ∙ marked)))
-  ]
-  plain_parts e (Some parts) some = record { fits = some.0; words = inl (some.1, e ∙ ap (λ (l : List (List ℕ)). codes "history" ∷ codes "1" ∷ l) some.2) }
-
-  pub marked_parts : words_of line ≡ codes "history" ∷ codes "2" ∷ ws → (found : Option Parts) → HasMarked ws found → HasParts AreFirstWords line found
-  marked_parts e None none = λ parts h. elim h.words [
-    | inl plain ↦ versions_differ (sym (first_same _ _ _ _ (rest_same _ _ _ _ (sym e ∙ plain.1))))
-    | inr marked ↦ none parts h.fits (rest_same _ _ _ _ (rest_same _ _ _ _ (sym e ∙ marked)))
-  ]
-  marked_parts e (Some parts) some = record { fits = some.0; words = inr (e ∙ ap (λ (l : List (List ℕ)). codes "history" ∷ codes "2" ∷ l) some.1) }
-
-  -- another version, or another first word
-  pub no_version : (version : List ℕ) → words_of line ≡ codes "history" ∷ version ∷ ws → version ≢ codes "1" → version ≢ codes "2" → (parts : Parts) → AreFirstWords (words_of line) parts → ⊥
-  no_version version e one two parts words = elim words [
-    | inl plain ↦ one (first_same _ _ _ _ (rest_same _ _ _ _ (sym e ∙ plain.1)))
-    | inr marked ↦ two (first_same _ _ _ _ (rest_same _ _ _ _ (sym e ∙ marked)))
-  ]

@@ -82,16 +82,6 @@ rest_from items front rest at n is e =
     let len : length items ≡ length (take at items ++ front) + length rest = ap length whole ∙ length-append (take at items ++ front) rest in
     subst (λ (l : List ℕ). drop (n - length rest) l ≡ rest) (sym whole) (drop_to (take at items ++ front) rest (n - length rest) (omega (arith, is, len)))
 
-pub first_short : (text rest : List ℕ) (template : Template) (entries : List Entry) (line : ℕ) → IsReadTo text rest template entries line → length rest + 1 ≤ length text
-first_short text rest template entries line r =
-    let some = ap length r.lines in
-    let few = few_lines r.done in
-    let len = ap length r.parts in
-    omega (arith, some, few, len, length-append r.done rest)
-
-pub full_after : (text rest : List ℕ) (template : Template) (entries : List Entry) (line : ℕ) → IsReadTo text rest template entries line → IsFull text → IsFull rest
-full_after text rest template entries line r full = full-right r.done rest (subst IsFull r.parts full)
-
 pub full_behind : (text line rest : List ℕ) → IsSplit 10 text line rest → IsFull text → IsFull rest
 full_behind text line rest split full = full-right (line ++ 10 ∷ []) rest (subst IsFull (split_parts text line rest split) full)
 

@@ -18,9 +18,6 @@ join_push_some c (x ∷ xs) y some = join_push c x xs y
 pub Grows-refl : (xs : List ℕ) → Grows xs xs
 Grows-refl xs = ([], sym (append-nil xs))
 
-pub Grows-by : (xs ys zs : List ℕ) → ys ≡ xs ++ zs → Grows xs ys
-Grows-by xs ys zs e = (zs, e)
-
 pub Grows-more : (xs ys zs more : List ℕ) → ys ≡ xs ++ more → Grows ys zs → Grows xs zs
 Grows-more xs ys zs more e g = (more ++ g.0, g.1 ∙ ap (λ (l : List ℕ). l ++ g.0) e ∙ append_assoc xs more g.0)
 

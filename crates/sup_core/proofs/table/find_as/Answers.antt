@@ -22,23 +22,23 @@ some-if has arg given is = elim (cases_Bool has) [
   | inr fails ↦ let there = is ∙ cond-false has (Some arg) None fails in absurd (cc)
 ]
 
-pub returns-in_err-place-clause-none : goal.returns-in_err-place-clause-none
-returns-in_err-place-clause-none g c =
-    rw c.from_residual.ensures (any-none c.args.number (λ (row : Row). is_status c.args.status row.status) (listed c.args.children.now.entries) c.in_err-place.ensures.none)
+pub returns-in_err-index-clause-none : goal.returns-in_err-index-clause-none
+returns-in_err-index-clause-none g c =
+    rw c.from_residual.ensures (any-none c.args.number (λ (row : Row). is_status c.args.status row.status) (listed c.args.children.now.entries) c.in_err-index.ensures.none)
 
 pub returns-in_err-argument_as-clause-none : goal.returns-in_err-argument_as-clause-none
 returns-in_err-argument_as-clause-none g c =
-    let child = c.in_ok-place.child.now in
+    let child = c.in_ok-index.child.now in
     rw c.from_residual-in_err-argument_as.ensures (
-    stands-at c.args.status c.args.number c.args.children.now.entries c.in_ok-place.place child c.requires c.in_ok-place.ensures.some
+    stands-at c.args.status c.args.number c.args.children.now.entries c.in_ok-index.index child c.requires c.in_ok-index.ensures.some
     ∙ none-if (is_status c.args.status child.status) child.arg c.in_err-argument_as.ensures
     )
 
 pub returns-clause-some : goal.returns-clause-some
 returns-clause-some g c =
-    let child = c.in_ok-place.child.now in
+    let child = c.in_ok-index.child.now in
     let entries = c.args.children.now.entries in
     let given = some-if (is_status c.args.status child.status) child.arg c.in_ok-argument_as.field-0 c.in_ok-argument_as.ensures in (
-      stands-at c.args.status c.args.number entries c.in_ok-place.place child c.requires c.in_ok-place.ensures.some ∙ given.0,
-      given.1 ∙ sym (argument-at c.args.number entries c.in_ok-place.place child c.requires c.in_ok-place.ensures.some),
+      stands-at c.args.status c.args.number entries c.in_ok-index.index child c.requires c.in_ok-index.ensures.some ∙ given.0,
+      given.1 ∙ sym (argument-at c.args.number entries c.in_ok-index.index child c.requires c.in_ok-index.ensures.some),
     )

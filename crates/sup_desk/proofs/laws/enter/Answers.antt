@@ -12,13 +12,13 @@ use Rattle.sup_desk.proofs.laws.enter.Goals as goal
 
 pub show-ticket-requires : goal.show-ticket-requires
 show-ticket-requires g c =
-    let book : Kept = book_of c.meet.new.self in
-    let caller : Knowledge = c.meet.new.caller in
-    let same = c.meet.ensures.same in
+    let book : Kept = book_of c.lemma_calls_are_all.new.self in
+    let caller : Knowledge = c.lemma_calls_are_all.new.caller in
+    let same = c.lemma_calls_are_all.ensures.same in
     let front : IsPrefix caller.front book.history =
-    subst (λ (x : Written × Knowledge). IsPrefix x.1.front x.0.published) (λ i. (sym same.0 i, sym same.1 i)) c.meet.ensures.covered.0 in
+    subst (λ (x : Written × Knowledge). IsPrefix x.1.front x.0.published) (λ i. (sym same.0 i, sym same.1 i)) c.lemma_calls_are_all.ensures.covered.0 in
     let editions : IsPrefix caller.editions book.editions =
-    subst (λ (x : Written × Knowledge). IsPrefix x.1.editions x.0.editions) (λ i. (sym same.0 i, sym same.1 i)) c.meet.ensures.covered.1 in
+    subst (λ (x : Written × Knowledge). IsPrefix x.1.editions x.0.editions) (λ i. (sym same.0 i, sym same.1 i)) c.lemma_calls_are_all.ensures.covered.1 in
     let one = c.enter_one-entered.ensures in
     let after : Knowledge = c.enter_one-entered.new.caller in
     let covered = one_covered g.S.Starter.may_answer g.J.Journal.may_fail g.N.Name.template book c.enter_one-entered.new.book caller after
@@ -32,7 +32,7 @@ show-ticket-requires g c =
 
 pub returns-in_err-entered-clause-left : goal.returns-in_err-entered-clause-left
 returns-in_err-entered-clause-left g c =
-    let book : book_of c.meet.new.self ≡ c.args.book.now = ap book_of c.meet.ensures.same.0 ∙ c.book.view_is in
+    let book : book_of c.lemma_calls_are_all.new.self ≡ c.args.book.now = ap book_of c.lemma_calls_are_all.ensures.same.0 ∙ c.book.view_is in
     let p = err_from_is_err_and c.from_residual.result c.from_residual.ensures.1 in
     rw (p.1, p.2) (subst (λ (k : Kept). IsLeft g.J.Journal.may_fail k c.in_err-entered.field-0.0 c.enter_one-entered.new.book) book c.in_err-entered.ensures.left)
 
@@ -45,13 +45,13 @@ returns-clause-result g c =
     let before : Knowledge = c.args.handle.now in
     let left : Kept = c.enter_one-entered.new.book in
     let shown : Knowledge = c.show-ticket.new.caller in
-    let book_is : book_of c.meet.new.self ≡ book = ap book_of c.meet.ensures.same.0 ∙ c.book.view_is in
-    let before_is : c.meet.new.caller ≡ before = c.meet.ensures.same.1 ∙ c.handle.view_is in
+    let book_is : book_of c.lemma_calls_are_all.new.self ≡ book = ap book_of c.lemma_calls_are_all.ensures.same.0 ∙ c.book.view_is in
+    let before_is : c.lemma_calls_are_all.new.caller ≡ before = c.lemma_calls_are_all.ensures.same.1 ∙ c.handle.view_is in
     let has : HasMet book before (seen_all book before) = has_met book before
-    (subst (λ (k : Kept). k.history ≡ history_of k.editions) c.book.view_is c.meet.ensures.whole)
-    (subst (λ (x : Kept × Knowledge). entries_of x.0.history x.1.number ≡ x.1.calls) (λ i. (c.book.view_is i, c.handle.view_is i)) c.meet.ensures.met)
-    (subst (λ (x : Kept × Knowledge). IsPrefix x.1.front x.0.history) (λ i. (c.book.view_is i, c.handle.view_is i)) c.meet.ensures.covered.0)
-    (subst (λ (x : Kept × Knowledge). IsPrefix x.1.editions x.0.editions) (λ i. (c.book.view_is i, c.handle.view_is i)) c.meet.ensures.covered.1) in
+    (subst (λ (k : Kept). k.history ≡ history_of k.editions) c.book.view_is c.lemma_calls_are_all.ensures.whole)
+    (subst (λ (x : Kept × Knowledge). entries_of x.0.history x.1.number ≡ x.1.calls) (λ i. (c.book.view_is i, c.handle.view_is i)) c.lemma_calls_are_all.ensures.met)
+    (subst (λ (x : Kept × Knowledge). IsPrefix x.1.front x.0.history) (λ i. (c.book.view_is i, c.handle.view_is i)) c.lemma_calls_are_all.ensures.covered.0)
+    (subst (λ (x : Kept × Knowledge). IsPrefix x.1.editions x.0.editions) (λ i. (c.book.view_is i, c.handle.view_is i)) c.lemma_calls_are_all.ensures.covered.1) in
     let entered : IsOneEntered may template book before c.args.operation.now c.args.moment c.in_ok-entered.field-0 left c.enter_one-entered.new.caller =
     subst (λ (x : Kept × Knowledge). IsOneEntered may template x.0 x.1 c.args.operation.now c.args.moment c.in_ok-entered.field-0 left c.enter_one-entered.new.caller)
     (λ i. (book_is i, before_is i)) c.in_ok-entered.ensures.entered in
@@ -68,7 +68,7 @@ returns-clause-result g c =
 
 pub returns-clause-learnt : goal.returns-clause-learnt
 returns-clause-learnt g c =
-    let book_is : book_of c.meet.new.self ≡ c.args.book.now = ap book_of c.meet.ensures.same.0 ∙ c.book.view_is in
+    let book_is : book_of c.lemma_calls_are_all.new.self ≡ c.args.book.now = ap book_of c.lemma_calls_are_all.ensures.same.0 ∙ c.book.view_is in
     let entered = c.in_ok-entered.ensures.entered in
     subst (λ (k : Kept). IsPrefix k.history c.show-ticket.new.caller.front) book_is
     (entered.0 ∷ [], sym (ap (λ (k : Knowledge). k.front) c.show-ticket.ensures.caller ∙ ap (λ (k : Kept). k.history) (c.book-2.view_is ∙ entered.3)))

@@ -2,4 +2,4 @@
 use Rattle.sup_load.proofs.load.measure_with.Given as goal
 
 abbrev pub ghosts-on_ground : goal.ghosts-on_ground
-ghosts-on_ground g a = record { press = a.ground.press; template = a.ground.template; roll = a.ground.roll }
+ghosts-on_ground g a = record { press = a.ground.press; template = a.ground.template; sessions = a.ground.sessions }

@@ -1,5 +1,5 @@
-use Rattle.sup_window.specs.Laws.{is_borne-remembered}
+use Rattle.sup_window.specs.Laws.{is_allowed-remembered}
 use Rattle.sup_window.proofs.laws.remembered_attempts_decide.Goals as goal
 
 pub returns : goal.returns
-returns c = is_borne-remembered
+returns c = is_allowed-remembered

@@ -5,10 +5,10 @@ use Rattle.sup_core.specs.HistoryLaws.{after-step}
 use Rattle.sup_core.proofs.supervisor.Sup.step_at.Goals as goal
 
 pub returns-clause-reply : goal.returns-clause-reply
-returns-clause-reply g c = c.advance.ensures.reply c.args.entry.now.handle c.args.entry.now.serial
+returns-clause-reply g c = c.apply_at.ensures.reply c.args.entry.now.handle c.args.entry.now.serial
 
 pub returns-clause-next : goal.returns-clause-next
-returns-clause-next g c = c.advance.ensures.next c.args.entry.now.handle c.args.entry.now.serial
+returns-clause-next g c = c.apply_at.ensures.next c.args.entry.now.handle c.args.entry.now.serial
 
 pub returns-clause-history : goal.returns-clause-history
 returns-clause-history g c = λ history after.

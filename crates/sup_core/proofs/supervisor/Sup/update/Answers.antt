@@ -16,13 +16,13 @@ entry_with handle serial moment operation answer =
 
 pub returns-clause-reply : goal.returns-clause-reply
 returns-clause-reply g c = λ handle serial.
-    c.advance.ensures.reply handle serial
+    c.apply_at.ensures.reply handle serial
     ∙ ap (λ answer. reply_to c.args.self.now (entry_with handle serial c.args.moment c.args.operation.now answer))
     (c.answer_to-answer.ensures ∙ ap (λ arg. answer_to g.S.FixedStarter.answer arg c.args.moment) c.asked_argument-asked.ensures)
 
 pub returns-clause-next : goal.returns-clause-next
 returns-clause-next g c = λ handle serial.
-    c.advance.ensures.next handle serial
+    c.apply_at.ensures.next handle serial
     ∙ ap (λ answer. next_state c.args.self.now (entry_with handle serial c.args.moment c.args.operation.now answer))
     (c.answer_to-answer.ensures ∙ ap (λ arg. answer_to g.S.FixedStarter.answer arg c.args.moment) c.asked_argument-asked.ensures)
 
@@ -37,7 +37,7 @@ returns-clause-history g c = λ history handle serial after.
     )
 
 pub returns-clause-template : goal.returns-clause-template
-returns-clause-template g c = ap (λ s. s.template) (c.advance.ensures.next 0 0)
+returns-clause-template g c = ap (λ s. s.template) (c.apply_at.ensures.next 0 0)
 
 pub returns-clause-steps : goal.returns-clause-steps
-returns-clause-steps g c = ap (λ s. s.steps) (c.advance.ensures.next 0 0)
+returns-clause-steps g c = ap (λ s. s.steps) (c.apply_at.ensures.next 0 0)

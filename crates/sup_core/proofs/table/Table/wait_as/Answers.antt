@@ -11,17 +11,17 @@ use Rattle.sup_core.proofs.table.Table.wait_as.Goals as goal
 
 pub overflow_sub-self : goal.overflow_sub-self
 overflow_sub-self g c =
-    let there = c.in_ok-place.ensures.there in
-    let waiting = waiting-at c.args.number c.self.inside.children.entries c.in_ok-place.place there.0 c.in_ok-place.arg c.self.invariant.0 there.1 there.3 in
+    let there = c.in_ok-index.ensures.there in
+    let waiting = waiting-at c.args.number c.self.inside.children.entries c.in_ok-index.index there.0 c.in_ok-index.arg c.self.invariant.0 there.1 there.3 in
     omega (arith, waiting.running, c.one_if.ensures, ap one_if (c.is_running.ensures ∙ sym (is_running-status c.args.status there.0.status there.2)), c.self.invariant.4)
 
 pub invariant_of-self : goal.invariant_of-self
 invariant_of-self g c =
     let map = c.self.inside.children in
-    let i = c.in_ok-place.place in
-    let there = c.in_ok-place.ensures.there in
-    let new = waiting c.in_ok-place.arg in
-    let waits = waiting-at c.args.number map.entries i there.0 c.in_ok-place.arg c.self.invariant.0 there.1 there.3 in
+    let i = c.in_ok-index.index in
+    let there = c.in_ok-index.ensures.there in
+    let new = waiting c.in_ok-index.arg in
+    let waits = waiting-at c.args.number map.entries i there.0 c.in_ok-index.arg c.self.invariant.0 there.1 there.3 in
     let runs = ap one_if (c.is_running.ensures ∙ sym (is_running-status c.args.status there.0.status there.2)) in (
       subst (IsDistinct nat_eq) (sym (keys-with_value_at map i new)) c.self.invariant.0,
       λ number past. absent-index number map.entries i new (c.self.invariant.1 number past),
@@ -35,10 +35,10 @@ invariant_of-self g c =
 pub returns : goal.returns
 returns g c =
     let k = c.args.number in
-    let there = c.in_ok-place.ensures.there in
-    let waits = waiting-at k c.self.inside.children.entries c.in_ok-place.place there.0 c.in_ok-place.arg c.self.invariant.0 there.1 there.3 in
+    let there = c.in_ok-index.ensures.there in
+    let waits = waiting-at k c.self.inside.children.entries c.in_ok-index.index there.0 c.in_ok-index.arg c.self.invariant.0 there.1 there.3 in
     let state : List Row → Listed = λ rows. record { rows = rows; made = c.self.inside.made; max = c.self.inside.max } in (
-      ap (λ (t : Listed). list_any (stands_as c.args.status k) t.rows) (sym c.self.view_is) ∙ c.in_ok-place.ensures.some.0,
-      c.in_ok-place.ensures.some.1 ∙ ap (λ (t : Listed). argument_at k t.rows) c.self.view_is,
+      ap (λ (t : Listed). list_any (stands_as c.args.status k) t.rows) (sym c.self.view_is) ∙ c.in_ok-index.ensures.some.0,
+      c.in_ok-index.ensures.some.1 ∙ ap (λ (t : Listed). argument_at k t.rows) c.self.view_is,
       ap state waits.rows ∙ ap (λ (t : Listed). record { rows = map (waiting_at k) t.rows; made = t.made; max = t.max }) c.self.view_is,
     )

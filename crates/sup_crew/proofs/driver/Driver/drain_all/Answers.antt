@@ -21,8 +21,8 @@ loop-preserved-then-count-gt0 g c =
       drained = λ before begun driven. e.drained before begun (i.drained before begun driven);
     }
 
-pub loop-preserved-then-idle-turns-2 : goal.loop-preserved-then-idle-turns-2
-loop-preserved-then-idle-turns-2 g c =
+pub loop-preserved-then-not-is_over : goal.loop-preserved-then-not-is_over
+loop-preserved-then-not-is_over g c =
     let i = c.loop.invariant in
     let e = c.drain_once-count.ensures in
     let new = c.drain_once-count.new.self in

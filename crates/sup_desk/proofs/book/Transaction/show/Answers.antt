@@ -28,5 +28,5 @@ returns-clause-caller g c =
     (covered.1.0, ap (λ (k : Knowledge). k.editions ++ covered.1.0) is ∙ covered.1.1 ∙ sym (ap (λ (t : Told). t.editions) told)) in
     let front_is = adopted c.caller.inside.asker.front c.tell-ticket.result.front c.learn.new.self.front front learnt.learnt.0 (fronts learnt.either) ∙ ap (λ (t : Told). t.front) told in
     let editions_are = adopted c.caller.inside.asker.editions c.tell-ticket.result.editions c.learn.new.self.editions editions learnt.learnt.1 (wholes learnt.either) ∙ ap (λ (t : Told). t.editions) told in
-    (λ i. record { number = c.caller.inside.claim.number; editions = editions_are i; front = front_is i; calls = c.caller.inside.claim.calls })
+    (λ i. record { number = c.caller.inside.token.number; editions = editions_are i; front = front_is i; calls = c.caller.inside.token.calls })
     ∙ (λ i. record { number = (is i).number; editions = t.editions; front = t.published; calls = (is i).calls })

@@ -1,5 +1,0 @@
-use Rattle.sup_desk.proofs.Enrolling.{begins}
-use Rattle.sup_desk.proofs.roll.Roll.new.Goals as goal
-
-pub of_words-requires : goal.of_words-requires
-of_words-requires c = begins
