@@ -228,15 +228,23 @@ impl<I: Office, B: Behaviour, P: Host> Hub<I, B, P> {
         moment.after(self.grace)
     }
 
-    /// Asks a child to end, and the driver to see that it does.
+    /// Returns whether a child is let go as soon as it is asked to end.
+    fn has_no_grace(&self) -> bool {
+        self.grace.as_millis() == 0
+    }
+
+    /// Asks a child to end, and the driver to see that it does. What it left, if it has ended, is dropped.
     pub fn end(&self, number: u64, moment: Moment) {
-        self.registry.lock(&self.rt).end(number, self.until(moment));
+        let (until, at_once) = (self.until(moment), self.has_no_grace());
+        // Dropped once the lock is free.
+        let _left = self.registry.lock(&self.rt).end(number, until, at_once);
         self.ring();
     }
 
     /// Asks all children to end, and the driver to see that they do.
     pub fn end_all(&self, moment: Moment) {
-        self.registry.lock(&self.rt).end_all(self.until(moment));
+        let (until, at_once) = (self.until(moment), self.has_no_grace());
+        self.registry.lock(&self.rt).end_all(until, at_once);
         self.ring();
     }
 

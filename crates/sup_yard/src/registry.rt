@@ -18,6 +18,17 @@ struct Entry<B: Behaviour> {
     has_ended: bool,
 }
 
+impl<B: Behaviour> Entry<B> {
+    /// Asks the child to end. One that is let go at once is not polled any more, so it does not hear of it. Returns whether it was not
+    /// asked before.
+    fn ask(&self, at_once: bool) -> bool {
+        if at_once {
+            self.abort.abort();
+        }
+        self.room.tell()
+    }
+}
+
 /// Until when a child may run that was asked to end.
 #[derive(Clone, Copy)]
 struct Deadline {
@@ -114,25 +125,29 @@ impl<B: Behaviour> Registry<B> {
         Some(ChildRef { number, room })
     }
 
-    /// Asks a child to end, until this moment at the latest.
-    pub(crate) fn end(&mut self, number: u64, until: Moment) {
-        if let Some(entry) = alive(&self.children, number)
-            && entry.room.tell()
-        {
+    /// Asks a child to end, until this moment at the latest, or lets it go at once. Returns what it left, if it has ended: nobody will
+    /// take that.
+    pub(crate) fn end(&mut self, number: u64, until: Moment, at_once: bool) -> Option<B::Own> {
+        let entry = self.children.get_mut(&number)?;
+        if entry.has_ended {
+            return entry.left.take();
+        }
+        if entry.ask(at_once) {
             set(
                 &self.children,
                 &mut self.deadlines,
                 Deadline { number, until },
             );
         }
+        None
     }
 
-    /// Asks all children to end, until this moment at the latest. None is restarted any more, so what others left that have ended
-    /// is dropped.
-    pub(crate) fn end_all(&mut self, until: Moment) {
+    /// Asks all children to end, until this moment at the latest, or lets them go at once. None is restarted any more, so what others
+    /// left that have ended is dropped.
+    pub(crate) fn end_all(&mut self, until: Moment, at_once: bool) {
         self.children.retain(|_, entry| !entry.has_ended);
         for (number, entry) in self.children.iter() {
-            if entry.room.tell() {
+            if entry.ask(at_once) {
                 let number = *number;
                 set(
                     &self.children,
