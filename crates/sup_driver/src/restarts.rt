@@ -25,8 +25,10 @@ pub struct Tally {
     pub retried: u64,
     /// Restarts that failed, at once or later.
     pub failed: u64,
-    /// Exits and tries that took the supervisor down.
+    /// Exits and tries by which the supervisor gave up.
     pub given_up: u64,
+    /// Exits by which the supervisor shut down, as its template says of significant children.
+    pub shut_down: u64,
 }
 
 impl Tally {
@@ -37,7 +39,8 @@ impl Tally {
             Reply::Restarted(_, _) if is_later => tally.retried = tally.retried.wrapping_add(1),
             Reply::Restarted(_, _) => tally.restarts = tally.restarts.wrapping_add(1),
             Reply::Restarting(_, _) => tally.failed = tally.failed.wrapping_add(1),
-            Reply::GaveUp | Reply::ShutDown(_) => tally.given_up = tally.given_up.wrapping_add(1),
+            Reply::GaveUp => tally.given_up = tally.given_up.wrapping_add(1),
+            Reply::ShutDown(_) => tally.shut_down = tally.shut_down.wrapping_add(1),
             Reply::Stray(_) if !is_later => tally.strays = tally.strays.wrapping_add(1),
             Reply::Down if !is_later => tally.downs = tally.downs.wrapping_add(1),
             _ => {}
