@@ -40,7 +40,7 @@ IsAnswered remaining left contents held has_failed given has_refused status =
 abbrev pub IsDone : Order → Option (List ℕ) → Option (List ℕ) → Option (List ℕ) → Option (List ℕ) → Bool → ℕ → Bool → Status → Type 0
 IsDone (order.Text input detail) remaining left contents held has_failed given has_refused status =
     IsInputAnswered input remaining left contents held has_failed given has_refused status
-IsDone (order.Load load path) remaining left contents held has_failed given has_refused status =
+IsDone (order.Load load path detail) remaining left contents held has_failed given has_refused status =
     (left ≡ remaining) × IsLoadAnswered contents held has_refused status
 IsDone (order.Serve notices path) remaining left contents held has_failed given has_refused status = IsServed has_failed has_refused status
 

@@ -1,15 +1,23 @@
--- The lines that a load writes.
-use Rattle.std.specs.Prelude.{ℕ, List, ◌++◌, codes, decimal}
+-- The lines that a load writes, in the words of the format.
+use Rattle.std.specs.Prelude.{ℕ, List, [], ◌∷◌, ◌++◌, codes, decimal}
+use Rattle.std.specs.List.{flat_map}
+use Rattle.sup_format.specs.Writing.Replies.{line_of}
 use Rattle.sup_load.specs.declared.load.Sums.{Sums}
 
--- a number after its name
+-- names, each with its number
+abbrev pub Fields : Type 0
+Fields = List (List ℕ × ℕ)
+
+-- a line of them
+abbrev pub line_with : Fields → List ℕ
+line_with fields = line_of (flat_map (λ f. f.0 ∷ decimal f.1 ∷ []) fields)
+
+-- the numbers of the crew's run, and in a line of their own the questions that were answered
+abbrev pub load_lines : Sums → List ℕ
+load_lines s = line_with ((codes "made", s.made) ∷ (codes "exits", s.exits) ∷ (codes "strays", s.strays) ∷ (codes "restarts", s.restarts)
+    ∷ (codes "gave_up", s.given_up) ∷ (codes "left", s.left) ∷ (codes "held", s.held) ∷ [])
+    ++ line_with ((codes "reads", s.reads) ∷ [])
+
+-- what a call writes: a name and its number
 abbrev pub named : List ℕ → ℕ → List ℕ
 named name number = name ++ decimal number
-
--- each number of a report after its name, and the questions that were answered in a line of their own
-abbrev pub load_lines : Sums → List ℕ
-load_lines s = named (codes "made ") s.made ++ (named (codes " exits ") s.exits ++ (named (codes " strays ") s.strays
-    ++ (named (codes " restarts ") s.restarts ++ (named (codes " gave_up ") s.given_up
-    ++ (named (codes " left ") s.left ++ (named (codes " held ") s.held
-    ++ (named (codes " waiting ") s.waiting ++ (named (codes " unposted ") s.unposted ++ (named (codes " unstarted ") s.unstarted
-    ++ (named (codes "\nreads ") s.reads ++ codes "\n"))))))))))

@@ -4,7 +4,7 @@ ghost use Rattle.std.specs.Prelude.{◌≡◌, ◌≤◌, ℕ, List, [], Err, If
 ghost use Rattle.std.specs.Io.KnownBytes.{Appends};
 ghost use Rattle.sup_load.specs.Loads.{fault_behind};
 ghost use Rattle.sup_load.specs.Lines.{load_lines, named};
-ghost use Rattle.sup_load.specs.Reports.{AreCounts, IsTold, IsLoaded};
+ghost use Rattle.sup_load.specs.Reports.{AreCounts, IsTold};
 ghost use Rattle.sup_types.specs.declared.template.Template.{Template as ATemplate};
 ghost use Rattle.sup_crew.specs.Reports.{IsRunOfItsOwn};
 ghost use Rattle.sup_types.specs.declared.reason.Reason.TheVariants.{Normal};
@@ -65,28 +65,20 @@ impl Body for EndsAtOnce {
     }
 }
 
-/// Runs the load, and writes what it came to in two lines. With a path the history is written to a new
-/// file there, each update before it takes effect. Meanwhile a line on standard error says to a person how far the load is. The fault is
-/// one that comes before there is a report, and then nothing is written; or that of a refused write, else of the run, else of a reader.
-pub fn run_load<R, W: Write>(
-    rt: &R,
-    alloc: Global,
-    load: Load,
-    journal: Option<&str>,
-    out: &mut WatchedWriter<W>,
-    is_person: bool,
-) -> Result<(), LoadFault>
-where
-    R: Threads + Wait + Files + Eprint + Sync,
-    R::File: Send,
-    ensures loaded { IsLoaded (W.contents out.old.writer) (W.contents out.new.writer) out.new.has_refused result }
-    ensures cause { result ≡ Err WriteFault → out.new.has_refused ≡ true }
-{
-    tell(measure(rt, alloc, load, journal, is_person), out)
+impl Sums {
+    /// Says of a run that broke off where the children are that its lines leave out.
+    pub fn explain<E: Write>(&self, err: &mut E) {
+        if self.fault.is_some() {
+            let _ = writeln!(err, "  children that were not started: {}", self.unstarted);
+            let _ = writeln!(err, "  exits that remain in the inbox: {}", self.waiting);
+            let _ = writeln!(err, "  exits that could not be posted: {}", self.unposted);
+        }
+    }
 }
 
-/// Writes what a load came to, if there is a report. WriteFault: the writer refused, and a front of the lines is written.
-fn tell<W: Write>(
+/// Writes the two lines of a load, if there is a report. WriteFault: the writer refused, and a front of the lines is written. Else the
+/// fault is that of the run, else of a reader; without a report it is the one that stopped the load, and nothing is written.
+pub fn tell<W: Write>(
     outcome: Result<Sums, StopFault>,
     out: &mut WatchedWriter<W>,
 ) -> Result<(), LoadFault>
@@ -116,9 +108,6 @@ fn write_lines<W: Write>(sums: &Sums, out: &mut WatchedWriter<W>) -> Result<(), 
     write_number(out, " gave_up ", sums.given_up)?;
     write_number(out, " left ", sums.left as u64)?;
     write_number(out, " held ", sums.held as u64)?;
-    write_number(out, " waiting ", sums.waiting as u64)?;
-    write_number(out, " unposted ", sums.unposted as u64)?;
-    write_number(out, " unstarted ", sums.unstarted as u64)?;
     write_number(out, "\nreads ", sums.reads)?;
     write_text(out, "\n")?;
     Ok(())
@@ -166,8 +155,9 @@ fn places_of(load: &Load, is_person: bool) -> u64 {
     (load.workers + 1 + load.readers + usize::from(is_person)) as u64
 }
 
-/// Runs the load, with a journal on a new file at this path, if there is one.
-fn measure<R>(
+/// Runs the load, with a journal on a new file at this path, if there is one: each update is written there before it takes effect.
+/// Meanwhile a line on standard error says to a person how far the load is.
+pub fn measure<R>(
     rt: &R,
     alloc: Global,
     load: Load,

@@ -5,34 +5,34 @@ ghost use Rattle.sup_script.specs.Running.Answers.{IsScriptAnswered, IsReplayAns
 ghost use Rattle.sup_load.specs.Answered.{IsLoadAnswered, IsAnswered, IsLoadReply, IsReplyTo, IsServed, IsServing};
 ghost use Rattle.sup_words.specs.Settings.{Given, IsWhole, words_of};
 ghost use Rattle.sup_words.specs.Orders.{HasFile, command_at, kinds_at};
-ghost use Rattle.sup_load.specs.Statuses.{status_of_load, status_of_load_fault, status_of_serve_fault};
+ghost use Rattle.sup_load.specs.Statuses.{status_of_load, status_of_serve_fault};
 ghost use Rattle.sup_script.specs.declared.runs.answer.Status.{Status as AStatus};
 ghost use Rattle.sup_script.specs.declared.runs.answer.Status.TheVariants.{Failed};
 
 use crate::fault::{LoadFault, StopFault};
-use crate::load::run_load;
+use crate::load::{measure, tell};
 use std::alloc::{AllocGlobal, Global};
 use std::convert::AsStr;
 use std::fmt::Display;
 use std::fs::Files;
-use std::io;
 use std::io::{Read, Write};
 use std::random::RandomSource;
 use std::sync::Wait;
 use std::thread::Threads;
 use std::time::Clock;
-use sup_script::{Status, WatchedReader, WatchedWriter, answer_input};
+use sup_script::{Detail, Status, WatchedReader, WatchedWriter, answer_input};
 use sup_serve::{ServeFault, serve};
 use sup_words::{Load, Notices, Order, read_words, show};
 
-/// The status of a load that stopped with this fault.
-fn load_status(fault: LoadFault) -> Status
-    ensures { result ≡ status_of_load_fault fault }
+/// Returns the status of a load with this outcome.
+fn load_status(outcome: Result<(), LoadFault>) -> Status
+    ensures { result ≡ status_of_load outcome }
 {
-    match fault {
-        LoadFault::Stopped(StopFault::BadTemplate) => Status::BadInput,
-        LoadFault::Stopped(_) => Status::OtherFault,
-        LoadFault::WriteFault => Status::Failed,
+    match outcome {
+        Ok(()) => Status::Done,
+        Err(LoadFault::Stopped(StopFault::BadTemplate)) => Status::BadInput,
+        Err(LoadFault::Stopped(_)) => Status::OtherFault,
+        Err(LoadFault::WriteFault) => Status::Failed,
     }
 }
 
@@ -140,8 +140,8 @@ where
             let detail = detail.said_to(is_person);
             answer_input(rt, alloc, input, detail, reader, out, err)
         }
-        Ok(Order::Load(load, journal)) => {
-            answer_load(rt, alloc, load, journal, out, err, is_person)
+        Ok(Order::Load(load, journal, detail)) => {
+            answer_load(rt, alloc, load, journal, detail, out, err, is_person)
         }
         Ok(Order::Serve(notices, journal)) => {
             answer_serve(rt, alloc, notices, journal, reader, out, err)
@@ -151,12 +151,13 @@ where
 }
 
 /// Runs a load, with a journal at this path, if there is one. It says to a person how far it is. The fault that stopped it, if there is
-/// one, is a line on standard error.
+/// one, is a line on standard error, followed by an explanation if that is asked for, to a person, and with a journal.
 fn answer_load<T, W: Write, E: Write>(
     rt: &T,
     alloc: Global,
     load: Load,
     journal: Option<&str>,
+    detail: Detail,
     out: &mut WatchedWriter<W>,
     err: &mut E,
     is_person: bool,
@@ -167,12 +168,22 @@ where
     ensures loaded { IsLoadAnswered (W.contents out.old.writer) (W.contents out.new.writer) out.new.has_refused result }
     ensures cause { result ≡ Failed → out.new.has_refused ≡ true }
 {
-    let outcome = run_load(rt, alloc, load, journal, out, is_person);
-    told_load(outcome, cause_of(outcome, journal, out), err)
+    let measured = measure(rt, alloc, load, journal, is_person);
+    let outcome = tell(measured, out);
+    if let Err(fault) = outcome {
+        let _ = writeln!(err, "fault {}", fault.number());
+        if detail.said_to(is_person || journal.is_some()) == Detail::Explained {
+            explain_load(fault, journal, out, err);
+            if let Ok(sums) = measured {
+                sums.explain(err);
+            }
+        }
+    }
+    load_status(outcome)
 }
 
 /// Serves sessions, with a journal at this path, if there is one. The fault that stopped the server, if there is one, is a line on
-/// standard error.
+/// standard error, and the line under it says what is wrong.
 fn answer_serve<T, R, W, E>(
     rt: &T,
     alloc: Global,
@@ -197,70 +208,49 @@ where
     match serve(rt, alloc, journal, reader, out, notices) {
         Ok(()) => Status::Done,
         Err(fault) => {
-            let cause = cause_of_server(fault, journal, reader, out);
-            say_fault(fault.number(), fault, cause, err);
+            let _ = writeln!(err, "fault {}", fault.number());
+            explain_server(fault, journal, reader, out, err);
             server_status(fault)
         }
     }
 }
 
-/// What the line of a fault says after its name.
-#[derive(Clone, Copy)]
-enum Cause<'a> {
-    /// The file that it is of.
-    File(&'a str),
-    /// What the writer answered.
-    Kind(io::ErrorKind),
-}
-
-/// Returns what the line of a load's fault says after its name: the path of a journal that can't be written, or what the output answered.
-fn cause_of<'a, W: Write>(
-    outcome: Result<(), LoadFault>,
-    journal: Option<&'a str>,
+/// Says what is wrong with a load, in a line under that of its fault.
+fn explain_load<W: Write, E: Write>(
+    fault: LoadFault,
+    journal: Option<&str>,
     out: &WatchedWriter<W>,
-) -> Option<Cause<'a>> {
-    match outcome {
-        Err(LoadFault::WriteFault) => Some(Cause::Kind(out.error()?)),
-        Err(LoadFault::Stopped(StopFault::Journal(_) | StopFault::NoJournal(_))) => {
-            Some(Cause::File(journal?))
+    err: &mut E,
+) {
+    match fault {
+        LoadFault::WriteFault => explain(fault, out.error(), err),
+        LoadFault::Stopped(StopFault::Journal(_) | StopFault::NoJournal(_)) => {
+            explain(fault, journal, err)
         }
-        _ => None,
+        _ => explain(fault, None::<&str>, err),
     }
 }
 
-/// Returns what the line of a server's fault says after its name: the path of its journal, or what the input or the output answered.
-fn cause_of_server<'a, R: Read, W: Write>(
+/// Says what is wrong with a server, in a line under that of its fault.
+fn explain_server<R: Read, W: Write, E: Write>(
     fault: ServeFault,
-    journal: Option<&'a str>,
+    journal: Option<&str>,
     reader: &WatchedReader<R>,
     out: &WatchedWriter<W>,
-) -> Option<Cause<'a>> {
+    err: &mut E,
+) {
     match fault {
-        ServeFault::Read => Some(Cause::Kind(reader.error()?)),
-        ServeFault::Write => Some(Cause::Kind(out.error()?)),
-        ServeFault::Journal(_) | ServeFault::NoJournal(_) => Some(Cause::File(journal?)),
-        _ => None,
+        ServeFault::Read => explain(fault, reader.error(), err),
+        ServeFault::Write => explain(fault, out.error(), err),
+        ServeFault::Journal(_) | ServeFault::NoJournal(_) => explain(fault, journal, err),
+        _ => explain(fault, None::<&str>, err),
     }
 }
 
-/// Writes the line of a fault: its number, its name, and its cause.
-fn say_fault<E: Write>(number: u8, fault: impl Display + Drop, cause: Option<Cause>, err: &mut E) {
+/// Names a fault, and then what it is of or what the system answered, if that is known.
+fn explain<E: Write>(fault: impl Display + Drop, cause: Option<impl Display + Drop>, err: &mut E) {
     let _ = match cause {
-        Some(Cause::File(path)) => writeln!(err, "fault {number}: {fault}: {path}"),
-        Some(Cause::Kind(kind)) => writeln!(err, "fault {number}: {fault}: {kind}"),
-        None => writeln!(err, "fault {number}: {fault}"),
+        Some(cause) => writeln!(err, "  {fault}: {cause}"),
+        None => writeln!(err, "  {fault}"),
     };
-}
-
-/// Tells the fault of a load, if there is one, by a line on standard error: its number, its name, and its cause.
-fn told_load<E: Write>(outcome: Result<(), LoadFault>, cause: Option<Cause>, err: &mut E) -> Status
-    ensures { result ≡ status_of_load outcome }
-{
-    match outcome {
-        Ok(()) => Status::Done,
-        Err(fault) => {
-            say_fault(fault.number(), fault, cause, err);
-            load_status(fault)
-        }
-    }
 }

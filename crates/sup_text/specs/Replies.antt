@@ -15,7 +15,7 @@ use Rattle.sup_words.specs.declared.words.Order.TheVariants as order
 abbrev pub IsDone : Order → Option (List ℕ) → Option (List ℕ) → Option (List ℕ) → Option (List ℕ) → Bool → ℕ → Bool → Status → Type 0
 IsDone (order.Text input detail) remaining left contents held has_failed given has_refused status =
     IsInputAnswered input remaining left contents held has_failed given has_refused status
-IsDone (order.Load load path) remaining left contents held has_failed given has_refused s =
+IsDone (order.Load load path detail) remaining left contents held has_failed given has_refused s =
     (left ≡ remaining) × (held ≡ contents) × (s ≡ status.BadInput)
 IsDone (order.Serve notices path) remaining left contents held has_failed given has_refused s =
     (left ≡ remaining) × (held ≡ contents) × (s ≡ status.BadInput)

@@ -71,7 +71,7 @@ rows_in (Some (name, rows)) = rows
 pub no_order : (command : Command) (rows : List Row) → command ≡ Some (codes "load", rows)
     → ((w n r t : ℕ) → AreNumbers rows w n r t → IsWithin w n r t → ⊥) → (o : Order) → IsOrder command o → ⊥
 unfolding first_byte rows_in
-no_order command rows is outside (order.Load load path) other =
+no_order command rows is outside (order.Load load path answer) other =
     let same : rows ≡ other.0 = ap rows_in (sym is ∙ other.1) in
     outside load.workers load.children load.readers load.turns
     (subst (λ (R : List Row). AreNumbers R load.workers load.children load.readers load.turns) (sym same) other.2)
@@ -90,7 +90,7 @@ no_file command rows is none (order.Text (input.Journal path) answer) other =
     absurd cc
 no_file command rows is none (order.Text (input.Script path) answer) other = let bad : ◌≡◌ {A = ℕ} 106 115 = ap first_byte (sym is ∙ other.1.0) in absurd (omega arith)
 no_file command rows is none (order.Text (input.History path) answer) other = let bad : ◌≡◌ {A = ℕ} 106 114 = ap first_byte (sym is ∙ other.1.0) in absurd (omega arith)
-no_file command rows is none (order.Load load path) other = let bad : ◌≡◌ {A = ℕ} 106 108 = ap first_byte (sym is ∙ other.1) in absurd (omega arith)
+no_file command rows is none (order.Load load path answer) other = let bad : ◌≡◌ {A = ℕ} 106 108 = ap first_byte (sym is ∙ other.1) in absurd (omega arith)
 no_file command rows is none (order.Serve answer path) other = let bad : ◌≡◌ {A = ℕ} 106 115 = ap first_byte (sym is ∙ other.1) in absurd (omega arith)
 
 -- the name and the rows of what clap found are those of one command

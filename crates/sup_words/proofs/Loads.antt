@@ -13,7 +13,7 @@ use Rattle.clap.specs.Kinds.{IsAmong, Kinds, or_else}
 use Rattle.clap.specs.Simple.{App, built, entered, names_of, subcommand_of}
 use Rattle.clap.specs.Takes.{is_given}
 use Rattle.clap.specs.Values.{Accepts, kind_of}
-use Rattle.clap.specs.Walk.{Row, Text, Walk, finished, first_of, idle, nothing_held, row_text, rows_after, settled, walk, walk_from}
+use Rattle.clap.specs.Walk.{Row, Text, Walk, finished, first_of, idle, nothing_held, one_of, row_text, rows_after, settled, walk, walk_from}
 use Rattle.clap.specs.declared.builder.value_parser.ValueParser.TheVariants.{Unsigned}
 use Rattle.clap.proofs.FaultLemmas.{stopped_fault}
 use Rattle.clap.proofs.KindLemmas.{value_kinds-ok}
@@ -28,9 +28,10 @@ use Rattle.sup_words.specs.Orders.{AreNumbers, Command, HasNumber, IsLoadOf, Lea
 use Rattle.sup_words.specs.Settings.{AreNew, AreWithin, Given, IsWhole, Setting, workers, children, readers, turns, least_of, most_of, name_of, number_in, words_of}
 use Rattle.sup_words.specs.declared.words.Order.{Order}
 use Rattle.sup_words.specs.declared.words.Order.TheVariants as order
+use Rattle.sup_script.specs.declared.runs.answer.Detail.TheVariants as detail
 use Rattle.sup_script.specs.declared.runs.answer.Input.TheVariants as input
 use Rattle.sup_words.proofs.Numbers.{same_number}
-use Rattle.sup_words.proofs.Tables.{appends, found_at, is_new, row_for, rows_are_table, same_setting}
+use Rattle.sup_words.proofs.Tables.{appends, explain_row, found_at, is_new, row_for, same_setting, table, table_of, unexplained}
 use Rattle.sup_words.proofs.Walks.{AllPlain, leaf_fault, leaf_rows, load_rules, load_shape, missing, or_else-nil, pair_fault, pair_faults, plain_text, rows_from}
 
 -- ---- numbers
@@ -116,22 +117,32 @@ within_of (p ∷ ps) s n within is = go (bytes_eq (name_of p.0) (name_of s)) ref
         (subst (λ (m : ℕ). least_of s ≤ m) (same_in is) low, subst (λ (m : ℕ). m ≤ most_of s) (same_in is) high)
     go false same is rest = rest is
 
-module _ (given : Given) (w n r t : ℕ) (whole : IsWhole given w n r t) where
-  row_at : (s : Setting) (m : ℕ) → number_in given s ≡ Some m → find (λ r. bytes_eq r.id (name_of s)) (map row_for given) ≡ Some (row_for (s, m))
-  row_at s m is = found_at given s ∙ ap (option_map (λ k. row_for (s, k))) is
+-- what is found is found among more
+found_more : {X : Type 0} (is_it : X → Bool) (xs ys : List X) (x : X) → find is_it xs ≡ Some x → find is_it (xs ++ ys) ≡ Some x
+found_more is_it [] ys x is = cc
+found_more is_it (z ∷ zs) ys x is = go (is_it z) is (found_more is_it zs ys x)
+  where
+    go : (b : Bool) → (if b then Some z else find is_it zs) ≡ Some x → (find is_it zs ≡ Some x → find is_it (zs ++ ys) ≡ Some x)
+        → (if b then Some z else find is_it (zs ++ ys)) ≡ Some x
+    go true is rest = is
+    go false is rest = rest is
 
-  is_there : (s : Setting) (m : ℕ) → number_in given s ≡ Some m → is_given (name_of s) (map row_for given) ≡ true
+module _ (given : Given) (w n r t : ℕ) (whole : IsWhole given w n r t) where
+  row_at : (s : Setting) (m : ℕ) → number_in given s ≡ Some m → find (λ r. bytes_eq r.id (name_of s)) (table_of given) ≡ Some (row_for (s, m))
+  row_at s m is = found_more (λ r. bytes_eq r.id (name_of s)) (map row_for given) (explain_row ∷ []) (row_for (s, m)) (found_at given s ∙ ap (option_map (λ k. row_for (s, k))) is)
+
+  is_there : (s : Setting) (m : ℕ) → number_in given s ≡ Some m → is_given (name_of s) (table_of given) ≡ true
   unfolding row_for
   is_there s m is = rw (row_at s m is) refl
 
-  none_missing : missing (map row_for given) ≡ []
+  none_missing : missing (table_of given) ≡ []
   unfolding missing
   none_missing = rw (is_there workers w whole.has_workers, is_there children n whole.has_children, is_there readers r whole.has_readers, is_there turns t whole.has_turns) refl
 
-  number_of : (s : Setting) (m : ℕ) → number_in given s ≡ Some m → HasNumber (map row_for given) (name_of s) m
-  number_of s m is = number_at m (small_for s m (within_of given s m whole.within is).1) (map row_for given) s (row_at s m is)
+  number_of : (s : Setting) (m : ℕ) → number_in given s ≡ Some m → HasNumber (table_of given) (name_of s) m
+  number_of s m is = number_at m (small_for s m (within_of given s m whole.within is).1) (table_of given) s (row_at s m is)
 
-  numbers : AreNumbers (map row_for given) w n r t
+  numbers : AreNumbers (table_of given) w n r t
   numbers = record {
     workers = number_of workers w whole.has_workers;
     children = number_of children n whole.has_children;
@@ -139,11 +150,10 @@ module _ (given : Given) (w n r t : ℕ) (whole : IsWhole given w n r t) where
     turns = number_of turns t whole.has_turns;
   }
 
-  table : rows_from [] given ≡ map row_for given
-  table = rows_are_table [] given whole.once
-
   leaf_passes : level_fault load_shape [] nothing_held (words_of given) false [] ≡ []
-  leaf_passes = leaf_fault given (all_plain given whole.within) ∙ ap₂ or_else (pairs_pass [] given whole.once whole.within) (ap missing table ∙ none_missing)
+  leaf_passes =
+      leaf_fault given (all_plain given whole.within) (unexplained given whole.once)
+      ∙ ap₂ or_else (pairs_pass [] given whole.once whole.within) (ap missing (table given whole.once) ∙ none_missing)
 
 -- ---- the command above them
 
@@ -185,14 +195,22 @@ at_load rest = refl
 entered_below : (name : Text) (rest : List Text) → subcommand_of supload_app (name ∷ codes "load" ∷ rest) ≡ Some (codes "load", rows_after load_rules [] rest)
 entered_below name rest = ap (λ (w : Walk). entered app w.stopped) (stops rest) ∙ at_load rest
 
--- the four numbers have no path of a journal
-no_path : (given : Given) → first_of (codes "journal") (map row_for given) ≡ None
-unfolding row_for
+-- the four numbers have no path of a journal, and nothing is explained
+no_path : (given : Given) → first_of (codes "journal") (table_of given) ≡ None
+unfolding row_for explain_row
 no_path [] = refl
 no_path ((workers, n) ∷ ps) = no_path ps
 no_path ((children, n) ∷ ps) = no_path ps
 no_path ((readers, n) ∷ ps) = no_path ps
 no_path ((turns, n) ∷ ps) = no_path ps
+
+is_silent : (given : Given) → one_of (codes "explain") (table_of given) ≡ Some (codes "false")
+unfolding row_for explain_row
+is_silent [] = refl
+is_silent ((workers, n) ∷ ps) = is_silent ps
+is_silent ((children, n) ∷ ps) = is_silent ps
+is_silent ((readers, n) ∷ ps) = is_silent ps
+is_silent ((turns, n) ∷ ps) = is_silent ps
 
 no_text : (path : Option (Bor Text)) → option_map (λ s. s.now) path ≡ None → path ≡ None
 no_text None e = refl
@@ -200,18 +218,18 @@ no_text (Some s) e = cc
 
 -- an order of the numbers alone is the load of them, and an error is want of memory
 load_of : (kinds : Kinds) (command : Command) (rows : List Row) (w n r t : ℕ) → kinds ≡ [] → command ≡ Some (codes "load", rows)
-    → AreNumbers rows w n r t → first_of (codes "journal") rows ≡ None → IsWithin w n r t → (result : Result Order Error) → LeadsTo kinds command result
+    → AreNumbers rows w n r t → first_of (codes "journal") rows ≡ None → one_of (codes "explain") rows ≡ Some (codes "false") → IsWithin w n r t → (result : Result Order Error) → LeadsTo kinds command result
     → IsLoadOf w n r t result
 unfolding first_byte rows_in
-load_of kinds command rows w n r t none is are bare within (Ok (order.Text (input.Script p) d)) leads =
+load_of kinds command rows w n r t none is are bare silent within (Ok (order.Text (input.Script p) d)) leads =
     let bad : ◌≡◌ {A = ℕ} 115 108 = ap first_byte (sym leads.1.1.0 ∙ is) in absurd (omega arith)
-load_of kinds command rows w n r t none is are bare within (Ok (order.Text (input.History p) d)) leads =
+load_of kinds command rows w n r t none is are bare silent within (Ok (order.Text (input.History p) d)) leads =
     let bad : ◌≡◌ {A = ℕ} 114 108 = ap first_byte (sym leads.1.1.0 ∙ is) in absurd (omega arith)
-load_of kinds command rows w n r t none is are bare within (Ok (order.Text (input.Journal p) d)) leads =
+load_of kinds command rows w n r t none is are bare silent within (Ok (order.Text (input.Journal p) d)) leads =
     let bad : ◌≡◌ {A = ℕ} 106 108 = ap first_byte (sym leads.1.1.0 ∙ is) in absurd (omega arith)
-load_of kinds command rows w n r t none is are bare within (Ok (order.Serve d path)) leads =
+load_of kinds command rows w n r t none is are bare silent within (Ok (order.Serve d path)) leads =
     let bad : ◌≡◌ {A = ℕ} 115 108 = ap first_byte (sym leads.1.1 ∙ is) in absurd (omega arith)
-load_of kinds command rows w n r t none is are bare within (Ok (order.Load load path)) leads =
+load_of kinds command rows w n r t none is are bare silent within (Ok (order.Load load path answer)) leads =
     let same : leads.1.0 ≡ rows = ap rows_in (sym leads.1.1 ∙ is) in
     let those = subst (λ (R : List Row). AreNumbers R load.workers load.children load.readers load.turns) same leads.1.2 in
     let path_is : option_map (λ s. s.now) path ≡ None = leads.1.3 ∙ (ap (first_of (codes "journal")) same ∙ bare) in (
@@ -220,10 +238,11 @@ load_of kinds command rows w n r t none is are bare within (Ok (order.Load load 
       same_number those.readers are.readers,
       same_number those.turns are.turns,
       no_text path path_is,
+      leads.1.4.left_out (ap (one_of (codes "explain")) same ∙ silent),
     )
-load_of kinds command rows w n r t none is are bare within (Err e) (inl memory) = memory
-load_of kinds command rows w n r t none is are bare within (Err e) (inr (inl among)) = absurd (subst (IsAmong (kind_of e)) none among)
-load_of kinds command rows w n r t none is are bare within (Err e) (inr (inr other)) =
+load_of kinds command rows w n r t none is are bare silent within (Err e) (inl memory) = memory
+load_of kinds command rows w n r t none is are bare silent within (Err e) (inr (inl among)) = absurd (subst (IsAmong (kind_of e)) none among)
+load_of kinds command rows w n r t none is are bare silent within (Err e) (inr (inr other)) =
     let load : Load = record {
       workers = w;
       children = n;
@@ -234,15 +253,17 @@ load_of kinds command rows w n r t none is are bare within (Err e) (inr (inr oth
       asking = within.4;
       asked = (within.5, within.6);
     } in
-    absurd (other.1.none (order.Load load None) (rows, is, are, sym bare))
+    let loud : one_of (codes "explain") rows ≡ Some (codes "true") → ⊥ = λ e. let bad : ◌≡◌ {A = Option Text} (Some (codes "false")) (Some (codes "true")) = sym silent ∙ e in cc in
+    absurd (other.1.none (order.Load load None detail.Number) (rows, is, are, sym bare, record { given = λ e. absurd (loud e); left_out = λ e. refl }))
 
 pub load_leads : (name : Text) (given : Given) (w n r t : ℕ) → IsWhole given w n r t → (result : Result Order Error)
     → WordsLeadTo (name ∷ codes "load" ∷ words_of given) result → IsLoadOf w n r t result
 unfolding kinds_at command_at
 load_leads name given w n r t whole result leads =
     let words = name ∷ codes "load" ∷ words_of given in
-    let rows : rows_after load_rules [] (words_of given) ≡ map row_for given = leaf_rows given (all_plain given whole.within) ∙ table given w n r t whole in
-    let entered : subcommand_of supload_app words ≡ Some (codes "load", map row_for given) =
+    let rows : rows_after load_rules [] (words_of given) ≡ table_of given =
+    leaf_rows given (all_plain given whole.within) (unexplained given whole.once) ∙ table given whole.once in
+    let entered : subcommand_of supload_app words ≡ Some (codes "load", table_of given) =
     entered_below name (words_of given) ∙ ap (λ (R : List Row). Some (codes "load", R)) rows in
     let range : (s : Setting) (m : ℕ) → number_in given s ≡ Some m → (least_of s ≤ m) × (m ≤ most_of s) = λ s m is. within_of given s m whole.within is in
     let within : IsWithin w n r t = (
@@ -254,5 +275,5 @@ load_leads name given w n r t whole result leads =
       (range turns t whole.has_turns).0,
       (range turns t whole.has_turns).1,
     ) in
-    load_of (fault_of supload_app words) (subcommand_of supload_app words) (map row_for given) w n r t
-    (fault_below name (words_of given) ∙ leaf_passes given w n r t whole) entered (numbers given w n r t whole) (no_path given) within result leads
+    load_of (fault_of supload_app words) (subcommand_of supload_app words) (table_of given) w n r t
+    (fault_below name (words_of given) ∙ leaf_passes given w n r t whole) entered (numbers given w n r t whole) (no_path given) (is_silent given) within result leads

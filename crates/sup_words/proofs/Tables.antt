@@ -1,14 +1,14 @@
--- The rows of a load whose options are each given once: they stand in the order of the words.
-use Rattle.std.proofs.Common.{◌≡◌, ◌∙◌, ◌++◌, ◌||◌, ℕ, Bool, true, false, List, [], ◌∷◌, Some, None, refl, sym, ap, append_assoc, append-nil, map}
+-- The rows of a load whose numbers are each given once: they stand in the order of the words, and that of `--explain` after them.
+use Rattle.std.proofs.Common.{◌≡◌, ◌∙◌, ◌++◌, ◌||◌, ℕ, Bool, true, false, List, [], ◌∷◌, Some, None, refl, sym, ap, append_assoc, append-nil, map, codes}
 use Rattle.std.specs.Prelude.{decimal, find, if◌then◌else◌, option_map}
 use Rattle.std.specs.Str.{bytes_eq}
 use Rattle.std.proofs.lemmas.Bool.{false≢true}
 use Rattle.std.proofs.lemmas.List.{map-append}
 use Rattle.clap.specs.Walk.{Row, Text, at_row, has_row, more_values, used, with_values, without}
 use Rattle.clap.specs.declared.builder.value_parser.Reading.TheVariants.{AsWritten}
-use Rattle.clap.specs.declared.parser.matches.ValueSource.TheVariants.{CommandLine}
+use Rattle.clap.specs.declared.parser.matches.ValueSource.TheVariants.{CommandLine, DefaultValue}
 use Rattle.sup_words.specs.Settings.{AreNew, Given, Setting, workers, children, readers, turns, name_of, number_in}
-use Rattle.sup_words.proofs.Walks.{ready, rows_from, use_of}
+use Rattle.sup_words.proofs.Walks.{explained, ready, rows_from, use_of}
 
 -- the row of an option and its number
 unfoldable pub row_for : Setting × ℕ → Row
@@ -101,3 +101,27 @@ rows_are_table before [] new = ap (map row_for) (sym (append-nil before))
 rows_are_table before (p ∷ ps) new =
     ap (λ r. rows_from r ps) (appends before p.0 p.1 new.0 ∙ sym (map-append row_for before (p ∷ [])))
     ∙ (rows_are_table (before ++ p ∷ []) ps new.1 ∙ ap (map row_for) (append_assoc before (p ∷ []) ps))
+
+-- the row of `--explain` if it is not given
+unfoldable pub explain_row : Row
+explain_row = record { id = codes "explain"; values = codes "false" ∷ []; count = None; source = Some DefaultValue; reading = AsWritten }
+
+-- the rows of a load that is given numbers alone
+abbrev pub table_of : Given → List Row
+table_of given = map row_for given ++ explain_row ∷ []
+
+no_explain : (given : Given) → find (λ r. bytes_eq r.id (codes "explain")) (map row_for given) ≡ None
+unfolding row_for
+no_explain [] = refl
+no_explain ((workers, n) ∷ ps) = no_explain ps
+no_explain ((children, n) ∷ ps) = no_explain ps
+no_explain ((readers, n) ∷ ps) = no_explain ps
+no_explain ((turns, n) ∷ ps) = no_explain ps
+
+module _ (given : Given) (new : AreNew [] given) where
+  pub unexplained : has_row (codes "explain") (rows_from [] given) ≡ false
+  unexplained = ap (has_row (codes "explain")) (rows_are_table [] given new) ∙ absent_row (codes "explain") (map row_for given) (no_explain given)
+
+  pub table : explained (rows_from [] given) ≡ table_of given
+  unfolding explained explain_row
+  table = ap explained (rows_are_table [] given new) ∙ absent_appends (codes "explain") (more_values DefaultValue (codes "false" ∷ [])) _ (map row_for given) (no_explain given)

@@ -1,5 +1,5 @@
 -- What clap's walk makes of the words of a load.
-use Rattle.std.proofs.Common.{◌≡◌, ◌∙◌, ◌==◌, ◌&&◌, ℕ, Bool, true, false, List, [], ◌∷◌, Some, None, refl, sym, ap, ap₂, codes}
+use Rattle.std.proofs.Common.{◌≡◌, ◌∙◌, ◌==◌, ◌&&◌, ◌++◌, ℕ, Bool, true, false, List, [], ◌∷◌, Some, None, refl, sym, ap, ap₂, codes}
 use Rattle.std.specs.Prelude.{decimal}
 use Rattle.std.specs.List.{fold, list_any}
 use Rattle.std.specs.Prelude.{⊤, ◌||◌, not, if◌then◌else◌}
@@ -10,11 +10,12 @@ use Rattle.clap.specs.Faults.{turn_fault, walk_fault, settle_fault, defaults_fau
 use Rattle.clap.specs.Kinds.{Kinds, or_else, values_kinds, check_kinds}
 use Rattle.clap.specs.Lexer.{long_of, short_of}
 use Rattle.clap.specs.Simple.{Shape, help_rule, filled, new_shape}
-use Rattle.clap.specs.Walk.{Held, Row, Rule, Text, Walk, idle, option, walked, settled, nothing_held, finished, used, is_empty, default_rows, reading_by, with_default, has_row, rows_after}
+use Rattle.clap.specs.Walk.{Held, Row, Rule, Text, Walk, idle, option, walked, settled, nothing_held, finished, used, is_empty, default_rows, reading_by, with_default, with_values, has_row, rows_after}
 use Rattle.clap.specs.Takes.{is_given}
 use Rattle.clap.specs.declared.builder.value_parser.ValueParser.TheVariants.{Unsigned}
+use Rattle.clap.specs.declared.parser.matches.ValueSource.TheVariants.{DefaultValue}
 use Rattle.clap.proofs.OnLiterals.{clap_on_literals}
-use Rattle.sup_words.specs.Grammar.{journal_rule, setting_rule}
+use Rattle.sup_words.specs.Grammar.{explain_rule, journal_rule, setting_rule}
 use Rattle.sup_words.specs.Settings.{Setting, Given, workers, children, readers, turns, name_of, flag_of, words_of, least_of, most_of}
 
 -- ---- the load as clap builds it
@@ -22,8 +23,15 @@ use Rattle.sup_words.specs.Settings.{Setting, Given, workers, children, readers,
 abbrev pub ready : Setting → Rule
 ready s = filled (setting_rule s)
 
+-- those without a default, and those after them
+abbrev bare_rules : List Rule
+bare_rules = ready workers ∷ ready children ∷ ready readers ∷ ready turns ∷ filled journal_rule ∷ []
+
+abbrev last_rules : List Rule
+last_rules = filled explain_rule ∷ filled help_rule ∷ []
+
 abbrev pub load_rules : List Rule
-load_rules = ready workers ∷ ready children ∷ ready readers ∷ ready turns ∷ filled journal_rule ∷ filled help_rule ∷ []
+load_rules = bare_rules ++ last_rules
 
 abbrev pub load_shape : Shape
 load_shape = record (new_shape (codes "load")) {
@@ -191,13 +199,31 @@ same_rows : (b : Bool) (a : Rule) (R : List Row) → a.defaults ≡ [] → (if b
 same_rows true a R none = refl
 same_rows false a R none = rw none refl
 
-defaults_none : (c : List Rule) (R : List Row) → NoDefaults c → (defaults_fault R c ≡ []) × (fold with_default R c ≡ R)
+defaults_none : (c more : List Rule) (R : List Row) → NoDefaults c → (defaults_fault R (c ++ more) ≡ defaults_fault R more) × (fold with_default R (c ++ more) ≡ fold with_default R more)
 unfolding defaults_fault
-defaults_none [] R none = (refl, refl)
-defaults_none (a ∷ rest) R none =
+defaults_none [] more R none = (refl, refl)
+defaults_none (a ∷ rest) more R none =
     let same = same_rows (has_row a.id R) a R none.0 in
-    let after = defaults_none rest R none.1 in
-    (ap₂ or_else (no_fault (has_row a.id R) a none.0) (ap (λ r. defaults_fault r rest) same ∙ after.0), ap (λ r. fold with_default r rest) same ∙ after.1)
+    let after = defaults_none rest more R none.1 in
+    (ap₂ or_else (no_fault (has_row a.id R) a none.0) (ap (λ r. defaults_fault r (rest ++ more)) same ∙ after.0), ap (λ r. fold with_default r (rest ++ more)) same ∙ after.1)
+
+-- the rows with that of `--explain`, which was not given
+unfoldable pub explained : List Row → List Row
+explained R = with_values (codes "explain") (reading_by (filled explain_rule)) DefaultValue (codes "false" ∷ []) R
+
+module _ (R : List Row) (new : has_row (codes "explain") R ≡ false) where
+  last_fault : defaults_fault R last_rules ≡ []
+  unfolding clap_on_literals defaults_fault explained
+  last_fault = rw new (or_else-nil _ ∙ no_fault (has_row (codes "help") (explained R)) (filled help_rule) refl)
+
+  last_rows : fold with_default R last_rules ≡ explained R
+  unfolding clap_on_literals explained
+  last_rows = rw new (same_rows (has_row (codes "help") (explained R)) (filled help_rule) (explained R) refl)
+
+  defaults_are : (defaults_fault R load_rules ≡ []) × (fold with_default R load_rules ≡ explained R)
+  defaults_are =
+      let none = defaults_none bare_rules last_rules R (refl, (refl, (refl, (refl, (refl, tt))))) in
+      (none.0 ∙ last_fault, none.1 ∙ last_rows)
 
 -- a required option is missing
 unfoldable pub missing : List Row → Kinds
@@ -207,22 +233,23 @@ parts : Kinds → Walk → Kinds
 parts F w = or_else F (or_else (settle_fault load_rules false w.held)
     (or_else (defaults_fault (settled load_rules w.held).rows load_rules) (check_fault load_shape (finished load_rules w.held) false)))
 
-pub leaf_fault : (given : Given) → AllPlain given
-    → level_fault load_shape [] nothing_held (words_of given) false [] ≡ or_else (pair_faults [] given) (missing (rows_from [] given))
+pub leaf_fault : (given : Given) → AllPlain given → has_row (codes "explain") (rows_from [] given) ≡ false
+    → level_fault load_shape [] nothing_held (words_of given) false [] ≡ or_else (pair_faults [] given) (missing (explained (rows_from [] given)))
 unfolding parts missing
-leaf_fault given plain =
+leaf_fault given plain new =
     let end = run given nothing_held in
     let R = (settled load_rules end).rows in
-    let none = defaults_none load_rules R (refl, (refl, (refl, (refl, (refl, (refl, tt)))))) in
+    let none = defaults_are R (ap (has_row (codes "explain")) (rows_are given nothing_held) ∙ new) in
     let parted : level_fault load_shape [] nothing_held (words_of given) false [] ≡ parts (faults given nothing_held) (idle_at end) =
     ap₂ parts (fault_is given nothing_held plain) (walk_is given nothing_held plain) in
-    let tail : or_else (defaults_fault R load_rules) (check_fault load_shape (fold with_default R load_rules) false) ≡ missing (rows_from [] given) =
-    ap₂ (λ k r. or_else k (check_fault load_shape r false)) none.0 (none.1 ∙ rows_are given nothing_held) in
+    let tail : or_else (defaults_fault R load_rules) (check_fault load_shape (fold with_default R load_rules) false) ≡ missing (explained (rows_from [] given)) =
+    ap₂ (λ k r. or_else k (check_fault load_shape r false)) none.0 (none.1 ∙ ap explained (rows_are given nothing_held)) in
     parted ∙ (sym (or_else-assoc (faults given nothing_held) (settle_fault load_rules false end) _)
     ∙ ap₂ or_else (faults_are given nothing_held) tail)
 
-pub leaf_rows : (given : Given) → AllPlain given → rows_after load_rules [] (words_of given) ≡ rows_from [] given
-leaf_rows given plain =
-    let end = run given nothing_held in
+pub leaf_rows : (given : Given) → AllPlain given → has_row (codes "explain") (rows_from [] given) ≡ false
+    → rows_after load_rules [] (words_of given) ≡ explained (rows_from [] given)
+leaf_rows given plain new =
+    let rows = rows_are given nothing_held in
     ap (λ w. finished load_rules w.held) (walk_is given nothing_held plain)
-    ∙ ((defaults_none load_rules (settled load_rules end).rows (refl, (refl, (refl, (refl, (refl, (refl, tt))))))).1 ∙ rows_are given nothing_held)
+    ∙ ((defaults_are (settled load_rules (run given nothing_held)).rows (ap (has_row (codes "explain")) rows ∙ new)).1 ∙ ap explained rows)

@@ -56,10 +56,10 @@ journal_rule = path_rule (codes "journal")
 abbrev pub serve_app : App
 serve_app = with_rule (with_rule (new_app (codes "serve")) status_rule) journal_rule
 
--- the load, with its four numbers, and perhaps a journal
+-- the load, with its four numbers, and perhaps a journal; it may explain a fault
 abbrev pub load_app : App
-load_app = with_rule (with_rule (with_rule (with_rule (with_rule (new_app (codes "load"))
-    (setting_rule workers)) (setting_rule children)) (setting_rule readers)) (setting_rule turns)) journal_rule
+load_app = with_rule (with_rule (with_rule (with_rule (with_rule (with_rule (new_app (codes "load"))
+    (setting_rule workers)) (setting_rule children)) (setting_rule readers)) (setting_rule turns)) journal_rule) explain_rule
 
 -- the program has a version and asks for a command
 abbrev pub bare_app : App

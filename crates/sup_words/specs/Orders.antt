@@ -62,8 +62,8 @@ IsInput command rows (input.Journal path) = (command ≡ Some (codes "journal", 
 -- the order is the one that the command names, with what its options say
 abbrev pub IsOrder : Command → Order → Type 0
 IsOrder command (order.Text text answer) = (rows : List Row) × IsInput command rows text × IsDetail rows answer
-IsOrder command (order.Load load path) = (rows : List Row) × (command ≡ Some (codes "load", rows))
-    × AreNumbers rows load.workers load.children load.readers load.turns × IsPath rows (codes "journal") path
+IsOrder command (order.Load load path answer) = (rows : List Row) × (command ≡ Some (codes "load", rows))
+    × AreNumbers rows load.workers load.children load.readers load.turns × IsPath rows (codes "journal") path × IsDetail rows answer
 IsOrder command (order.Serve answer path) = (rows : List Row) × (command ≡ Some (codes "serve", rows)) × IsNotices rows answer × IsPath rows (codes "journal") path
 
 -- the command is given a file
@@ -96,9 +96,9 @@ command_at words = subcommand_of supload_app words
 abbrev pub WordsLeadTo : List Text → Result Order Error → Type 0
 WordsLeadTo words = LeadsTo (kinds_at words) (command_at words)
 
--- the load of these numbers, without a journal, unless memory ran out
+-- the load of these numbers, without a journal, and nothing is explained, unless memory ran out
 abbrev pub IsLoadOf : ℕ → ℕ → ℕ → ℕ → Result Order Error → Type 0
-IsLoadOf w n r t (Ok (order.Load load path)) =
-    (load.workers ≡ w) × (load.children ≡ n) × (load.readers ≡ r) × (load.turns ≡ t) × (path ≡ None)
+IsLoadOf w n r t (Ok (order.Load load path answer)) =
+    (load.workers ≡ w) × (load.children ≡ n) × (load.readers ≡ r) × (load.turns ≡ t) × (path ≡ None) × (answer ≡ detail.Number)
 IsLoadOf w n r t (Ok _) = ⊥
 IsLoadOf w n r t (Err e) = kind_of e ≡ OutOfMemory

@@ -106,7 +106,8 @@ fn load_command<'a>(alloc: Global) -> Result<Command<'a>, AllocError>
             "journal",
             "FILE",
             "A new file to which the history is written",
-        ))
+        ))?
+        .arg(flag(alloc, "explain", "Explains a fault"))
 }
 
 /// A command that answers a text: that of a file, which has to be given, or by default what standard input has. What it is about is

@@ -103,11 +103,9 @@ pub(crate) const LOAD: &str = "Runs a crew beside readers, and writes what it ca
 pub(crate) const LOAD_HELP: &str =
     "Starts N children, which finish at once in W threads, while R threads ask T times each how many there are.
 
-Writes two lines. The first is `made A exits B strays C restarts D gave_up E left F held G waiting H unposted I
-unstarted J`: the numbers of children that were made, of exits that were entered, of those answered stray, restarted
-and gave_up; of children that were not run; of exits that were taken and not entered, that wait in the inbox, and that
-could not be posted; and of children that were not started. Also if the load breaks off, A is B + F + G + H + I, and N
-is A + J. The second is `reads Q`, the number of questions that were answered.
+Writes two lines. The first is `made A exits B strays C restarts D gave_up E left F held G`: the numbers of children that
+were made, of exits that were entered, and of those answered stray, restarted and gave_up; of children that were not run;
+and of exits that were taken and not entered. The second is `reads Q`, the number of questions that were answered.
 
 If standard error is a terminal, a line there says once a second how many children were made and how many have ended.
 
@@ -117,7 +115,7 @@ update before it takes effect.
 Examples:
   supload load --workers 4 --children 100 --readers 2 --turns 50 --journal load.txt
 writes
-  made 100 exits 100 strays 0 restarts 0 gave_up 0 left 0 held 0 waiting 0 unposted 0 unstarted 0
+  made 100 exits 100 strays 0 restarts 0 gave_up 0 left 0 held 0
   reads 100";
 
 pub(crate) const SERVE: &str =
@@ -159,7 +157,7 @@ writes
   opened 1 restarted 0 ended 1 kept 0: every session is accounted for";
 
 pub(crate) const SERVE_FAULTS: &str =
-    "A fault is one line on standard error: `fault N: CAUSE`, with its number:
+    "A fault is the line `fault N` on standard error, with its number, and a line under it that says what is wrong:
    1  out of memory, or a thread was refused
    5  all handles were made: the file has had 512 servers
    6  there is no place for a reader
@@ -181,7 +179,7 @@ pub(crate) const STATUSES: &str = "Exit status:
   2  the words or a line are wrong, or the input is too long
   3  reading or writing failed
   4  any other fault, such as no memory
-A fault in the input is one line on standard error: `fault N line L`; another fault is `fault N: CAUSE`.";
+A fault is a line on standard error that begins with `fault N`, with its number; of the input it is `fault N line L`.";
 
 pub(crate) const FAULTS: &str =
     "A fault is one line on standard error: `fault N line L`, with its number and the line's; of a file that can't be read,
@@ -201,7 +199,7 @@ Exit status:
   4  fault 1";
 
 pub(crate) const LOAD_FAULTS: &str =
-    "A fault is one line on standard error: `fault N: CAUSE`, with its number:
+    "A fault is the line `fault N` on standard error, with its number:
    1  out of memory, or a thread was refused
    2  the history is full
    4  a reader was refused
@@ -210,6 +208,8 @@ pub(crate) const LOAD_FAULTS: &str =
   11  standard output could not be written
   13  the journal could not be written
   14  the journal's file is there already, or could not be made
+With --explain or --journal further lines say what is wrong and, if the load broke off, how many children were not started
+and how many exits were not taken; on a terminal also without these.
 
 Exit status:
   0  the load was run

@@ -3,7 +3,7 @@
 //!
 //! ```text
 //! match read_words(alloc, words)? {
-//!     Order::Load(load, journal) => ..,
+//!     Order::Load(load, journal, detail) => ..,
 //!     ..
 //! }
 //! ```

@@ -24,8 +24,8 @@ use sup_script::{Detail, Input};
 pub enum Order<'a> {
     /// To answer a script, a history text or a journal, and to say so much of a fault.
     Text(Input<'a>, Detail),
-    /// To run a crew beside readers, with a journal on the file at this path, if there is one.
-    Load(Load, Option<&'a str>),
+    /// To run a crew beside readers, with a journal on the file at this path, if there is one, and to say so much of a fault.
+    Load(Load, Option<&'a str>, Detail),
     /// To serve sessions, with a journal in the file at this path, if there is one.
     Serve(Notices, Option<&'a str>),
 }
@@ -90,7 +90,10 @@ fn read_matches<'a>(alloc: Global, matches: &ArgMatches<'a>) -> Result<Order<'a>
             None => Err(refused(alloc, ErrorKind::ValueValidation, "a file is missing")),
         },
         Some(("load", words)) => match read_load(words) {
-            Some(load) => Ok(Order::Load(load, read_path(words, "journal"))),
+            Some(load) => {
+                let journal = read_path(words, "journal");
+                Ok(Order::Load(load, journal, read_detail(words)))
+            }
             None => Err(refused(alloc, ErrorKind::ValueValidation, "a number is missing")),
         },
         Some(("serve", words)) => Ok(Order::Serve(

@@ -26,7 +26,7 @@ pub returns-in-Ok-Load-clause-words : goal.returns-in-Ok-Load-clause-words
 returns-in-Ok-Load-clause-words g c =
     let words = map g.S.AsStr.text c.args.words.now in
     done_as (kinds_at words) (command_at words) _ _ _ _ _ _ _ c.answer_load.result
-    c.in-Ok-Load.field-0 (order.Load c.in-Ok-Load.load c.in-Ok-Load.journal) c.in-Ok-Load.field-0-is c.in-Ok-Load.ensures.words (refl, c.answer_load.ensures.loaded)
+    c.in-Ok-Load.field-0 (order.Load c.in-Ok-Load.load c.in-Ok-Load.journal c.in-Ok-Load.detail) c.in-Ok-Load.field-0-is c.in-Ok-Load.ensures.words (refl, c.answer_load.ensures.loaded)
 
 pub returns-in-Ok-Serve-clause-words : goal.returns-in-Ok-Serve-clause-words
 returns-in-Ok-Serve-clause-words g c =

@@ -1,4 +1,4 @@
--- The load has its five options.
+-- The load has its six options.
 use Rattle.std.proofs.Common.{◌≡◌, ◌∙◌, ◌||◌, Bool, false, ap, ap₂, codes}
 use Rattle.std.proofs.lemmas.Result.{IfOk-weaker}
 use Rattle.clap.specs.Simple.{app_of_fields}
@@ -26,7 +26,9 @@ returns c =
     let none3 = c.in_ok-arg-3.ensures.globals ∙ ap₂ (λ a b. a || b) none2 c.number-3.ensures.local in
     let four = c.in_ok-arg-4.ensures.shape c.number-4.ensures.local ∙ ap₂ with_rule three c.number-4.ensures.rule in
     let none4 = c.in_ok-arg-4.ensures.globals ∙ ap₂ (λ a b. a || b) none3 c.number-4.ensures.local in
-    IfOk-weaker c.arg-5.result _ _ (λ r h. (
-      h.shape c.path.ensures.local ∙ ap₂ with_rule four c.path.ensures.rule,
-      h.globals ∙ ap₂ (λ a b. a || b) none4 c.path.ensures.local,
-    )) c.arg-5.ensures
+    let five = c.in_ok-arg-5.ensures.shape c.path.ensures.local ∙ ap₂ with_rule four c.path.ensures.rule in
+    let none5 = c.in_ok-arg-5.ensures.globals ∙ ap₂ (λ a b. a || b) none4 c.path.ensures.local in
+    IfOk-weaker c.arg-6.result _ _ (λ r h. (
+      h.shape c.flag.ensures.local ∙ ap₂ with_rule five c.flag.ensures.rule,
+      h.globals ∙ ap₂ (λ a b. a || b) none5 c.flag.ensures.local,
+    )) c.arg-6.ensures
