@@ -28,10 +28,10 @@ USES = {
 WORDS = {"live": ["1000"]}
 
 
-def said(words, folder, log, source=os.devnull):
-    """Runs a build, which reads this file. What it says goes to the log, of which the end is shown if it fails."""
-    with open(log, "wb") as file, open(source, "rb") as text:
-        ran = subprocess.run(words, cwd=folder, stdin=text, stdout=file, stderr=file)
+def said(words, folder, log):
+    """Runs a build. What it says goes to the log, of which the end is shown if it fails."""
+    with open(log, "wb") as file:
+        ran = subprocess.run(words, cwd=folder, stdin=subprocess.DEVNULL, stdout=file, stderr=file)
     if ran.returncode != 0:
         with open(log, errors="replace") as file:
             raise Failed(f"{' '.join(words)} failed:\n{''.join(file.readlines()[-20:])}")
@@ -105,9 +105,9 @@ def ours(name):
 
 
 def supload():
-    """The program that `./supload` runs for a script or a history, which it builds at its first use."""
+    """The program that `./supload` runs for a script or a history, which `./supload prove` builds at its first use."""
     os.makedirs(ROOM, exist_ok=True)
-    said([f"{TOP}/supload", "script"], TOP, f"{ROOM}/supload.log", f"{TOP}/examples/restart.sup")
+    said([f"{TOP}/supload", "prove"], TOP, f"{ROOM}/supload.log")
     return f"{TOP}/crates/sup_text/out/sup_text"
 
 

@@ -26,16 +26,14 @@ class Missing(Exception):
 
 
 def program():
-    """The path of the program: SUPLOAD of the environment, or that of the repository, which ./supload builds at first use."""
+    """The path of the program: SUPLOAD of the environment, or that of the repository, which `./supload prove all` builds at first use."""
     given = os.environ.get("SUPLOAD")
     if given:
         if not os.access(given, os.X_OK):
             raise Missing(f"SUPLOAD names no program: {given}")
         return os.path.abspath(given)
-    # (help is answered without a build; a server whose input is empty ends at once)
-    how = {"stdin": subprocess.DEVNULL, "stdout": subprocess.DEVNULL, "check": False}
-    if subprocess.run([f"{TOP}/supload", "serve"], **how).returncode != 0:
-        raise Missing("./supload does not run; SUPLOAD=PATH names another program")
+    if subprocess.run([f"{TOP}/supload", "prove", "all"], check=False).returncode != 0:
+        raise Missing("./supload prove all does not build the program; SUPLOAD=PATH names another one")
     return f"{TOP}/crates/sup_load/out/sup_load"
 
 
