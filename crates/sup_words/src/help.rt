@@ -179,7 +179,10 @@ pub(crate) const STATUSES: &str = "Exit status:
   2  the words or a line are wrong, or the input is too long
   3  reading or writing failed
   4  any other fault, such as no memory
-A fault is a line on standard error that begins with `fault N`, with its number; of the input it is `fault N line L`.";
+A fault is a line on standard error that begins with `fault N`, with its number; of the input it is `fault N line L`.
+
+`./supload prove` proves and builds the program for script, replay and journal, and `./supload prove all` that for all
+commands. Until then ./supload answers by a build that is checked while it runs and not proved.";
 
 pub(crate) const FAULTS: &str =
     "A fault is one line on standard error: `fault N line L`, with its number and the line's; of a file that can't be read,
