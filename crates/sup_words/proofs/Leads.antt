@@ -50,11 +50,11 @@ refused_by kinds command x (Err e) has failed same = go (subst (HasKind kinds) (
 -- a command without options
 pub script_leads : (name : Text) → WordsLeadTo (name ∷ codes "script" ∷ []) (Ok (order.Text (input.Script None) detail.Number))
 unfolding clap_on_literals kinds_at command_at
-script_leads name = (refl, (_, (refl, refl), record { given = λ e. cc; left_out = λ e. refl }))
+script_leads name = (refl, (_, (refl, inl refl), record { given = λ e. cc; left_out = λ e. refl }))
 
 pub replay_leads : (name : Text) → WordsLeadTo (name ∷ codes "replay" ∷ []) (Ok (order.Text (input.History None) detail.Number))
 unfolding clap_on_literals kinds_at command_at
-replay_leads name = (refl, (_, (refl, refl), record { given = λ e. cc; left_out = λ e. refl }))
+replay_leads name = (refl, (_, (refl, inl refl), record { given = λ e. cc; left_out = λ e. refl }))
 
 same_in : {X : Type 0} {a b : X} → Some a ≡ Some b → a ≡ b
 same_in e = cc
@@ -86,8 +86,11 @@ pub no_file : (command : Command) (rows : List Row) → command ≡ Some (codes 
 unfolding first_byte rows_in
 no_file command rows is none (order.Text (input.Journal path) answer) other =
     let same : rows ≡ other.0 = ap rows_in (sym is ∙ other.1.0) in
-    let given : Some path.now ≡ None = other.1.1 ∙ ap (first_of (codes "file")) (sym same) ∙ sym none in
-    absurd cc
+    let given : None ≡ first_of (codes "file") other.0 = none ∙ ap (first_of (codes "file")) same in
+    elim other.1.1 [
+      | inl dash ↦ (let bad : None ≡ Some (codes "-") = given ∙ dash.0 in absurd cc)
+      | inr plain ↦ (let bad : None ≡ Some path.now = given ∙ plain.0 in absurd cc)
+    ]
 no_file command rows is none (order.Text (input.Script path) answer) other = let bad : ◌≡◌ {A = ℕ} 106 115 = ap first_byte (sym is ∙ other.1.0) in absurd (omega arith)
 no_file command rows is none (order.Text (input.History path) answer) other = let bad : ◌≡◌ {A = ℕ} 106 114 = ap first_byte (sym is ∙ other.1.0) in absurd (omega arith)
 no_file command rows is none (order.Load load path answer) other = let bad : ◌≡◌ {A = ℕ} 106 108 = ap first_byte (sym is ∙ other.1) in absurd (omega arith)

@@ -53,11 +53,20 @@ pub record AreNumbers (rows : List Row) (w n r t : ℕ) : Type 0 where
 abbrev pub IsPath : List Row → Text → Option (Bor Text) → Type 0
 IsPath rows name path = option_map (λ s. s.now) path ≡ first_of name rows
 
+-- what is read is the file that was given, and else standard input, which is also meant by `-`
+abbrev pub IsSource : Option Text → Option (Bor Text) → Type 0
+IsSource given None = (given ≡ None) ⊎ (given ≡ Some (codes "-"))
+IsSource given (Some path) = (Some path.now ≡ given) × (path.now ≡ codes "-" → ⊥)
+
+-- a journal is read in a file, and the file of standard input is meant by `-`
+abbrev pub IsJournalAt : Option Text → Text → Type 0
+IsJournalAt given path = ((given ≡ Some (codes "-")) × (path ≡ codes "/dev/stdin")) ⊎ ((given ≡ Some path) × (path ≡ codes "-" → ⊥))
+
 -- a text is answered that the command names, in the file that it is given, if it is given one
 abbrev pub IsInput : Command → List Row → Input → Type 0
-IsInput command rows (input.Script path) = (command ≡ Some (codes "script", rows)) × IsPath rows (codes "file") path
-IsInput command rows (input.History path) = (command ≡ Some (codes "replay", rows)) × IsPath rows (codes "file") path
-IsInput command rows (input.Journal path) = (command ≡ Some (codes "journal", rows)) × IsPath rows (codes "file") (Some path)
+IsInput command rows (input.Script path) = (command ≡ Some (codes "script", rows)) × IsSource (first_of (codes "file") rows) path
+IsInput command rows (input.History path) = (command ≡ Some (codes "replay", rows)) × IsSource (first_of (codes "file") rows) path
+IsInput command rows (input.Journal path) = (command ≡ Some (codes "journal", rows)) × IsJournalAt (first_of (codes "file") rows) path.now
 
 -- the order is the one that the command names, with what its options say
 abbrev pub IsOrder : Command → Order → Type 0

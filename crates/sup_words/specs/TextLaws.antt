@@ -28,14 +28,17 @@ module _ (i : Input) (d : Detail) (o : Order) (is : o ≡ order.Text i d) where
     pub replay_of : ◌≡◌ {A = Result Order Error} (Ok o) (Ok (order.Text (input.History None) detail.Number)) → IsReplayAnswered remaining left contents held has_failed given has_refused s
     replay_of led = subst (λ (j : Input). IsInputAnswered j remaining left contents held has_failed given has_refused s) (same_input (input.History None) detail.Number led) answered
 
-has_file : (command : Command) (name : Text) (rows : List Row) (path : Bor Text) → command ≡ Some (name, rows) → Some path.now ≡ first_of (codes "file") rows → HasFile command
+has_file : (command : Command) (name : Text) (rows : List Row) (path : Text) → command ≡ Some (name, rows) → Some path ≡ first_of (codes "file") rows → HasFile command
 has_file command name rows path is given = (name, rows, is, ap is_some (sym given))
 
 -- a failure has its cause in the input or the output, or a file is named
 file_cause : (command : Command) (i : Input) (d : Detail) (failed refused : Type 0) → IsOrder command (order.Text i d) → (IsUnnamed i → failed ⊎ refused) → failed ⊎ (refused ⊎ HasFile command)
-file_cause command (input.Script (Some path)) d failed refused is cause = inr (inr (has_file command (codes "script") is.0 path is.1.0 is.1.1))
-file_cause command (input.History (Some path)) d failed refused is cause = inr (inr (has_file command (codes "replay") is.0 path is.1.0 is.1.1))
-file_cause command (input.Journal path) d failed refused is cause = inr (inr (has_file command (codes "journal") is.0 path is.1.0 is.1.1))
+file_cause command (input.Script (Some path)) d failed refused is cause = inr (inr (has_file command (codes "script") is.0 path.now is.1.0 is.1.1.0))
+file_cause command (input.History (Some path)) d failed refused is cause = inr (inr (has_file command (codes "replay") is.0 path.now is.1.0 is.1.1.0))
+file_cause command (input.Journal path) d failed refused is cause = elim is.1.1 [
+  | inl dash ↦ inr (inr (has_file command (codes "journal") is.0 (codes "-") is.1.0 (sym dash.0)))
+  | inr plain ↦ inr (inr (has_file command (codes "journal") is.0 path.now is.1.0 (sym plain.0)))
+]
 file_cause command (input.Script None) d failed refused is cause = elim (cause refl) [ inl a ↦ inl a | inr b ↦ inr (inl b) ]
 file_cause command (input.History None) d failed refused is cause = elim (cause refl) [ inl a ↦ inl a | inr b ↦ inr (inl b) ]
 

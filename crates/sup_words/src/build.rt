@@ -14,7 +14,7 @@ use clap::{Arg, ArgAction, Command};
 use std::alloc::{AllocError, Global};
 
 /// What the file of a script or of a history is.
-const TEXT: &str = "The text; standard input, if it is left out";
+const TEXT: &str = "The text; standard input, if it is `-` or left out";
 
 /// An argument that takes the path of a file, and may be left out.
 fn path<'a>(alloc: Global, name: &'a str, value: &'a str, help: &'a str) -> Arg<'a>
@@ -166,7 +166,7 @@ pub(crate) fn command<'a>(alloc: Global) -> Result<Command<'a>, AllocError>
             alloc,
             "journal",
             (JOURNAL, JOURNAL_HELP),
-            "The journal",
+            "The journal; standard input, if it is `-`",
             true,
         )?)?
         .subcommand(load_command(alloc)?)?

@@ -1,11 +1,12 @@
 //! The words of the command line.
 
-ghost use Rattle.std.specs.Prelude.{◌≡◌, ◌⊎◌, ℕ, List, [], ◌∷◌, None, Ok, MatchBool, MatchOption, MatchResult, codes, map};
+ghost use Rattle.std.specs.Prelude.{◌≡◌, ◌⊎◌, ℕ, List, [], ◌∷◌, None, Some, Ok, MatchBool, MatchOption, MatchResult, codes, map};
 ghost use Rattle.clap.specs.Kinds.{IsAmong};
+ghost use Rattle.clap.specs.Walk.{first_of};
 ghost use Rattle.clap.specs.Words.{found_of, kind_of, rows_of, subcommand_rows_of};
 ghost use Rattle.clap.specs.declared.error.kind.ErrorKind.TheVariants.{OutOfMemory};
 ghost use Rattle.sup_words.specs.Ranges.{IsWithin};
-ghost use Rattle.sup_words.specs.Orders.{AreNumbers, IsDetail, IsLoadOf, IsNoOrder, IsNotices, IsOrder, IsPath, WordsLeadTo};
+ghost use Rattle.sup_words.specs.Orders.{AreNumbers, IsDetail, IsJournalAt, IsLoadOf, IsNoOrder, IsNotices, IsOrder, IsPath, IsSource, WordsLeadTo};
 ghost use Rattle.sup_words.specs.Settings.{Given, IsWhole, words_of};
 ghost use Rattle.sup_words.specs.declared.words.Order.TheVariants as order;
 ghost use Rattle.sup_script.specs.declared.runs.answer.Detail.TheVariants as detail;
@@ -78,15 +79,15 @@ fn read_matches<'a>(alloc: Global, matches: &ArgMatches<'a>) -> Result<Order<'a>
 {
     match matches.subcommand() {
         Some(("script", words)) => {
-            let file = read_path(words, "file");
+            let file = read_file(words);
             Ok(Order::Text(Input::Script(file), read_detail(words)))
         }
         Some(("replay", words)) => {
-            let file = read_path(words, "file");
+            let file = read_file(words);
             Ok(Order::Text(Input::History(file), read_detail(words)))
         }
         Some(("journal", words)) => match read_path(words, "file") {
-            Some(file) => Ok(Order::Text(Input::Journal(file), read_detail(words))),
+            Some(file) => Ok(Order::Text(Input::Journal(journal_at(file)), read_detail(words))),
             None => Err(refused(alloc, ErrorKind::ValueValidation, "a file is missing")),
         },
         Some(("load", words)) => match read_load(words) {
@@ -151,6 +152,21 @@ fn read_load(words: &ArgMatches) -> Option<Load>
     let readers = words.get_one("readers")?;
     let turns = words.get_one("turns")?;
     Load::new(workers, children, readers, turns)
+}
+
+/// Returns the file that is to be read, or None for standard input, which is also meant by `-`.
+fn read_file<'a>(words: &ArgMatches<'a>) -> Option<&'a str>
+    ensures { IsSource (first_of (codes "file") (rows_of (found_of words.now))) result }
+{
+    let file = read_path(words, "file")?;
+    if file == "-" { None } else { Some(file) }
+}
+
+/// Returns where a journal is read that this word names: a journal is read from a file, so standard input is opened as one.
+fn journal_at(file: &str) -> &str
+    ensures { IsJournalAt (Some file.now) result.now }
+{
+    if file == "-" { "/dev/stdin" } else { file }
 }
 
 /// The path that has this name, if it was given.
