@@ -1,10 +1,10 @@
-"""Whether the Python module closes what nothing refers to, keeps its calls in turn, and refuses what is out of range."""
+"""Whether the Python module answers as the rules say, closes what nothing refers to, keeps its calls in turn, and refuses what is out of range."""
 import gc
 import threading
 import unittest
 
 import sapyguendo
-from sapyguendo import RUNNING, Entry, Fault, Reason, Supervisor, Template, failed
+from sapyguendo import IGNORE, RUNNING, Counts, Entry, Fault, Reason, Reply, Row, Supervisor, Template, failed
 
 
 def resident():
@@ -93,6 +93,73 @@ class Collected(unittest.TestCase):
         self.assertEqual(Entry.read(entry.line() + "rest"), (entry, "rest"))
         self.assertEqual(Template("transient").line(), "history 2 transient worker 1 5 65536 plain never\n")
         self.assertEqual(sapyguendo.version(), 100)
+
+
+class Answered(unittest.TestCase):
+    """Each call by itself, with the values that the rules give."""
+
+    def setUp(self):
+        self.asked = []
+        self.sup = Supervisor(Template("transient", "supervisor", 3, 10, 2), self.start)
+        self.addCleanup(self.sup.close)
+
+    def start(self, argument, moment):
+        self.asked.append((argument, moment))
+        return {1: failed(7), 2: IGNORE}.get(moment, RUNNING)
+
+    def test_a_failed_restart_waits_for_a_retry(self):
+        sup = self.sup
+        self.assertEqual(sup.start_child(0, "a"), Reply("started", 1))
+        self.assertEqual(sup.child(1), Row(1, "running", "a"))
+        self.assertEqual(sup.exit(1, 1, Reason.other("x")), Reply("restarting", 1, 0, 7))
+        self.assertEqual((sup.child(1), sup.child(2)), (Row(1, "restarting", "a"), None))
+        self.assertEqual(sup.counts(), Counts(1, 0, 1, 0))
+        self.assertEqual(sup.retry(9, 1), Reply("restarted", 1, 2))
+        self.assertEqual(sup.retry(9, 1), Reply("not_found"))
+        self.assertEqual(sup.which(), [Row(2, "running", "a")])
+        self.assertEqual(sup.counts(), Counts(1, 1, 1, 0))
+        self.assertEqual(sup.exit(9, 2, Reason.shutdown("bye")), Reply("removed", 2))
+        self.assertEqual((sup.which(), sup.stamp()), ([], 5))
+        self.assertEqual(self.asked, [("a", 0), ("a", 1), ("a", 9)])
+
+    def test_a_child_is_ended_and_the_supervisor_stopped(self):
+        sup = self.sup
+        self.assertEqual(sup.start_child(2, "a"), Reply("undefined"))
+        self.assertEqual([sup.start_child(3, it).kind for it in "abc"], ["started", "started", "full"])
+        self.assertEqual(sup.which(), [Row(1, "running", "a"), Row(2, "running", "b")])
+        self.assertEqual(sup.terminate_child(3, 1), Reply("ended"))
+        self.assertEqual(sup.terminate_child(3, 1), Reply("not_found"))
+        self.assertEqual((sup.child(1), sup.child(2)), (None, Row(2, "running", "b")))
+        self.assertIs(sup.is_down(), False)
+        self.assertEqual(sup.stop(4), Reply("stopped"))
+        self.assertIs(sup.is_down(), True)
+        self.assertEqual((sup.counts(), sup.which(), sup.child(2), sup.stamp()), (None, None, None, 7))
+        self.assertEqual(sup.start_child(5, "d"), Reply("down"))
+
+    def test_a_termination_has_its_moment(self):
+        sup = self.sup
+        self.assertEqual([sup.start_child(0, it).number for it in "ab"], [1, 2])
+        self.assertEqual([sup.exit(0, it, Reason.other("x")).kind for it in (1, 3, 4)], ["restarted"] * 3)
+        self.assertEqual(sup.terminate_child(11, 2), Reply("ended"))
+        self.assertEqual(sup.exit(0, 5, Reason.other("x")), Reply("restarted", 5, 6))
+
+    def test_what_would_be_asked_changes_nothing(self):
+        sup = self.sup
+        sup.start_child(0, "a")
+        self.assertEqual(sup.asks(Entry("start", 0, text="b")), "b")
+        self.assertEqual(sup.asks(Entry("exit", 0, 1, Reason.other("x"))), "a")
+        for entry in (Entry("exit", 0, 1, Reason.normal()), Entry("terminate", 0, 1), Entry("retry", 0, 1), Entry("stop", 0)):
+            self.assertIsNone(sup.asks(entry))
+        self.assertEqual((sup.stamp(), self.asked), (1, [("a", 0)]))
+
+    def test_an_entry_is_run_again_as_it_is(self):
+        sup = self.sup
+        reply, entry = sup.update(Entry("start", 0, text="a", handle=4))
+        self.assertEqual((reply, entry), (Reply("started", 1), Entry("start", 0, text="a", answer=RUNNING, handle=4)))
+        self.assertEqual(sup.step(Entry("exit", 1, 1, Reason.other("x"), answer=failed(9))), Reply("restarting", 1, 0, 9))
+        self.assertEqual(sup.step(Entry("retry", 1, 1, answer=IGNORE)), Reply("ignored", 1))
+        self.assertEqual(sup.update(Entry("stop", 8)), (Reply("stopped"), Entry("stop", 8, serial=3)))
+        self.assertEqual(self.asked, [("a", 0)])
 
 
 if __name__ == "__main__":

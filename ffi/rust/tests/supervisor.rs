@@ -47,6 +47,47 @@ fn a_failed_restart_waits_for_a_retry() {
 }
 
 #[test]
+fn what_would_be_asked_changes_nothing() {
+    let mut asked = 0;
+    let mut sup = Supervisor::open(&Template::new(Restart::Transient, 10), |_: &Text, _| {
+        asked += 1;
+        Answer::Running
+    })
+    .unwrap();
+    assert_eq!(sup.start_child(0, "a"), Ok(Reply::Started(1)));
+    assert_eq!(sup.asks(0, Operation::Start(text("b"))), Ok(Some(text("b"))));
+    assert_eq!(sup.asks(0, Operation::Exit(1, Reason::Other(text("crash")))), Ok(Some(text("a"))));
+    for operation in [Operation::Exit(1, Reason::Normal), Operation::Terminate(1), Operation::Retry(1), Operation::Stop] {
+        assert_eq!(sup.asks(0, operation), Ok(None));
+    }
+    assert_eq!((sup.stamp(), sup.is_down()), (1, false));
+    drop(sup);
+    assert_eq!(asked, 1);
+}
+
+#[test]
+fn an_entry_is_run_again_as_it_is() {
+    let mut sup = Supervisor::open(&Template::new(Restart::Permanent, 10), |_: &Text, _| panic!("nobody is asked")).unwrap();
+    let entry = |operation, answer| Entry { handle: 4, serial: 0, moment: 1, operation, answer };
+    assert_eq!(sup.step(&entry(Operation::Start(text("a")), Answer::Running)), Ok(Reply::Started(1)));
+    assert_eq!(sup.step(&entry(Operation::Exit(1, Reason::Normal), Answer::Failed(9))), Ok(Reply::Restarting(1, 9)));
+    assert_eq!(sup.step(&entry(Operation::Retry(1), Answer::Running)), Ok(Reply::GaveUp));
+    assert!(sup.is_down());
+}
+
+#[test]
+fn an_update_says_what_it_entered() {
+    let mut sup = Supervisor::open(&Template::new(Restart::Permanent, 10), |_: &Text, moment| Answer::Failed(moment as u32)).unwrap();
+    assert_eq!(sup.stop(0), Ok(Reply::Stopped));
+    let operation = Operation::Start(text("a"));
+    let entry = Entry { handle: 0, serial: 1, moment: 5, operation, answer: Answer::Ignore };
+    assert_eq!(sup.update(5, operation), Ok((Reply::Down, entry)));
+    let mut sup = Supervisor::open(&Template::new(Restart::Permanent, 10), |_: &Text, moment| Answer::Failed(moment as u32)).unwrap();
+    let entry = Entry { serial: 0, answer: Answer::Failed(5), ..entry };
+    assert_eq!(sup.update(5, operation), Ok((Reply::StartFailed(5), entry)));
+}
+
+#[test]
 fn what_is_out_of_range_is_refused_and_changes_nothing() {
     let refused = |template: Template| Supervisor::open(&template, running).err();
     let usual = Template::new(Restart::Transient, 10);
