@@ -5,7 +5,7 @@
 use anyhow::{Context, Result};
 use std::fs::Files;
 use std::sync::Wait;
-use sup_desk::{DetachedHandle, Desk, JournaledProgram, Name};
+use sup_desk::{Desk, DetachedHandle, JournaledProgram, Name};
 use sup_journal::{FileJournal, Flush, on_desk_in_file};
 use sup_types::{AlwaysRunning, Kind, Restart, Template, Text};
 

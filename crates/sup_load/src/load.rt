@@ -219,7 +219,12 @@ where
     requires journal { J.has journal N.template [] [] }
     ensures { IfOk result (λ s. AreCounts N.template s) }
 {
-    let desk: Desk<N, ScriptStarter, &R, J> = Desk::with_journal(ground, rt, ScriptStarter, journal);
+    let desk: Desk<N, ScriptStarter, &R, J> = Desk::with_journal(
+        ground,
+        rt,
+        ScriptStarter,
+        journal,
+    );
     on_desk(rt, alloc, &desk, load, is_person)
 }
 
