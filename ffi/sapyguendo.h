@@ -44,6 +44,7 @@ enum {
     SUP_BAD_LINE = 9,    /* a line that spells no template or no entry, or numbers or a text that spell none */
     SUP_TOO_LONG = 12,   /* the line is longer than the room for it */
     SUP_BAD_HANDLE = 15, /* the supervisor is closed, or was to be opened and is open already */
+    SUP_STALE = 16,      /* there are not as many entries as the stamp says */
 };
 
 enum { SUP_START, SUP_EXIT, SUP_RETRY, SUP_TERMINATE, SUP_STOP };
@@ -140,12 +141,17 @@ uint32_t sup_open(struct sup *sup, const uint8_t *text, size_t size, uint64_t en
 uint32_t sup_close(struct sup *sup);
 
 /* Stores the argument that the start function is to be asked about before this entry is entered, or a text of length 0 if it is
-   not to be asked. Of the entry it reads the operation and the moment. Answers SUP_BAD_LINE or SUP_BAD_HANDLE. */
+   not to be asked. Of the entry it reads the operation and the moment. Answers SUP_BAD_LINE, SUP_HISTORY_FULL or SUP_BAD_HANDLE. */
 uint32_t sup_asks(struct sup *sup, const struct sup_entry *entry, struct sup_text *asked);
 
 /* Enters an entry, with what the start function answered if it was asked, and stores the reply.
    Answers SUP_BAD_LINE, SUP_HISTORY_FULL or SUP_BAD_HANDLE. It takes no memory. */
 uint32_t sup_step(struct sup *sup, const struct sup_entry *entry, struct sup_reply *reply);
+
+/* Enters an entry as sup_step does, if there are as many entries as `stamp` says. So the answer is to what the rules asked when there
+   were that many, whatever other threads or the start function itself have entered meanwhile. Answers SUP_STALE, and what sup_step
+   does. */
+uint32_t sup_step_at(struct sup *sup, const struct sup_entry *entry, uint64_t stamp, struct sup_reply *reply);
 
 /* Stores the counts. Answers SUP_BAD_HANDLE. */
 uint32_t sup_count(struct sup *sup, struct sup_counts *counts);

@@ -289,6 +289,7 @@ _CALLS = {
     "sup_close": [POINTER(_Sup)],
     "sup_asks": [POINTER(_Sup), POINTER(_Entry), POINTER(_Text)],
     "sup_step": [POINTER(_Sup), POINTER(_Entry), POINTER(_Reply)],
+    "sup_step_at": [POINTER(_Sup), POINTER(_Entry), c_uint64, POINTER(_Reply)],
     "sup_count": [POINTER(_Sup), POINTER(_Counts)],
     "sup_child": [POINTER(_Sup), c_uint64, POINTER(_Row)],
     "sup_row": [POINTER(_Sup), c_uint64, POINTER(_Row)],

@@ -94,6 +94,7 @@ int main(void) {
     row.status = 9;
     entry = sup_stop(0);
     CHECK(sup_step(&sup, &entry, &reply), SUP_BAD_HANDLE);
+    CHECK(sup_step_at(&sup, &entry, 0, &reply), SUP_BAD_HANDLE);
     CHECK(sup_asks(&sup, &entry, &text), SUP_BAD_HANDLE);
     CHECK(sup_count(&sup, &counts), SUP_BAD_HANDLE);
     CHECK(sup_child(&sup, 1, &row), SUP_BAD_HANDLE);
@@ -121,6 +122,7 @@ int main(void) {
         sup_exit(0, 1, 4, ""), sup_exit(0, 1, SUP_SHUTDOWN_WITH, ""), sup_exit(0, 1, SUP_OTHER, "normal"), sup_exit(0, 1, SUP_OTHER, "shutdown:x"), sup_operation(5, 0, 1)};
     for (size_t i = 0; i < sizeof bad / sizeof *bad; i++) {
         CHECK(sup_step(&sup, &bad[i], &reply), SUP_BAD_LINE);
+        CHECK(sup_step_at(&sup, &bad[i], 1, &reply), SUP_BAD_LINE);
         CHECK(sup_asks(&sup, &bad[i], &text), SUP_BAD_LINE);
         CHECK(sup_write_entry(&bad[i], room, sizeof room, &len), SUP_BAD_LINE);
     }
@@ -136,7 +138,8 @@ int main(void) {
 
     /* what is listed stays while entries come, until index 0 is asked for */
     entry = sup_start(0, "b");
-    CHECK(sup_step(&sup, &entry, &reply), SUP_DONE);
+    for (uint64_t stamp = 0; stamp < 4; stamp += 2) CHECK(sup_step_at(&sup, &entry, stamp, &reply), SUP_STALE);
+    CHECK(sup_step_at(&sup, &entry, 1, &reply), SUP_DONE);
     CHECK(sup_row(&sup, 1, &row) + row.status, SUP_NOT_LISTED);
     CHECK(sup_row(&sup, 0, &row) + row.number, 1);
     CHECK(sup_row(&sup, 1, &row) + row.number, 2);
@@ -161,6 +164,8 @@ int main(void) {
     for (int i = 0; i < 3; i++) CHECK(sup_step(&sup, &entry, &reply), SUP_DONE);
     CHECK(reply.kind, SUP_DOWN);
     CHECK(sup_step(&sup, &entry, &reply), SUP_HISTORY_FULL);
+    CHECK(sup_step_at(&sup, &entry, 6, &reply), SUP_HISTORY_FULL);
+    CHECK(sup_asks(&sup, &entry, &text), SUP_HISTORY_FULL);
     CHECK(sup_row(&sup, 0, &row) + row.status, SUP_ROW_DOWN);
     CHECK(sup_child(&sup, 1, &row) + row.status, SUP_ROW_DOWN);
     CHECK(sup_count(&sup, &counts) + counts.stamp, 6);

@@ -17,9 +17,10 @@ pub record AnswersWhileOpen (held : Held) (answer : ℕ) : Type 0 where
   pub done : (answer ≡ 0) ↔ (held.is_open ≡ true)
   pub closed : (answer ≡ 15) ↔ (held.is_open ≡ false)
 
--- it is done exactly if the handle is open and the entry spells an operation
+-- it is done exactly if the handle is open, the entry spells an operation and the history has room
 pub record AnswersAsk (held : Held) (entry : CEntry) (answer : ℕ) : Type 0 where
-  pub done : (answer ≡ 0) ↔ ((held.is_open ≡ true) × IsSpelledOperation entry)
+  pub done : (answer ≡ 0) ↔ ((held.is_open ≡ true) × IsSpelledOperation entry × ((state_of held).steps < (state_of held).template.entries))
+  pub full : (answer ≡ 2) ↔ ((held.is_open ≡ true) × IsSpelledOperation entry × ((state_of held).steps ≡ (state_of held).template.entries))
   pub unspelled : (answer ≡ 9) ↔ ((held.is_open ≡ true) × (IsSpelledOperation entry → ⊥))
   pub closed : (answer ≡ 15) ↔ (held.is_open ≡ false)
 
@@ -27,6 +28,14 @@ pub record AnswersAsk (held : Held) (entry : CEntry) (answer : ℕ) : Type 0 whe
 pub record AnswersStep (held : Held) (entry : CEntry) (answer : ℕ) : Type 0 where
   pub done : (answer ≡ 0) ↔ ((held.is_open ≡ true) × IsSpelledEntry entry × ((state_of held).steps < (state_of held).template.entries))
   pub full : (answer ≡ 2) ↔ ((held.is_open ≡ true) × IsSpelledEntry entry × ((state_of held).steps ≡ (state_of held).template.entries))
+  pub unspelled : (answer ≡ 9) ↔ ((held.is_open ≡ true) × (IsSpelledEntry entry → ⊥))
+  pub closed : (answer ≡ 15) ↔ (held.is_open ≡ false)
+
+-- as of a step, if the history has as many entries as the stamp says
+pub record AnswersStepAt (held : Held) (entry : CEntry) (stamp : ℕ) (answer : ℕ) : Type 0 where
+  pub done : (answer ≡ 0) ↔ ((held.is_open ≡ true) × IsSpelledEntry entry × ((state_of held).steps ≡ stamp) × ((state_of held).steps < (state_of held).template.entries))
+  pub full : (answer ≡ 2) ↔ ((held.is_open ≡ true) × IsSpelledEntry entry × ((state_of held).steps ≡ stamp) × ((state_of held).steps ≡ (state_of held).template.entries))
+  pub stale : (answer ≡ 16) ↔ ((held.is_open ≡ true) × IsSpelledEntry entry × ((state_of held).steps ≡ stamp → ⊥))
   pub unspelled : (answer ≡ 9) ↔ ((held.is_open ≡ true) × (IsSpelledEntry entry → ⊥))
   pub closed : (answer ≡ 15) ↔ (held.is_open ≡ false)
 

@@ -13,7 +13,7 @@ ghost use Rattle.sup_c.specs.Spelled.{spelled_operation, spelled_entry, IsSpelle
 ghost use Rattle.sup_c.specs.Told.{told_asked, told_reply, told_counts, told_child};
 ghost use Rattle.sup_c.specs.Shelves.{row_seen, listed_at};
 ghost use Rattle.sup_c.specs.Held.{state_of, shelf_of, listed_of, none_listed, stepped, IsKept, AfterEach};
-ghost use Rattle.sup_c.specs.Answers.{AnswersOpening, AnswersWhileOpen, AnswersAsk, AnswersStep, AnswersRow, AnswersWriting, IsWritten, ReadsEntry, ReadsNone};
+ghost use Rattle.sup_c.specs.Answers.{AnswersOpening, AnswersWhileOpen, AnswersAsk, AnswersStep, AnswersStepAt, AnswersRow, AnswersWriting, IsWritten, ReadsEntry, ReadsNone};
 
 mod c;
 mod held;
@@ -39,6 +39,8 @@ const BAD_LINE: u32 = 9;
 const TOO_LONG: u32 = 12;
 
 const BAD_HANDLE: u32 = 15;
+
+const STALE: u32 = 16;
 
 /// Returns the version, of 0.1.0 as 100.
 #[unsafe(no_mangle)]
@@ -106,6 +108,11 @@ pub extern "C" fn sup_asks(held: &mut Held, heap: Global, entry: &CEntry, asked:
         return BAD_LINE;
     };
     let shelf = held.take(heap);
+    let is_full = shelf.sup.is_spent();
+    if is_full {
+        *held = Held::of(shelf);
+        return HISTORY_FULL;
+    }
     *asked = match shelf.sup.wants_answer(&operation, entry.moment) {
         Some(argument) => c::told_text(argument.bytes()),
         None => c::told_text(b""),
@@ -136,6 +143,44 @@ pub extern "C" fn sup_step(held: &mut Held, heap: Global, entry: &CEntry, reply:
         return HISTORY_FULL;
     }
     *reply = c::told_reply(shelf.sup.step(&entry));
+    *held = Held::of(shelf);
+    DONE
+}
+
+/// Enters an entry as `sup_step` does, if there are as many entries as `stamp` says. So the answer is to what the rules asked then.
+#[unsafe(no_mangle)]
+pub extern "C" fn sup_step_at(
+    held: &mut Held,
+    heap: Global,
+    entry: &CEntry,
+    stamp: u64,
+    reply: &mut CReply,
+) -> u32
+    ensures answer { AnswersStepAt held.old entry.now stamp result }
+    ensures step { result ≡ 0 → (reply.new ≡ told_reply (reply_to (state_of held.old) (spelled_entry entry.now)))
+        × (shelf_of held.new ≡ stepped (shelf_of held.old) (spelled_entry entry.now)) }
+    ensures history { result ≡ 0 → AfterEach held.old (λ template history. (reply.new ≡ told_reply (reply_after template history (spelled_entry entry.now)))
+        × (length history ≡ stamp) × IsAfter (state_of held.new) (history ++ spelled_entry entry.now ∷ [])) }
+    ensures kept { (result ≢ 0 → (shelf_of held.new ≡ shelf_of held.old) × (reply.new ≡ reply.old)) × (held.new.is_open ≡ held.old.is_open) }
+{
+    if !held.is_open {
+        return BAD_HANDLE;
+    }
+    let Some(entry) = c::entry_of(entry) else {
+        return BAD_LINE;
+    };
+    let mut shelf = held.take(heap);
+    if shelf.sup.stamp() != stamp {
+        *held = Held::of(shelf);
+        return STALE;
+    }
+    let has_room = !shelf.sup.is_spent();
+    if !has_room {
+        *held = Held::of(shelf);
+        return HISTORY_FULL;
+    }
+    let replied = shelf.sup.step(&entry);
+    *reply = c::told_reply(replied);
     *held = Held::of(shelf);
     DONE
 }

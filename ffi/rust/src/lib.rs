@@ -92,15 +92,17 @@ impl<S: FnMut(&Text, u64) -> Answer> Supervisor<S> {
     /// text ([`Entry::line`]). Its handle is 0, and its serial is the number of the entries before.
     ///
     /// # Errors
-    /// [`Fault::BadLine`] if a reason's text is no word, and [`Fault::HistoryFull`], before which the start function may have been
-    /// asked.
+    /// [`Fault::BadLine`] if a reason's text is no word, and [`Fault::HistoryFull`]. The start function was not asked then.
     pub fn update(&mut self, moment: u64, operation: Operation) -> Result<(Reply, Entry), Fault> {
         let serial = self.stamp();
         let mut entry = Entry { handle: 0, serial, moment, operation, answer: Answer::Ignore };
         if let Some(argument) = self.asks(moment, operation)? {
             entry.answer = (self.start)(&argument, moment);
         }
-        Ok((self.step(&entry)?, entry))
+        let mut reply = raw::Reply::default();
+        // SAFETY: all are of their types, and the handle is open. Nobody else has entered anything since the stamp was read.
+        Fault::of(unsafe { raw::sup_step_at(&mut self.handle.0, &entry.spelled(), serial, &mut reply) })?;
+        Ok((Reply::told(&reply), entry))
     }
 
     /// Enters an entry as it is, with its answer: so a history is run again.
@@ -117,7 +119,7 @@ impl<S: FnMut(&Text, u64) -> Answer> Supervisor<S> {
     /// Returns the argument that the start function would be asked about.
     ///
     /// # Errors
-    /// [`Fault::BadLine`] if a reason's text is no word.
+    /// [`Fault::BadLine`] if a reason's text is no word, and [`Fault::HistoryFull`].
     pub fn asks(&mut self, moment: u64, operation: Operation) -> Result<Option<Text>, Fault> {
         let entry = Entry { handle: 0, serial: 0, moment, operation, answer: Answer::Ignore };
         let mut asked = raw::Text::NONE;

@@ -83,6 +83,7 @@ extern "C" {
     pub fn sup_close(sup: *mut Sup) -> u32;
     pub fn sup_asks(sup: *mut Sup, entry: *const Entry, asked: *mut Text) -> u32;
     pub fn sup_step(sup: *mut Sup, entry: *const Entry, reply: *mut Reply) -> u32;
+    pub fn sup_step_at(sup: *mut Sup, entry: *const Entry, stamp: u64, reply: *mut Reply) -> u32;
     pub fn sup_count(sup: *mut Sup, counts: *mut Counts) -> u32;
     pub fn sup_child(sup: *mut Sup, number: u64, row: *mut Row) -> u32;
     pub fn sup_row(sup: *mut Sup, index: u64, row: *mut Row) -> u32;
