@@ -180,13 +180,13 @@ static inline uint32_t sup_begin(struct sup *sup, const char *line) {
     return sup_open(sup, (const uint8_t *)line, strlen(line), SUP_MOST_ENTRIES);
 }
 
-/* A text of a string. One that is too long is no text: each call refuses it. */
+/* A text of a string, or no text if there is none (NULL). One that is too long is no text: each call refuses it. */
 static inline struct sup_text sup_text_of(const char *string) {
     struct sup_text t;
-    size_t len = strlen(string);
     memset(&t, 0, sizeof t);
-    t.len = len;
-    memcpy(t.bytes, string, len < sizeof t.bytes ? len : sizeof t.bytes);
+    if (string == NULL) return t;
+    t.len = strlen(string);
+    memcpy(t.bytes, string, t.len < sizeof t.bytes ? (size_t)t.len : sizeof t.bytes);
     return t;
 }
 
@@ -220,14 +220,27 @@ static inline struct sup_entry sup_stop(uint64_t moment) { return sup_operation(
 /* A start function: it sets `*code` if it answers SUP_FAILED. */
 typedef uint32_t sup_starter(void *context, const struct sup_text *argument, uint64_t moment, uint32_t *code);
 
-/* Asks the start function if the rules ask it, writes its answer into the entry, and enters the entry. */
+/* Asks the start function if the rules ask it, and enters the entry with its answer, which it writes into the entry once that is
+ * entered. The start function is called at most once, and may use the supervisor. If something was entered meanwhile, the rules are
+ * asked again: what it has begun is kept if the reply is SUP_STARTED or SUP_RESTARTED, and else the caller's to end. */
 static inline uint32_t sup_update(struct sup *sup, struct sup_entry *entry, sup_starter *start, void *context, struct sup_reply *reply) {
+    struct sup_entry e = *entry;
+    struct sup_counts counts;
     struct sup_text asked;
-    uint32_t fault = sup_asks(sup, entry, &asked);
-    if (fault != SUP_DONE) return fault;
-    entry->code = 0;
-    entry->answer = asked.len == 0 ? (uint32_t)SUP_IGNORE : start(context, &asked, entry->moment, &entry->code);
-    return sup_step(sup, entry, reply);
+    uint32_t fault, answer = 0, code = 0;
+    bool begun = false;
+    do {
+        if ((fault = sup_count(sup, &counts)) != SUP_DONE || (fault = sup_asks(sup, &e, &asked)) != SUP_DONE) return fault;
+        if (asked.len != 0 && !begun) {
+            begun = true;
+            answer = start(context, &asked, e.moment, &code);
+        }
+        e.answer = asked.len != 0 ? answer : (uint32_t)SUP_IGNORE;
+        e.code = asked.len != 0 ? code : 0;
+        fault = sup_step_at(sup, &e, counts.stamp, reply);
+    } while (fault == SUP_STALE);
+    if (fault == SUP_DONE) *entry = e;
+    return fault;
 }
 
 #ifdef __cplusplus

@@ -1,0 +1,104 @@
+/* The header's shorthands: what they leave alone at a fault, and a start function that uses the supervisor. */
+#include <inttypes.h>
+#include <stdio.h>
+
+#include "sapyguendo.h"
+
+static int failed, passed;
+
+#define CHECK(is, wanted) check(#is, (is), (wanted), __LINE__)
+static void check(const char *text, uint64_t is, uint64_t wanted, int line) {
+    if (is == wanted) {
+        passed++;
+        return;
+    }
+    failed++;
+    printf("updates.c:%d: %s is %" PRIu64 ", and not %" PRIu64 "\n", line, text, is, wanted);
+}
+
+static struct sup sup;
+static int begun;
+
+/* Answers as the caller says in `context`: SUP_FAILED with code 7. */
+static uint32_t answers(void *context, const struct sup_text *argument, uint64_t moment, uint32_t *code) {
+    (void)argument, (void)moment;
+    begun++;
+    *code = 7;
+    return *(uint32_t *)context;
+}
+
+/* Enters this many starts meanwhile. */
+static uint32_t enters(void *context, const struct sup_text *argument, uint64_t moment, uint32_t *code) {
+    uint32_t running = SUP_RUNNING;
+    begun++;
+    for (int i = 0; i < *(int *)context; i++) {
+        struct sup_entry entry = sup_start(moment, "inner");
+        struct sup_reply reply;
+        CHECK(sup_update(&sup, &entry, answers, &running, &reply), SUP_DONE);
+        CHECK(reply.kind, SUP_STARTED);
+    }
+    CHECK(argument->len, 5);
+    *code = 0;
+    return SUP_RUNNING;
+}
+
+static void opens(const char *template, uint64_t entries) {
+    sup_close(&sup);
+    CHECK(sup_open(&sup, (const uint8_t *)template, strlen(template), entries), SUP_DONE);
+    begun = 0;
+}
+
+int main(void) {
+    const char *two = "history 2 permanent worker 1 5 2 plain never\n";
+    struct sup_entry entry, before;
+    struct sup_reply reply;
+    struct sup_row row;
+    uint32_t answer = SUP_FAILED;
+    int meanwhile = 1;
+
+    /* a reason without a text needs none */
+    entry = sup_exit(0, 1, SUP_NORMAL, NULL);
+    CHECK(entry.text.len, 0);
+    CHECK(entry.reason, SUP_NORMAL);
+
+    /* a fault leaves the entry as it was: of a closed supervisor, of an answer that is none, of a full history, before which no body begins */
+    before = entry = sup_start(0, "a");
+    entry.answer = before.answer = 9;
+    CHECK(sup_update(&sup, &entry, answers, &answer, &reply), SUP_BAD_HANDLE);
+    CHECK(memcmp(&entry, &before, sizeof entry), 0);
+    opens(two, 1);
+    answer = 77;
+    CHECK(sup_update(&sup, &entry, answers, &answer, &reply), SUP_BAD_LINE);
+    CHECK(memcmp(&entry, &before, sizeof entry), 0);
+    CHECK(begun, 1);
+    answer = SUP_FAILED;
+    CHECK(sup_update(&sup, &entry, answers, &answer, &reply), SUP_DONE);
+    CHECK(reply.kind, SUP_START_FAILED);
+    CHECK(entry.answer + entry.code, SUP_FAILED + 7);
+    CHECK(begun, 2);
+    before = entry = sup_start(0, "b");
+    CHECK(sup_update(&sup, &entry, answers, &answer, &reply), SUP_HISTORY_FULL);
+    CHECK(memcmp(&entry, &before, sizeof entry), 0);
+    CHECK(begun, 2);
+
+    /* a start function that enters another start: both are entered, and each body was begun once */
+    opens(two, 9);
+    entry = sup_start(0, "outer");
+    CHECK(sup_update(&sup, &entry, enters, &meanwhile, &reply), SUP_DONE);
+    CHECK(reply.kind, SUP_STARTED);
+    CHECK(reply.number, 2);
+    CHECK(begun, 2);
+    CHECK(sup_child(&sup, 2, &row) + row.arg.len, 5);
+
+    /* one that leaves no room for itself: it is not entered as if it ran */
+    opens(two, 9);
+    meanwhile = 2;
+    entry = sup_start(0, "outer");
+    CHECK(sup_update(&sup, &entry, enters, &meanwhile, &reply), SUP_DONE);
+    CHECK(reply.kind, SUP_FULL);
+    CHECK(entry.answer, SUP_IGNORE);
+    CHECK(begun, 3);
+    CHECK(sup_close(&sup), SUP_DONE);
+    printf("%d passed, %d failed\n", passed, failed);
+    return failed != 0;
+}
