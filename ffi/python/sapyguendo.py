@@ -7,11 +7,15 @@
         sup.exit(1, 1, Reason.other("crash"))     # Reply(kind='restarted', number=1, next=2)
 
 The library is looked for in the folder that SAPYGUENDO_LIB names, then where the system looks. A supervisor is closed by `close`, at
-the end of a `with`, or when nothing refers to it any more. Threads may share one: its calls take turns.
+the end of a `with`, or when nothing refers to it any more. Threads may share one: each call of the library is made with the interpreter's lock
+held, so that neither a thread, a signal handler, a garbage collection nor a fork comes into it. Only a thread that lists the children
+waits until another has listed them. An interpreter without that lock can't import this module.
 """
 import ctypes
 import ctypes.util
+import inspect
 import os
+import sys
 import threading
 import weakref
 from ctypes import POINTER, byref, c_bool, c_size_t, c_uint8, c_uint32, c_uint64, c_void_p
@@ -28,14 +32,23 @@ REPLIES = ("started", "undefined", "start_failed", "full", "removed", "shut_down
 REPLIES += ("not_found", "ended", "stopped", "gave_up", "down")
 FAULTS = {1: "out of memory", 2: "the history is full", 7: "no template has these parts", 9: "it spells no entry"}
 FAULTS |= {12: "the line is too long", 15: "the supervisor is closed"}
+_STALE = 16
+__all__ = ["Answer", "Counts", "Entry", "Fault", "Reason", "Reply", "Row", "Supervisor", "Template", "failed", "version"]
+__all__ += ["AUTOS", "FAULTS", "IGNORE", "KINDS", "MOST_ENTRIES", "MOST_LINE", "OPERATIONS", "REASONS", "REPLIES", "RESTARTS", "RUNNING"]
+if not getattr(sys, "_is_gil_enabled", lambda: True)():
+    raise ImportError("sapyguendo needs an interpreter with its lock (PYTHON_GIL=1)")
 
 
 class Fault(Exception):
-    """A call was refused, and nothing has changed. Its `number` is that of docs/FORMATS.md."""
+    """A call was refused, and nothing has changed. Its `number` is that of docs/FORMATS.md, and its `field` names what was wrong, if
+    it was one part of what was given."""
 
-    def __init__(self, number):
-        super().__init__(f"fault {number}: {FAULTS.get(number, 'unknown')}")
-        self.number = number
+    def __init__(self, number, field=""):
+        super().__init__(number, field)
+        self.number, self.field = number, field
+
+    def __str__(self):
+        return f"fault {self.number}: {FAULTS.get(self.number, 'unknown')}" + f": {self.field}" * bool(self.field)
 
 
 class Template(NamedTuple):
@@ -52,10 +65,9 @@ class Template(NamedTuple):
 
     def line(self):
         """Returns the first line of a history text of this template."""
-        words = [(self.restart, RESTARTS), (self.kind, KINDS), (self.auto_shutdown, AUTOS)]
-        if not all(word in known for word, known in words):
-            raise Fault(7)
-        limits = (_number(it, 64, 7) for it in (self.intensity, self.period, self.max))
+        for field, known in (("restart", RESTARTS), ("kind", KINDS), ("auto_shutdown", AUTOS)):
+            _place(getattr(self, field), known, field, 7)
+        limits = [_number(getattr(self, it), 64, it, 7) for it in ("intensity", "period", "max")]
         mark = "significant" if self.significant else "plain"
         return "history 2 {} {} {} {} {} {} {}\n".format(self.restart, self.kind, *limits, mark, self.auto_shutdown)
 
@@ -114,15 +126,28 @@ class Entry(NamedTuple):
 
     @staticmethod
     def read(text):
-        """Returns the entry of the first line of a text, and the text after that line."""
-        given, c, size = text.encode(), _Entry(), c_uint64()
-        _check(_library().sup_read_entry(given, len(given), byref(c), byref(size)))
+        """Returns the entry of the first line of a text, and the text after that line. For many entries use `read_all`."""
+        end = text.find("\n") + 1
+        return Entry._of_line(text[:end]), text[end:]
+
+    @staticmethod
+    def read_all(text):
+        """Returns the entries of a text's lines one by one, in a time that grows with the text's length alone."""
+        at = 0
+        while at < len(text):
+            end = text.find("\n", at) + 1 or len(text)
+            yield Entry._of_line(text[at:end])
+            at = end
+
+    @staticmethod
+    def _of_line(line):
+        given, c = _bytes(line, "line"), _Entry()
+        _check(_library().sup_read_entry(given, len(given), byref(c), byref(c_uint64())), "line")
         term = c.text.told()
         operation = OPERATIONS[c.operation]
         reason = Reason(REASONS[c.reason], term) if operation == "exit" else None
         argument = term if operation == "start" else ""
-        entry = Entry(operation, c.moment, c.number, reason, argument, Answer(c.answer, c.code), c.handle, c.serial)
-        return entry, given[size.value :].decode()
+        return Entry(operation, c.moment, c.number, reason, argument, Answer(c.answer, c.code), c.handle, c.serial)
 
 
 class Reply(NamedTuple):
@@ -149,12 +174,15 @@ class Row(NamedTuple):
 
 class Supervisor:
     """A supervisor. `start` starts a child with an argument at a moment in seconds, if the rules ask for it, and answers RUNNING,
-    IGNORE or failed(code). It must not use the supervisor."""
+    IGNORE or failed(code). It may use the supervisor. If others have entered something meanwhile, the rules are asked again: what it
+    has begun is kept if the reply is 'started' or 'restarted', and else the caller's to end."""
 
     def __init__(self, template, start=lambda argument, moment: RUNNING):
-        self._start, self._turn, self._held = start, threading.Lock(), _Sup()
+        if inspect.iscoroutinefunction(start):
+            raise TypeError(f"the start function {start!r} is async: it must answer RUNNING, IGNORE or failed(code)")
+        self._start, self._held, self._listing = start, _Sup(), None
         line = template.line().encode("ascii")
-        _check(_library().sup_open(byref(self._held), line, len(line), _number(template.entries, 64, 7)))
+        _check(_library().sup_open(byref(self._held), line, len(line), _number(template.entries, 64, "entries", 7)))
         self._end = weakref.finalize(self, _library().sup_close, byref(self._held))
 
     def __enter__(self):
@@ -165,8 +193,7 @@ class Supervisor:
 
     def close(self):
         """Gives the memory back. Every later call but this one is refused."""
-        with self._turn:
-            self._end()
+        self._end()
 
     def start_child(self, moment, argument):
         return self.update(Entry("start", moment, text=argument))[0]
@@ -184,30 +211,35 @@ class Supervisor:
         return self.update(Entry("stop", moment))[0]
 
     def update(self, entry):
-        """Enters an operation, with what the start function answers, and returns the reply and the entry."""
-        with self._turn:
-            c, asked = _entry(entry), _Text()
-            _check(_library().sup_asks(byref(self._held), byref(c), byref(asked)))
-            answer = self._start(asked.told(), entry.moment) if asked.len else IGNORE
-            entry = entry._replace(answer=answer, serial=self._counts().stamp)
-            return self._step(entry), entry
+        """Enters an operation, with what the start function answers, and returns the reply and the entry. The start function is
+        asked at most once."""
+        c, reply, begun = _entry(entry), _Reply(), None
+        while True:
+            c.serial = self._counts().stamp
+            argument = self._asked(c)
+            if argument is not None and begun is None:
+                begun = _answered(self._start, argument, entry.moment)
+            answer = IGNORE if argument is None else begun
+            c.answer, c.code = answer
+            fault = _library().sup_step_at(byref(self._held), byref(c), c.serial, byref(reply))
+            if fault != _STALE:
+                _check(fault)
+                return reply.told(), entry._replace(answer=answer, serial=c.serial)
 
     def step(self, entry):
         """Enters an entry as it is, with its answer: so a history is run again."""
-        with self._turn:
-            return self._step(entry)
-
-    def _step(self, entry):
         reply = _Reply()
         _check(_library().sup_step(byref(self._held), byref(_entry(entry)), byref(reply)))
-        return Reply(REPLIES[reply.kind], reply.number, reply.next, reply.code)
+        return reply.told()
 
     def asks(self, entry):
         """Returns the argument that the start function would be asked about, or None."""
-        with self._turn:
-            asked = _Text()
-            _check(_library().sup_asks(byref(self._held), byref(_entry(entry)), byref(asked)))
-            return asked.told() if asked.len else None
+        return self._asked(_entry(entry))
+
+    def _asked(self, c):
+        asked = _Text()
+        _check(_library().sup_asks(byref(self._held), byref(c), byref(asked)))
+        return asked.told() if asked.len else None
 
     def _counts(self):
         counts = _Counts()
@@ -216,35 +248,47 @@ class Supervisor:
 
     def counts(self):
         """Returns how many children there are, or None if the supervisor is down."""
-        with self._turn:
-            c = self._counts()
-            return None if c.is_down else Counts(c.specs, c.active, c.supervisors, c.workers)
+        c = self._counts()
+        return None if c.is_down else Counts(c.specs, c.active, c.supervisors, c.workers)
 
     def stamp(self):
         """Returns how many entries there were."""
-        with self._turn:
-            return self._counts().stamp
+        return self._counts().stamp
 
     def is_down(self):
-        with self._turn:
-            return self._counts().is_down
+        return self._counts().is_down
 
     def child(self, number):
         """Returns the listed child with this number, or None if there is none or the supervisor is down."""
-        with self._turn:
-            row = _Row()
-            _check(_library().sup_child(byref(self._held), number, byref(row)))
-            return row.told()
+        row = _Row()
+        _check(_library().sup_child(byref(self._held), _number(number, 64, "number"), byref(row)))
+        return row.told()
 
     def which(self):
         """Returns the listed children in ascending order of number, or None if the supervisor is down."""
-        with self._turn:
-            rows, row = [], _Row()
+        with _Listing.turn:
             while True:
-                _check(_library().sup_row(byref(self._held), len(rows), byref(row)))
-                if row.status in (0, 3):
-                    return rows if row.status == 0 else None
-                rows.append(row.told())
+                mine = self._listing = object()
+                rows, row = [], _Row()
+                while mine is self._listing:
+                    _check(_library().sup_row(byref(self._held), len(rows), byref(row)))
+                    if row.status in (0, 3):
+                        return rows if row.status == 0 else None
+                    rows.append(row.told())
+                # (a signal handler or a garbage collection came between two rows, and listed them anew)
+
+
+class _Listing:
+    """Whose turn it is to list rows, which takes many calls. A thread may come in again, and a fork begins with a turn of its own."""
+
+    turn = threading.RLock()
+
+    @classmethod
+    def renew(cls):
+        cls.turn = threading.RLock()
+
+
+os.register_at_fork(after_in_child=_Listing.renew)
 
 
 def version():
@@ -270,6 +314,9 @@ class _Entry(ctypes.Structure):
 
 class _Reply(ctypes.Structure):
     _fields_ = [("kind", c_uint32), ("code", c_uint32), ("number", c_uint64), ("next", c_uint64)]
+
+    def told(self):
+        return Reply(REPLIES[self.kind], self.number, self.next, self.code)
 
 
 class _Counts(ctypes.Structure):
@@ -306,7 +353,7 @@ def _library():
         file = os.path.join(folder, "libsapyguendo.so") if folder else ctypes.util.find_library("sapyguendo")
         if not file:
             raise OSError("libsapyguendo.so: set SAPYGUENDO_LIB to its folder (ffi/install makes it)")
-        library = ctypes.CDLL(file)
+        library = ctypes.PyDLL(file)
         for name, types in _CALLS.items():
             call = getattr(library, name)
             call.argtypes, call.restype = types, c_uint32
@@ -314,34 +361,51 @@ def _library():
     return _loaded
 
 
-def _check(fault):
+def _check(fault, field=""):
     if fault:
-        raise Fault(fault)
+        raise Fault(fault, field)
 
 
-def _number(value, size, fault=9):
+def _number(value, size, field, fault=9):
     """A number that the library can be given: ctypes would cut off what is too large."""
-    if not 0 <= value < 1 << size:
-        raise Fault(fault)
+    if type(value) is not int or not 0 <= value < 1 << size:
+        raise Fault(fault, field)
     return value
 
 
-def _text(text):
-    given, c = text.encode("utf-8", "replace"), _Text()
+def _bytes(text, field):
+    try:
+        return text.encode("ascii")
+    except (AttributeError, UnicodeEncodeError):
+        raise Fault(9, field) from None
+
+
+def _text(text, field):
+    given, c = _bytes(text, field), _Text()
     c.len = len(given)
     c.bytes[: min(len(given), 40)] = given[:40]
     return c
 
 
-def _place(word, words):
+def _place(word, words, field, fault=9):
     if word not in words:
-        raise Fault(9)
+        raise Fault(fault, field)
     return words.index(word)
 
 
+def _answered(start, argument, moment):
+    """What a start function answers. One that answers something else is wrong, and nothing is entered."""
+    answer = start(argument, moment)
+    if not isinstance(answer, Answer):
+        if inspect.iscoroutine(answer):
+            answer.close()
+        raise TypeError(f"the start function {start!r} must answer RUNNING, IGNORE or failed(code), and not {answer!r}")
+    return Answer(_number(answer.kind, 32, "answer"), _number(answer.code, 32, "code"))
+
+
 def _entry(e):
-    text = e.reason.text if e.reason else e.text
-    numbers = (_number(it, 64) for it in (e.handle, e.serial, e.moment, e.number))
-    reason = _place(e.reason.kind, REASONS) if e.reason else 0
-    answer = _number(e.answer.kind, 32), _number(e.answer.code, 32)
-    return _Entry(*numbers, _place(e.operation, OPERATIONS), reason, *answer, _text(text))
+    text = (e.reason.text, "reason") if e.reason else (e.text, "text")
+    numbers = (_number(getattr(e, it), 64, it) for it in ("handle", "serial", "moment", "number"))
+    reason = _place(e.reason.kind, REASONS, "reason") if e.reason else 0
+    answer = _number(e.answer.kind, 32, "answer"), _number(e.answer.code, 32, "code")
+    return _Entry(*numbers, _place(e.operation, OPERATIONS, "operation"), reason, *answer, _text(*text))
