@@ -36,7 +36,7 @@ extern "C" {
 #define SUP_VERSION 100
 
 /* What a call answers. */
-enum {
+enum sup_fault {
     SUP_DONE = 0,
     SUP_OUT_OF_MEMORY = 1,
     SUP_HISTORY_FULL = 2,
@@ -47,13 +47,14 @@ enum {
     SUP_STALE = 16,      /* there are not as many entries as the stamp says */
 };
 
-enum { SUP_START, SUP_EXIT, SUP_RETRY, SUP_TERMINATE, SUP_STOP };
-enum { SUP_NORMAL, SUP_SHUTDOWN, SUP_SHUTDOWN_WITH, SUP_OTHER };
-enum { SUP_RUNNING, SUP_IGNORE, SUP_FAILED };
-enum { SUP_NOT_LISTED, SUP_ROW_RUNNING, SUP_ROW_RESTARTING, SUP_ROW_DOWN };
+enum sup_operation_kind { SUP_START, SUP_EXIT, SUP_RETRY, SUP_TERMINATE, SUP_STOP };
+enum sup_reason { SUP_NORMAL, SUP_SHUTDOWN, SUP_SHUTDOWN_WITH, SUP_OTHER };
+enum sup_answer { SUP_RUNNING, SUP_IGNORE, SUP_FAILED };
+enum sup_status { SUP_NOT_LISTED, SUP_ROW_RUNNING, SUP_ROW_RESTARTING, SUP_ROW_DOWN };
 
-/* The kinds of replies, with the fields of `struct sup_reply` that each has. The others are 0. */
-enum {
+/* The kinds of replies, with the fields of `struct sup_reply` that each has. The others are 0. A `switch` over
+   (enum sup_reply_kind)reply.kind has the compiler say which are forgotten. */
+enum sup_reply_kind {
     SUP_STARTED,      /* number */
     SUP_UNDEFINED,
     SUP_START_FAILED, /* code */
@@ -149,9 +150,11 @@ uint32_t sup_asks(struct sup *sup, const struct sup_entry *entry, struct sup_tex
 uint32_t sup_step(struct sup *sup, const struct sup_entry *entry, struct sup_reply *reply);
 
 /* Enters an entry as sup_step does, if there are as many entries as `stamp` says. So the answer is to what the rules asked when there
-   were that many, whatever other threads or the start function itself have entered meanwhile. Answers SUP_STALE, and what sup_step
-   does. */
-uint32_t sup_step_at(struct sup *sup, const struct sup_entry *entry, uint64_t stamp, struct sup_reply *reply);
+   were that many, whatever other threads or the start function itself have entered meanwhile.
+   Each child may have a value of the caller's, a token: a start gives its child `*token`, and a child that is started again has that of
+   the child which it replaces. Stores the token of the child that ended, was started again or was to be ended, or 0 if it has none.
+   Answers SUP_STALE, SUP_OUT_OF_MEMORY, and what sup_step does. */
+uint32_t sup_step_at(struct sup *sup, const struct sup_entry *entry, uint64_t stamp, uint64_t *token, struct sup_reply *reply);
 
 /* Stores the counts. Answers SUP_BAD_HANDLE. */
 uint32_t sup_count(struct sup *sup, struct sup_counts *counts);
@@ -163,6 +166,14 @@ uint32_t sup_child(struct sup *sup, uint64_t number, struct sup_row *row);
    Index 0 lists the children as they are now, and the further ones give what was listed then, whatever was entered meanwhile. The
    list is kept until the next, or until the supervisor is closed. Answers SUP_BAD_HANDLE, and of index 0 SUP_OUT_OF_MEMORY. */
 uint32_t sup_row(struct sup *sup, uint64_t index, struct sup_row *row);
+
+/* Stores those children one by one, as sup_row does, that were listed before the entry that took the supervisor down: the caller ends
+   what runs of them. There are none while it is up, or if that entry came by sup_step. Answers SUP_BAD_HANDLE. */
+uint32_t sup_left(struct sup *sup, uint64_t index, struct sup_row *row);
+
+/* Stores the token of the child with this number, or 0: it has none, or is not listed and was not when the supervisor went down.
+   Answers SUP_BAD_HANDLE. */
+uint32_t sup_token(struct sup *sup, uint64_t number, uint64_t *token);
 
 /* Writes an entry as a line of a history text, and stores its length. A history text is the line that a supervisor was opened with
    and the lines of its entries. Answers SUP_BAD_LINE, SUP_TOO_LONG if the room is too small (SUP_MOST_LINE is enough), or
@@ -217,29 +228,89 @@ static inline struct sup_entry sup_retry(uint64_t moment, uint64_t number) { ret
 static inline struct sup_entry sup_terminate(uint64_t moment, uint64_t number) { return sup_operation(SUP_TERMINATE, moment, number); }
 static inline struct sup_entry sup_stop(uint64_t moment) { return sup_operation(SUP_STOP, moment, 0); }
 
+/* Writes an entry as a line of a history text, which ends with a line feed, into a string. */
+static inline uint32_t sup_line(const struct sup_entry *entry, char line[SUP_MOST_LINE + 1]) {
+    uint64_t len = 0;
+    uint32_t fault = sup_write_entry(entry, (uint8_t *)line, SUP_MOST_LINE, &len);
+    line[len] = 0;
+    return fault;
+}
+
+/* What a fault and a reply mean, in words. */
+static inline const char *sup_fault_text(uint32_t fault) {
+    switch ((enum sup_fault)fault) {
+    case SUP_DONE: return "done";
+    case SUP_OUT_OF_MEMORY: return "out of memory";
+    case SUP_HISTORY_FULL: return "the history is full";
+    case SUP_BAD_TEMPLATE: return "no template has these parts";
+    case SUP_BAD_LINE: return "it spells no entry";
+    case SUP_TOO_LONG: return "the line is too long";
+    case SUP_BAD_HANDLE: return "the supervisor is closed, or was open already";
+    case SUP_STALE: return "there are other entries by now";
+    }
+    return "unknown";
+}
+
+static inline const char *sup_reply_text(uint32_t kind) {
+    static const char *const texts[] = {"started", "undefined", "start_failed", "full", "removed", "shut_down", "restarted", "restarting",
+        "ignored", "stray", "not_found", "ended", "stopped", "gave_up", "down"};
+    return kind < sizeof texts / sizeof *texts ? texts[kind] : "unknown";
+}
+
 /* A start function: it sets `*code` if it answers SUP_FAILED. */
 typedef uint32_t sup_starter(void *context, const struct sup_text *argument, uint64_t moment, uint32_t *code);
 
-/* Asks the start function if the rules ask it, and enters the entry with its answer, which it writes into the entry once that is
- * entered. The start function is called at most once, and may use the supervisor. If something was entered meanwhile, the rules are
- * asked again: what it has begun is kept if the reply is SUP_STARTED or SUP_RESTARTED, and else the caller's to end. */
-static inline uint32_t sup_update(struct sup *sup, struct sup_entry *entry, sup_starter *start, void *context, struct sup_reply *reply) {
+/* One for children with tokens: `token` is that which a start gives, or that of the child which is started again. */
+typedef uint32_t sup_child_starter(void *context, uint64_t token, const struct sup_text *argument, uint64_t moment, uint32_t *code);
+
+/* Asks the start function if the rules ask it, and enters the entry with its answer. It stores the token as sup_step_at does, and writes
+ * the answer and the serial, which is the number of the entries before, into the entry once that is entered. The start function is
+ * called at most once, and may use the supervisor. If something was entered meanwhile, the rules are asked again: what it has begun is
+ * kept if the reply is SUP_STARTED or SUP_RESTARTED, and else the caller's to end. */
+static inline uint32_t sup_update_child(struct sup *sup, struct sup_entry *entry, uint64_t *token, sup_child_starter *start, void *context,
+    struct sup_reply *reply) {
     struct sup_entry e = *entry;
     struct sup_counts counts;
     struct sup_text asked;
+    uint64_t its = e.operation == SUP_START ? *token : 0;
     uint32_t fault, answer = 0, code = 0;
     bool begun = false;
     do {
         if ((fault = sup_count(sup, &counts)) != SUP_DONE || (fault = sup_asks(sup, &e, &asked)) != SUP_DONE) return fault;
         if (asked.len != 0 && !begun) {
+            if (e.operation != SUP_START && (fault = sup_token(sup, e.number, &its)) != SUP_DONE) return fault;
             begun = true;
-            answer = start(context, &asked, e.moment, &code);
+            answer = start(context, its, &asked, e.moment, &code);
         }
         e.answer = asked.len != 0 ? answer : (uint32_t)SUP_IGNORE;
         e.code = asked.len != 0 ? code : 0;
-        fault = sup_step_at(sup, &e, counts.stamp, reply);
+        e.serial = counts.stamp;
+        fault = sup_step_at(sup, &e, counts.stamp, token, reply);
     } while (fault == SUP_STALE);
     if (fault == SUP_DONE) *entry = e;
+    return fault;
+}
+
+/* Does so for children without tokens, and leaves the serial as it is. */
+struct sup_plain {
+    sup_starter *start;
+    void *context;
+};
+
+static inline uint32_t sup_start_plain(void *plain, uint64_t token, const struct sup_text *argument, uint64_t moment, uint32_t *code) {
+    const struct sup_plain *p = (const struct sup_plain *)plain;
+    (void)token;
+    return p->start(p->context, argument, moment, code);
+}
+
+static inline uint32_t sup_update(struct sup *sup, struct sup_entry *entry, sup_starter *start, void *context, struct sup_reply *reply) {
+    struct sup_plain plain;
+    uint64_t token = 0, serial = entry->serial;
+    uint32_t fault;
+    plain.start = start;
+    plain.context = context;
+    fault = sup_update_child(sup, entry, &token, sup_start_plain, &plain, reply);
+    entry->serial = serial;
     return fault;
 }
 

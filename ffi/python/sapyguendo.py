@@ -221,7 +221,7 @@ class Supervisor:
                 begun = _answered(self._start, argument, entry.moment)
             answer = IGNORE if argument is None else begun
             c.answer, c.code = answer
-            fault = _library().sup_step_at(byref(self._held), byref(c), c.serial, byref(reply))
+            fault = _library().sup_step_at(byref(self._held), byref(c), c.serial, byref(c_uint64()), byref(reply))
             if fault != _STALE:
                 _check(fault)
                 return reply.told(), entry._replace(answer=answer, serial=c.serial)
@@ -276,6 +276,16 @@ class Supervisor:
                         return rows if row.status == 0 else None
                     rows.append(row.told())
                 # (a signal handler or a garbage collection came between two rows, and listed them anew)
+
+    def left(self):
+        """Returns the children that were listed before the entry that took the supervisor down: the caller ends those that run. There
+        are none while it is up, or if that entry came by `step`."""
+        rows, row = [], _Row()
+        while True:
+            _check(_library().sup_left(byref(self._held), len(rows), byref(row)))
+            if row.status in (0, 3):
+                return rows
+            rows.append(row.told())
 
 
 class _Listing:
@@ -336,10 +346,12 @@ _CALLS = {
     "sup_close": [POINTER(_Sup)],
     "sup_asks": [POINTER(_Sup), POINTER(_Entry), POINTER(_Text)],
     "sup_step": [POINTER(_Sup), POINTER(_Entry), POINTER(_Reply)],
-    "sup_step_at": [POINTER(_Sup), POINTER(_Entry), c_uint64, POINTER(_Reply)],
+    "sup_step_at": [POINTER(_Sup), POINTER(_Entry), c_uint64, POINTER(c_uint64), POINTER(_Reply)],
     "sup_count": [POINTER(_Sup), POINTER(_Counts)],
     "sup_child": [POINTER(_Sup), c_uint64, POINTER(_Row)],
     "sup_row": [POINTER(_Sup), c_uint64, POINTER(_Row)],
+    "sup_left": [POINTER(_Sup), c_uint64, POINTER(_Row)],
+    "sup_token": [POINTER(_Sup), c_uint64, POINTER(c_uint64)],
     "sup_write_entry": [POINTER(_Entry), c_void_p, c_size_t, POINTER(c_uint64)],
     "sup_read_entry": [ctypes.c_char_p, c_size_t, POINTER(_Entry), POINTER(c_uint64)],
 }

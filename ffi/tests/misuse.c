@@ -50,7 +50,7 @@ static struct sup sup;
 static const char template[] = "history 2 permanent worker 1 5 3 plain never\nwhat follows is not read";
 static struct sup_row row;
 static uint8_t room[SUP_MOST_LINE];
-static uint64_t len;
+static uint64_t len, token = 9;
 static struct sup_entry entry;
 
 static uint32_t opens(void) { return sup_open(&sup, (const uint8_t *)template, strlen(template), 6); }
@@ -94,7 +94,9 @@ int main(void) {
     row.status = 9;
     entry = sup_stop(0);
     CHECK(sup_step(&sup, &entry, &reply), SUP_BAD_HANDLE);
-    CHECK(sup_step_at(&sup, &entry, 0, &reply), SUP_BAD_HANDLE);
+    CHECK(sup_step_at(&sup, &entry, 0, &token, &reply), SUP_BAD_HANDLE);
+    CHECK(sup_left(&sup, 0, &row), SUP_BAD_HANDLE);
+    CHECK(sup_token(&sup, 1, &token), SUP_BAD_HANDLE);
     CHECK(sup_asks(&sup, &entry, &text), SUP_BAD_HANDLE);
     CHECK(sup_count(&sup, &counts), SUP_BAD_HANDLE);
     CHECK(sup_child(&sup, 1, &row), SUP_BAD_HANDLE);
@@ -122,7 +124,7 @@ int main(void) {
         sup_exit(0, 1, 4, ""), sup_exit(0, 1, SUP_SHUTDOWN_WITH, ""), sup_exit(0, 1, SUP_OTHER, "normal"), sup_exit(0, 1, SUP_OTHER, "shutdown:x"), sup_operation(5, 0, 1)};
     for (size_t i = 0; i < sizeof bad / sizeof *bad; i++) {
         CHECK(sup_step(&sup, &bad[i], &reply), SUP_BAD_LINE);
-        CHECK(sup_step_at(&sup, &bad[i], 1, &reply), SUP_BAD_LINE);
+        CHECK(sup_step_at(&sup, &bad[i], 1, &token, &reply), SUP_BAD_LINE);
         CHECK(sup_asks(&sup, &bad[i], &text), SUP_BAD_LINE);
         CHECK(sup_write_entry(&bad[i], room, sizeof room, &len), SUP_BAD_LINE);
     }
@@ -138,8 +140,9 @@ int main(void) {
 
     /* what is listed stays while entries come, until index 0 is asked for */
     entry = sup_start(0, "b");
-    for (uint64_t stamp = 0; stamp < 4; stamp += 2) CHECK(sup_step_at(&sup, &entry, stamp, &reply), SUP_STALE);
-    CHECK(sup_step_at(&sup, &entry, 1, &reply), SUP_DONE);
+    for (uint64_t stamp = 0; stamp < 4; stamp += 2) CHECK(sup_step_at(&sup, &entry, stamp, &token, &reply), SUP_STALE);
+    CHECK(token, 9);
+    CHECK(sup_step_at(&sup, &entry, 1, &token, &reply), SUP_DONE);
     CHECK(sup_row(&sup, 1, &row) + row.status, SUP_NOT_LISTED);
     CHECK(sup_row(&sup, 0, &row) + row.number, 1);
     CHECK(sup_row(&sup, 1, &row) + row.number, 2);
@@ -164,7 +167,7 @@ int main(void) {
     for (int i = 0; i < 3; i++) CHECK(sup_step(&sup, &entry, &reply), SUP_DONE);
     CHECK(reply.kind, SUP_DOWN);
     CHECK(sup_step(&sup, &entry, &reply), SUP_HISTORY_FULL);
-    CHECK(sup_step_at(&sup, &entry, 6, &reply), SUP_HISTORY_FULL);
+    CHECK(sup_step_at(&sup, &entry, 6, &token, &reply), SUP_HISTORY_FULL);
     CHECK(sup_asks(&sup, &entry, &text), SUP_HISTORY_FULL);
     CHECK(sup_row(&sup, 0, &row) + row.status, SUP_ROW_DOWN);
     CHECK(sup_child(&sup, 1, &row) + row.status, SUP_ROW_DOWN);

@@ -6,8 +6,8 @@ use Rattle.std_alloc.proofs.BoxSteps.Form.{Bx}
 use Rattle.std_heap.specs.contracts.Global as Heap
 use Rattle.std_heap.specs.contracts.GlobalAllocator.TheImpl.{ghosts, dict}
 use Rattle.std_heap.proofs.Global.TheLaws as heap
-use Rattle.sup_c.specs.contracts.held.Shelf as Shelf
-use Rattle.sup_c.proofs.held.Shelf.TheLaws as shelf
+use Rattle.sup_c.specs.contracts.shelf.Shelf as Shelf
+use Rattle.sup_c.proofs.shelf.Shelf.TheLaws as shelf
 use Rattle.sup_c.specs.contracts.held.Parts as Parts
 use Rattle.sup_c.specs.contracts.held.Seal as Seal
 

@@ -1,3 +1,4 @@
 pub mod AsBox
 pub mod Written
 pub mod Opened
+pub mod Staying

@@ -31,9 +31,9 @@ pub record AnswersStep (held : Held) (entry : CEntry) (answer : ℕ) : Type 0 wh
   pub unspelled : (answer ≡ 9) ↔ ((held.is_open ≡ true) × (IsSpelledEntry entry → ⊥))
   pub closed : (answer ≡ 15) ↔ (held.is_open ≡ false)
 
--- as of a step, if the history has as many entries as the stamp says
+-- as of a step, if the history has as many entries as the stamp says. Memory may be refused
 pub record AnswersStepAt (held : Held) (entry : CEntry) (stamp : ℕ) (answer : ℕ) : Type 0 where
-  pub done : (answer ≡ 0) ↔ ((held.is_open ≡ true) × IsSpelledEntry entry × ((state_of held).steps ≡ stamp) × ((state_of held).steps < (state_of held).template.entries))
+  pub done : ((answer ≡ 0) ⊎ (answer ≡ 1)) ↔ ((held.is_open ≡ true) × IsSpelledEntry entry × ((state_of held).steps ≡ stamp) × ((state_of held).steps < (state_of held).template.entries))
   pub full : (answer ≡ 2) ↔ ((held.is_open ≡ true) × IsSpelledEntry entry × ((state_of held).steps ≡ stamp) × ((state_of held).steps ≡ (state_of held).template.entries))
   pub stale : (answer ≡ 16) ↔ ((held.is_open ≡ true) × IsSpelledEntry entry × ((state_of held).steps ≡ stamp → ⊥))
   pub unspelled : (answer ≡ 9) ↔ ((held.is_open ≡ true) × (IsSpelledEntry entry → ⊥))

@@ -6,7 +6,7 @@ use mathlib.Core.Bool.{Bool, true, false}
 use Rattle.std.specs.Box.Ownership.{box_owns}
 use Rattle.std.specs.Global.{Global}
 use Rattle.std_heap.specs.contracts.GlobalAllocator.TheImpl.{ghosts}
-use Rattle.sup_c.specs.contracts.held.Shelf as shelf
+use Rattle.sup_c.specs.contracts.shelf.Shelf as shelf
 
 abbrev pub seal_owns : Bool → Global → Ptr → shelf.the_row.Denot → Fml
 seal_owns true alloc p s = box_owns (ghosts.dealloc_token alloc) shelf.the_row p s

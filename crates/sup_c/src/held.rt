@@ -5,21 +5,13 @@
 ghost use Rattle.std.specs.Prelude.{◌≡◌, Bool, true, false};
 ghost use Rattle.std.specs.Coded.{coded_bool};
 ghost use Rattle.std.specs.Box.Ownership.{box_owns};
-ghost use Rattle.sup_c.specs.declared.held.Shelf.{Shelf as AShelf};
+ghost use Rattle.sup_c.specs.declared.shelf.Shelf.{Shelf as AShelf};
 ghost use Rattle.sup_c.specs.Seals.{shelf_coded, seal_owns};
 
+use crate::shelf::Shelf;
 use core::mem::replace;
 use std::alloc::{Allocator, Global};
 use std::marker::Model;
-use sup_core::Sup;
-use sup_types::{Row, Seen};
-
-/// A supervisor, and what it answered when its rows were listed last.
-#[derive(Drop)]
-pub struct Shelf {
-    pub sup: Sup<Global>,
-    pub listed: Seen<Vec<Row, Global>>,
-}
 
 /// A supervisor as C holds it: open or closed. All zeros are a closed one.
 #[repr(C)]

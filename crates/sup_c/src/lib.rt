@@ -4,22 +4,29 @@
 //! a fault's number, or 0, and tests all that it is given. `ffi/` has the header, and what a program in Rust or Python calls.
 #![tactic(auto)]
 
-ghost use Rattle.std.specs.Prelude.{◌≡◌, ◌≢◌, ◌⊎◌, ◌++◌, ◌∷◌, [], length, true, false};
+ghost use Rattle.std.specs.Prelude.{◌≡◌, ◌≢◌, ◌⊎◌, ◌++◌, ◌∷◌, [], ℕ, length, true, false};
 ghost use Rattle.sup_core.specs.Replies.{reply_to, asked_argument};
+ghost use Rattle.sup_core.specs.Changes.{next_state, goes_down};
 ghost use Rattle.sup_core.specs.Account.{IsAfter, reply_after, state_after};
 ghost use Rattle.sup_core.specs.Queries.{which, count, child};
 ghost use Rattle.sup_format.specs.Writing.HistoryTexts.{entry_line, SpellsOneMore};
 ghost use Rattle.sup_c.specs.Spelled.{spelled_operation, spelled_entry, IsSpelledEntry, IsTemplateOf};
 ghost use Rattle.sup_c.specs.Told.{told_asked, told_reply, told_counts, told_child};
 ghost use Rattle.sup_c.specs.Shelves.{row_seen, listed_at};
-ghost use Rattle.sup_c.specs.Held.{state_of, shelf_of, listed_of, none_listed, stepped, IsKept, AfterEach};
+ghost use Rattle.sup_c.specs.Leaving.{left_after};
+ghost use Rattle.sup_c.specs.Tokens.{tokens_after, token_told, number_of};
+ghost use Rattle.sup_c.specs.Held.{state_of, shelf_of, listed_of, left_of, token_of, none_listed, IsStepped, HasSame, IsKept, AfterEach};
 ghost use Rattle.sup_c.specs.Answers.{AnswersOpening, AnswersWhileOpen, AnswersAsk, AnswersStep, AnswersStepAt, AnswersRow, AnswersWriting, IsWritten, ReadsEntry, ReadsNone};
 
 mod c;
 mod held;
+mod shelf;
+mod tokens;
 
 use c::{CCounts, CEntry, CReply, CRow, CText};
-use held::{Held, Shelf};
+use held::Held;
+use indexmap::IndexMap;
+use shelf::Shelf;
 use std::alloc::Global;
 use sup_core::Sup;
 use sup_format::{append_entry, begin_history, next_entry};
@@ -54,7 +61,8 @@ pub extern "C" fn sup_version() -> u32
 #[unsafe(no_mangle)]
 pub extern "C" fn sup_open(held: &mut Held, heap: Global, text: &[u8], entries: u64) -> u32
     ensures answer { AnswersOpening held.old text.now entries result }
-    ensures opened { result ≡ 0 → (held.new.is_open ≡ true) × IsAfter (state_of held.new) [] × (listed_of held.new ≡ none_listed) }
+    ensures opened { result ≡ 0 → (held.new.is_open ≡ true) × IsAfter (state_of held.new) [] × (listed_of held.new ≡ none_listed) × (left_of held.new ≡ none_listed) }
+    ensures tokens { result ≡ 0 → (number : ℕ) → token_of held.new number ≡ 0 }
     ensures template { result ≡ 0 → IsTemplateOf (state_of held.new).template text.now entries }
     ensures kept { result ≢ 0 → held.new ≡ held.old }
 {
@@ -72,8 +80,14 @@ pub extern "C" fn sup_open(held: &mut Held, heap: Global, text: &[u8], entries: 
     let Ok(sup) = Sup::new(heap, template) else {
         return OUT_OF_MEMORY;
     };
-    let listed = Seen::Up(Vec::new(heap));
-    let Ok(shelf) = Box::new(heap, Shelf { sup, listed }) else {
+    let shelf = Shelf {
+        sup,
+        template,
+        listed: Seen::Up(Vec::new(heap)),
+        left: Seen::Up(Vec::new(heap)),
+        tokens: IndexMap::new(heap),
+    };
+    let Ok(shelf) = Box::new(heap, shelf) else {
         return OUT_OF_MEMORY;
     };
     *held = Held::of(shelf);
@@ -126,7 +140,7 @@ pub extern "C" fn sup_asks(held: &mut Held, heap: Global, entry: &CEntry, asked:
 pub extern "C" fn sup_step(held: &mut Held, heap: Global, entry: &CEntry, reply: &mut CReply) -> u32
     ensures answer { AnswersStep held.old entry.now result }
     ensures step { result ≡ 0 → (reply.new ≡ told_reply (reply_to (state_of held.old) (spelled_entry entry.now)))
-        × (shelf_of held.new ≡ stepped (shelf_of held.old) (spelled_entry entry.now)) }
+        × IsStepped (shelf_of held.old) (spelled_entry entry.now) (shelf_of held.new) }
     ensures history { result ≡ 0 → AfterEach held.old (λ template history. (reply.new ≡ told_reply (reply_after template history (spelled_entry entry.now)))
         × IsAfter (state_of held.new) (history ++ spelled_entry entry.now ∷ [])) }
     ensures kept { (result ≢ 0 → (shelf_of held.new ≡ shelf_of held.old) × (reply.new ≡ reply.old)) × (held.new.is_open ≡ held.old.is_open) }
@@ -148,20 +162,28 @@ pub extern "C" fn sup_step(held: &mut Held, heap: Global, entry: &CEntry, reply:
 }
 
 /// Enters an entry as `sup_step` does, if there are as many entries as `stamp` says. So the answer is to what the rules asked then.
+/// A start gives its child the value `token`; then it stores that of the entry's child.
 #[unsafe(no_mangle)]
 pub extern "C" fn sup_step_at(
     held: &mut Held,
     heap: Global,
     entry: &CEntry,
     stamp: u64,
+    token: &mut u64,
     reply: &mut CReply,
 ) -> u32
     ensures answer { AnswersStepAt held.old entry.now stamp result }
     ensures step { result ≡ 0 → (reply.new ≡ told_reply (reply_to (state_of held.old) (spelled_entry entry.now)))
-        × (shelf_of held.new ≡ stepped (shelf_of held.old) (spelled_entry entry.now)) }
+        × (state_of held.new ≡ next_state (state_of held.old) (spelled_entry entry.now)) × (listed_of held.new ≡ listed_of held.old) }
     ensures history { result ≡ 0 → AfterEach held.old (λ template history. (reply.new ≡ told_reply (reply_after template history (spelled_entry entry.now)))
         × (length history ≡ stamp) × IsAfter (state_of held.new) (history ++ spelled_entry entry.now ∷ [])) }
-    ensures kept { (result ≢ 0 → (shelf_of held.new ≡ shelf_of held.old) × (reply.new ≡ reply.old)) × (held.new.is_open ≡ held.old.is_open) }
+    ensures left { result ≡ 0 → left_of held.new ≡ left_after (state_of held.old) (spelled_entry entry.now) (left_of held.old) }
+    ensures which { result ≡ 0 → AfterEach held.old (λ template history. goes_down (reply_to (state_of held.old) (spelled_entry entry.now)) ≡ true
+        → left_of held.new ≡ which template history) }
+    ensures tokens { result ≡ 0 → (token.new ≡ token_told (token_of held.old) (spelled_operation entry.now) token.old)
+        × ((number : ℕ) → token_of held.new number
+        ≡ tokens_after (token_of held.old) (number_of (spelled_operation entry.now)) token.old (reply_to (state_of held.old) (spelled_entry entry.now)) number) }
+    ensures kept { (result ≢ 0 → HasSame held.old held.new × (token.new ≡ token.old) × (reply.new ≡ reply.old)) × (held.new.is_open ≡ held.old.is_open) }
 {
     if !held.is_open {
         return BAD_HANDLE;
@@ -174,14 +196,17 @@ pub extern "C" fn sup_step_at(
         *held = Held::of(shelf);
         return STALE;
     }
-    let has_room = !shelf.sup.is_spent();
-    if !has_room {
+    let is_over = shelf.sup.is_spent();
+    if is_over {
         *held = Held::of(shelf);
         return HISTORY_FULL;
     }
-    let replied = shelf.sup.step(&entry);
-    *reply = c::told_reply(replied);
+    let entered = shelf.enter(&entry, token);
     *held = Held::of(shelf);
+    let Some(replied) = entered else {
+        return OUT_OF_MEMORY;
+    };
+    *reply = c::told_reply(replied);
     DONE
 }
 
@@ -225,6 +250,7 @@ pub extern "C" fn sup_row(held: &mut Held, heap: Global, index: u64, row: &mut C
         × (listed_of held.new ≡ listed_at index (state_of held.old) (listed_of held.old)) }
     ensures history { result ≡ 0 → index ≡ 0 → AfterEach held.old (λ template history. listed_of held.new ≡ which template history) }
     ensures kept { (held.new.is_open ≡ held.old.is_open) × (state_of held.new ≡ state_of held.old) × (result ≢ 0 → IsKept held.old held.new × (row.new ≡ row.old)) }
+    ensures others { (left_of held.new ≡ left_of held.old) × ((number : ℕ) → token_of held.new number ≡ token_of held.old number) }
 {
     if !held.is_open {
         return BAD_HANDLE;
@@ -238,6 +264,38 @@ pub extern "C" fn sup_row(held: &mut Held, heap: Global, index: u64, row: &mut C
         shelf.listed = listed;
     }
     *row = c::told_row(&shelf.listed, index);
+    *held = Held::of(shelf);
+    DONE
+}
+
+/// Tells the child with this index, from 0 on, among those that were listed before the entry that took the supervisor down.
+#[unsafe(no_mangle)]
+pub extern "C" fn sup_left(held: &mut Held, heap: Global, index: u64, row: &mut CRow) -> u32
+    ensures answer { AnswersWhileOpen held.old result }
+    ensures row { result ≡ 0 → row.new ≡ told_child (row_seen (left_of held.old) index) }
+    ensures kept { IsKept held.old held.new × (result ≢ 0 → row.new ≡ row.old) }
+{
+    if !held.is_open {
+        return BAD_HANDLE;
+    }
+    let shelf = held.take(heap);
+    *row = c::told_row(&shelf.left, index);
+    *held = Held::of(shelf);
+    DONE
+}
+
+/// Tells the value of the child with this number: 0 if it has none.
+#[unsafe(no_mangle)]
+pub extern "C" fn sup_token(held: &mut Held, heap: Global, number: u64, token: &mut u64) -> u32
+    ensures answer { AnswersWhileOpen held.old result }
+    ensures token { result ≡ 0 → token.new ≡ token_of held.old number }
+    ensures kept { IsKept held.old held.new × (result ≢ 0 → token.new ≡ token.old) }
+{
+    if !held.is_open {
+        return BAD_HANDLE;
+    }
+    let shelf = held.take(heap);
+    *token = tokens::token_of(&shelf.tokens, number);
     *held = Held::of(shelf);
     DONE
 }

@@ -1,28 +1,28 @@
 //! The words of a supervisor: texts, templates, operations, entries, replies and rows.
 use crate::raw;
+use std::borrow::Borrow;
 use std::fmt;
+use std::hash::{Hash, Hasher};
+use std::str::FromStr;
 
 /// Why a call was refused. Nothing has changed then.
 #[derive(Clone, Copy, Debug, PartialEq, Eq)]
+#[non_exhaustive]
 pub enum Fault {
-    OutOfMemory,
+    /// Memory was refused.
+    OutOfMemory = 1,
     /// The history has as many entries as the template allows.
-    HistoryFull,
-    /// A number of the template is out of its range, or its children can't be significant.
-    BadTemplate,
-    /// A text is not 1 to 40 bytes from 0x21 to 0x7E, a word spells another reason, or a line is no entry.
-    BadLine,
+    HistoryFull = 2,
+    /// A number of the template is out of its range, or its children can't be significant ([`Template::wrong_field`] says which).
+    BadTemplate = 7,
+    /// A text is not 1 to 40 bytes from 0x21 to 0x7E, a word spells another reason, or a line is no entry or no template.
+    BadLine = 9,
 }
 
 impl Fault {
     /// Returns the number of the fault, as `sapyguendo.h` has it.
     pub fn number(self) -> u32 {
-        match self {
-            Fault::OutOfMemory => 1,
-            Fault::HistoryFull => 2,
-            Fault::BadTemplate => 7,
-            Fault::BadLine => 9,
-        }
+        self as u32
     }
 
     pub(crate) fn of(number: u32) -> Result<(), Fault> {
@@ -32,7 +32,7 @@ impl Fault {
             2 => Err(Fault::HistoryFull),
             7 => Err(Fault::BadTemplate),
             9 => Err(Fault::BadLine),
-            // The wrapper's supervisor is open, and its room is large enough.
+            // The wrapper's supervisor is open, its room is large enough, and it has read the stamp.
             _ => unreachable!("fault {number} of libsapyguendo"),
         }
     }
@@ -51,8 +51,9 @@ impl fmt::Display for Fault {
 
 impl std::error::Error for Fault {}
 
-/// A text: 1 to 40 bytes, each from 0x21 to 0x7E.
-#[derive(Clone, Copy, PartialEq, Eq, Hash)]
+/// A text: 1 to 40 bytes, each from 0x21 to 0x7E. It is found in a map by its `str`.
+// (unused bytes are zeros, so that the order is that of the characters)
+#[derive(Clone, Copy, PartialEq, Eq, PartialOrd, Ord)]
 pub struct Text {
     bytes: [u8; 40],
     len: u8,
@@ -61,7 +62,7 @@ pub struct Text {
 impl Text {
     /// Returns the text of these characters, or [`Fault::BadLine`] if they are none.
     pub fn new(text: &str) -> Result<Text, Fault> {
-        let visible = text.bytes().all(|byte| (0x21..=0x7E).contains(&byte));
+        let visible = text.bytes().all(|byte| byte.is_ascii_graphic());
         if text.is_empty() || text.len() > 40 || !visible {
             return Err(Fault::BadLine);
         }
@@ -70,6 +71,7 @@ impl Text {
         Ok(Text { bytes, len: text.len() as u8 })
     }
 
+    /// Returns the characters.
     pub fn as_str(&self) -> &str {
         std::str::from_utf8(&self.bytes[..usize::from(self.len)]).expect("a text is ASCII")
     }
@@ -88,6 +90,18 @@ impl std::ops::Deref for Text {
 
     fn deref(&self) -> &str {
         self.as_str()
+    }
+}
+
+impl Borrow<str> for Text {
+    fn borrow(&self) -> &str {
+        self
+    }
+}
+
+impl Hash for Text {
+    fn hash<H: Hasher>(&self, state: &mut H) {
+        self.as_str().hash(state);
     }
 }
 
@@ -111,42 +125,83 @@ impl TryFrom<&str> for Text {
     }
 }
 
-/// When a child that ended is started again.
-#[derive(Clone, Copy, Debug, PartialEq, Eq, Hash)]
-pub enum Restart {
-    Permanent,
-    Transient,
-    Temporary,
+/// Makes an enum whose variants are words of the formats, by which it is written and read.
+macro_rules! words {
+    ($(#[$about:meta])* $name:ident { $($(#[$doc:meta])* $variant:ident = $word:literal,)* }) => {
+        $(#[$about])*
+        #[derive(Clone, Copy, Debug, PartialEq, Eq, PartialOrd, Ord, Hash)]
+        pub enum $name {
+            $($(#[$doc])* $variant,)*
+        }
+
+        impl fmt::Display for $name {
+            fn fmt(&self, f: &mut fmt::Formatter<'_>) -> fmt::Result {
+                f.pad(match self { $($name::$variant => $word,)* })
+            }
+        }
+
+        impl FromStr for $name {
+            type Err = Fault;
+
+            fn from_str(word: &str) -> Result<$name, Fault> {
+                match word { $($word => Ok($name::$variant),)* _ => Err(Fault::BadLine) }
+            }
+        }
+    };
 }
 
-#[derive(Clone, Copy, Debug, PartialEq, Eq, Hash)]
-pub enum Kind {
-    Worker,
-    Supervisor,
+words! {
+    /// When a child that ended is started again.
+    Restart {
+        /// After each end.
+        Permanent = "permanent",
+        /// After a crash.
+        Transient = "transient",
+        /// Never.
+        Temporary = "temporary",
+    }
 }
 
-/// Which ends of significant children take the supervisor down.
-#[derive(Clone, Copy, Debug, PartialEq, Eq, Hash)]
-pub enum AutoShutdown {
-    Never,
-    Any,
-    All,
+words! {
+    /// What the children are counted as.
+    Kind {
+        /// The children do the work.
+        Worker = "worker",
+        /// The children are supervisors themselves.
+        Supervisor = "supervisor",
+    }
+}
+
+words! {
+    /// Which ends of significant children take the supervisor down.
+    AutoShutdown {
+        /// None.
+        Never = "never",
+        /// That of the first.
+        Any = "any",
+        /// That of the last.
+        All = "all",
+    }
 }
 
 /// The template of which all children are instances.
 #[derive(Clone, Copy, Debug, PartialEq, Eq, Hash)]
 pub struct Template {
+    /// When a child that ended is started again.
     pub restart: Restart,
+    /// What the children are counted as.
     pub kind: Kind,
     /// 0 to 1000 restarts are allowed ..
     pub intensity: u64,
     /// .. within 1 to 86,400 seconds.
     pub period: u64,
-    /// 1 to 65,536 children at a time.
+    /// 1 to 65,536 children at a time. The supervisor takes its memory for all of them at once.
     pub max: u64,
     /// 1 to 2^62 entries of the history.
     pub entries: u64,
+    /// Whether the end of a child can take the supervisor down.
     pub significant: bool,
+    /// Which ends of significant children do.
     pub auto_shutdown: AutoShutdown,
 }
 
@@ -169,35 +224,66 @@ impl Template {
     pub fn line(&self) -> String {
         format!("{self}\n")
     }
+
+    /// Returns the name of a field for which [`Fault::BadTemplate`] is answered, if there is one.
+    pub fn wrong_field(&self) -> Option<&'static str> {
+        let stands = !self.significant || self.restart != Restart::Permanent && self.auto_shutdown != AutoShutdown::Never;
+        let fields = [
+            ("intensity", self.intensity <= 1000),
+            ("period", (1..=86_400).contains(&self.period)),
+            ("max", (1..=65_536).contains(&self.max)),
+            ("entries", (1..=1 << 62).contains(&self.entries)),
+            ("significant", stands),
+        ];
+        fields.into_iter().find(|(_, fits)| !fits).map(|(field, _)| field)
+    }
 }
 
 /// Writes the first line of a history text of this template, without its line feed.
 impl fmt::Display for Template {
     fn fmt(&self, f: &mut fmt::Formatter<'_>) -> fmt::Result {
-        let restart = match self.restart {
-            Restart::Permanent => "permanent",
-            Restart::Transient => "transient",
-            Restart::Temporary => "temporary",
-        };
-        let kind = match self.kind {
-            Kind::Worker => "worker",
-            Kind::Supervisor => "supervisor",
-        };
+        let Template { restart, kind, intensity, period, max, auto_shutdown, .. } = self;
         let mark = if self.significant { "significant" } else { "plain" };
-        let auto_shutdown = match self.auto_shutdown {
-            AutoShutdown::Never => "never",
-            AutoShutdown::Any => "any",
-            AutoShutdown::All => "all",
-        };
-        write!(f, "history 2 {restart} {kind} {} {} {} {mark} {auto_shutdown}", self.intensity, self.period, self.max)
+        write!(f, "history 2 {restart} {kind} {intensity} {period} {max} {mark} {auto_shutdown}")
     }
+}
+
+/// Reads the first line of a history text, without its line feed.
+impl FromStr for Template {
+    type Err = Fault;
+
+    fn from_str(line: &str) -> Result<Template, Fault> {
+        let words: Vec<&str> = line.split(' ').collect();
+        let (restart, kind, limits, mark, auto_shutdown) = match words[..] {
+            ["history", "1", restart, kind, intensity, period, max] => (restart, kind, [intensity, period, max], "plain", "never"),
+            ["history", "2", restart, kind, intensity, period, max, mark, auto] => (restart, kind, [intensity, period, max], mark, auto),
+            _ => return Err(Fault::BadLine),
+        };
+        let significant = match mark {
+            "significant" => true,
+            "plain" => false,
+            _ => return Err(Fault::BadLine),
+        };
+        let [intensity, period, max] = [number(limits[0])?, number(limits[1])?, number(limits[2])?];
+        let (kind, auto_shutdown) = (kind.parse()?, auto_shutdown.parse()?);
+        Ok(Template { kind, intensity, period, significant, auto_shutdown, ..Template::new(restart.parse()?, max) })
+    }
+}
+
+/// Reads a number of the formats: digits without a leading zero.
+fn number(word: &str) -> Result<u64, Fault> {
+    let is_plain = word.bytes().all(|byte| byte.is_ascii_digit()) && (word == "0" || !word.starts_with('0'));
+    word.parse().ok().filter(|_| is_plain).ok_or(Fault::BadLine)
 }
 
 /// Why a child ended.
 #[derive(Clone, Copy, Debug, PartialEq, Eq, Hash)]
 pub enum Reason {
+    /// It was done.
     Normal,
+    /// It was asked to end.
     Shutdown,
+    /// It was asked to end, for this.
     ShutdownWith(Text),
     /// A crash. The text is not `normal`, not `shutdown` and does not begin with `shutdown:`.
     Other(Text),
@@ -208,38 +294,75 @@ impl Reason {
     pub fn crash() -> Reason {
         Reason::Other(Text::new("crash").expect("it is a text"))
     }
+
+    /// Returns a crash with the first 40 characters of a message, in which each that no text may have is a `_`. One that would
+    /// spell another reason begins with `crash:`.
+    pub fn from_error(message: impl fmt::Display) -> Reason {
+        let mut word: String = message.to_string().chars().map(|it| if it.is_ascii_graphic() { it } else { '_' }).collect();
+        if matches!(word.as_str(), "" | "normal" | "shutdown") || word.starts_with("shutdown:") {
+            word.insert_str(0, "crash:");
+        }
+        word.truncate(40);
+        Reason::Other(Text::new(&word).expect("it is a text"))
+    }
 }
 
+/// Writes the reason as a history text has it.
+impl fmt::Display for Reason {
+    fn fmt(&self, f: &mut fmt::Formatter<'_>) -> fmt::Result {
+        match self {
+            Reason::Normal => f.write_str("normal"),
+            Reason::Shutdown => f.write_str("shutdown"),
+            Reason::ShutdownWith(term) => write!(f, "shutdown:{term}"),
+            Reason::Other(word) => write!(f, "{word}"),
+        }
+    }
+}
+
+/// What is entered.
 #[derive(Clone, Copy, Debug, PartialEq, Eq, Hash)]
 pub enum Operation {
+    /// A child is to be started with this argument.
     Start(Text),
+    /// The child with this number ended by itself.
     Exit(u64, Reason),
+    /// The failed restart of the child with this number is to be tried again.
     Retry(u64),
+    /// The child with this number is to be ended.
     Terminate(u64),
+    /// All are to be ended.
     Stop,
 }
 
 /// What the start function answered.
 #[derive(Clone, Copy, Debug, PartialEq, Eq, Hash)]
 pub enum Answer {
+    /// The child runs.
     Running,
+    /// There is no child to run, which is no failure.
     Ignore,
+    /// The start failed, with a code of the caller's.
     Failed(u32),
 }
 
 /// An entry of a history.
 #[derive(Clone, Copy, Debug, PartialEq, Eq, Hash)]
 pub struct Entry {
+    /// Of whom it is.
     pub handle: u64,
+    /// How many that handle entered before.
     pub serial: u64,
     /// In seconds.
     pub moment: u64,
+    /// What is entered.
     pub operation: Operation,
+    /// What the start function answered, if it was asked.
     pub answer: Answer,
 }
 
 impl Entry {
     /// Returns the entry as a line of a history text, with its line feed.
+    /// It is refused if a reason's text is no word, or for memory.
     pub fn line(&self) -> Result<String, Fault> {
         let (mut room, mut len) = ([0; raw::MOST_LINE], 0);
         // SAFETY: the entry and the length are of their types, and the room has that many bytes.
@@ -249,129 +372,187 @@ impl Entry {
 
     /// Returns the entry of the first line of a text, which ends with a line feed, and the text after it.
     pub fn read(text: &str) -> Result<(Entry, &str), Fault> {
-        let mut entry = raw::Entry::ZEROS;
-        let mut len = 0;
+        let (mut entry, mut len) = (raw::zeros(), 0);
         // SAFETY: the text has that many bytes, and the other two are places of their types.
         Fault::of(unsafe { raw::sup_read_entry(text.as_ptr(), text.len(), &mut entry, &mut len) })?;
         Ok((Entry::told(&entry), &text[len as usize..]))
     }
 
+    /// Returns the entry by which the start function is asked.
+    pub(crate) fn asking(serial: u64, moment: u64, operation: Operation) -> Entry {
+        Entry { handle: 0, serial, moment, operation, answer: Answer::Ignore }
+    }
+
     pub(crate) fn spelled(&self) -> raw::Entry {
-        let mut entry = raw::Entry { handle: self.handle, serial: self.serial, moment: self.moment, ..raw::Entry::ZEROS };
-        match self.operation {
-            Operation::Start(argument) => entry.text = argument.spelled(),
-            Operation::Exit(number, reason) => {
-                (entry.operation, entry.number) = (1, number);
-                match reason {
-                    Reason::Normal => {}
-                    Reason::Shutdown => entry.reason = 1,
-                    Reason::ShutdownWith(term) => (entry.reason, entry.text) = (2, term.spelled()),
-                    Reason::Other(word) => (entry.reason, entry.text) = (3, word.spelled()),
-                }
-            }
-            Operation::Retry(number) => (entry.operation, entry.number) = (2, number),
-            Operation::Terminate(number) => (entry.operation, entry.number) = (3, number),
-            Operation::Stop => entry.operation = 4,
-        }
-        (entry.answer, entry.code) = match self.answer {
+        let (operation, number, reason, text) = match self.operation {
+            Operation::Start(argument) => (0, 0, 0, Some(argument)),
+            Operation::Exit(number, Reason::Normal) => (1, number, 0, None),
+            Operation::Exit(number, Reason::Shutdown) => (1, number, 1, None),
+            Operation::Exit(number, Reason::ShutdownWith(term)) => (1, number, 2, Some(term)),
+            Operation::Exit(number, Reason::Other(word)) => (1, number, 3, Some(word)),
+            Operation::Retry(number) => (2, number, 0, None),
+            Operation::Terminate(number) => (3, number, 0, None),
+            Operation::Stop => (4, 0, 0, None),
+        };
+        let (answer, code) = match self.answer {
             Answer::Running => (0, 0),
             Answer::Ignore => (1, 0),
             Answer::Failed(code) => (2, code),
         };
-        entry
+        let text = text.map_or_else(raw::zeros, Text::spelled);
+        raw::Entry { handle: self.handle, serial: self.serial, moment: self.moment, number, operation, reason, answer, code, text }
     }
 
     fn told(entry: &raw::Entry) -> Entry {
-        let text = || Text::told(&entry.text);
-        let reason = || match entry.reason {
-            0 => Reason::Normal,
-            1 => Reason::Shutdown,
-            2 => Reason::ShutdownWith(text()),
-            _ => Reason::Other(text()),
+        let (number, text) = (entry.number, Text::told(&entry.text));
+        let operation = match (entry.operation, entry.reason) {
+            (0, _) => Operation::Start(text),
+            (1, 0) => Operation::Exit(number, Reason::Normal),
+            (1, 1) => Operation::Exit(number, Reason::Shutdown),
+            (1, 2) => Operation::Exit(number, Reason::ShutdownWith(text)),
+            (1, _) => Operation::Exit(number, Reason::Other(text)),
+            (2, _) => Operation::Retry(number),
+            (3, _) => Operation::Terminate(number),
+            _ => Operation::Stop,
         };
-        Entry {
-            handle: entry.handle,
-            serial: entry.serial,
-            moment: entry.moment,
-            operation: match entry.operation {
-                0 => Operation::Start(text()),
-                1 => Operation::Exit(entry.number, reason()),
-                2 => Operation::Retry(entry.number),
-                3 => Operation::Terminate(entry.number),
-                _ => Operation::Stop,
-            },
-            answer: match entry.answer {
-                0 => Answer::Running,
-                1 => Answer::Ignore,
-                _ => Answer::Failed(entry.code),
-            },
-        }
+        let answer = match entry.answer {
+            0 => Answer::Running,
+            1 => Answer::Ignore,
+            _ => Answer::Failed(entry.code),
+        };
+        Entry { handle: entry.handle, serial: entry.serial, moment: entry.moment, operation, answer }
     }
 }
 
-/// What a supervisor replies to an entry.
-#[derive(Clone, Copy, Debug, PartialEq, Eq, Hash)]
-pub enum Reply {
-    Started(u64),
-    Undefined,
-    StartFailed(u32),
-    Full,
-    Removed(u64),
-    ShutDown(u64),
-    Restarted(u64, u64),
-    Restarting(u64, u32),
-    Ignored(u64),
-    Stray(u64),
-    NotFound,
-    Ended,
-    Stopped,
-    GaveUp,
-    Down,
+/// Writes the entry as a line of a history text, without its line feed.
+impl fmt::Display for Entry {
+    fn fmt(&self, f: &mut fmt::Formatter<'_>) -> fmt::Result {
+        f.write_str(self.line().map_err(|_| fmt::Error)?.trim_end())
+    }
 }
 
-impl Reply {
-    pub(crate) fn told(reply: &raw::Reply) -> Reply {
-        match reply.kind {
-            0 => Reply::Started(reply.number),
-            1 => Reply::Undefined,
-            2 => Reply::StartFailed(reply.code),
-            3 => Reply::Full,
-            4 => Reply::Removed(reply.number),
-            5 => Reply::ShutDown(reply.number),
-            6 => Reply::Restarted(reply.number, reply.next),
-            7 => Reply::Restarting(reply.number, reply.code),
-            8 => Reply::Ignored(reply.number),
-            9 => Reply::Stray(reply.number),
-            10 => Reply::NotFound,
-            11 => Reply::Ended,
-            12 => Reply::Stopped,
-            13 => Reply::GaveUp,
-            _ => Reply::Down,
-        }
+/// Reads a line of a history text, without its line feed.
+impl FromStr for Entry {
+    type Err = Fault;
+
+    fn from_str(line: &str) -> Result<Entry, Fault> {
+        Entry::read(&format!("{line}\n")).and_then(|(entry, rest)| if rest.is_empty() { Ok(entry) } else { Err(Fault::BadLine) })
     }
+}
+
+/// Makes the replies: the kind's number in C, its fields, and its text.
+macro_rules! replies {
+    ($($(#[$doc:meta])* $kind:literal $name:ident $(($($field:ident: $type:ty),*))? = $text:literal,)*) => {
+        /// What a supervisor replies to an entry: numbers are of children, and codes the start function's.
+        #[derive(Clone, Copy, Debug, PartialEq, Eq, Hash)]
+        #[must_use = "the supervisor may have given up"]
+        #[non_exhaustive]
+        pub enum Reply {
+            $($(#[$doc])* $name $(($($type),*))?,)*
+        }
+
+        impl Reply {
+            pub(crate) fn told(reply: &raw::Reply) -> Reply {
+                match reply.kind {
+                    $($kind => Reply::$name $(($(reply.$field),*))?,)*
+                    kind => unreachable!("reply {kind} of libsapyguendo"),
+                }
+            }
+        }
+
+        /// Writes the reply as `supload script` does.
+        impl fmt::Display for Reply {
+            fn fmt(&self, f: &mut fmt::Formatter<'_>) -> fmt::Result {
+                match self {
+                    $(Reply::$name $(($($field),*))? => write!(f, $text),)*
+                }
+            }
+        }
+    };
+}
+
+replies! {
+    /// The child was started under this number.
+    0 Started(number: u64) = "ok {number}",
+    /// The start function ignored the start.
+    1 Undefined = "ok undefined",
+    /// The start function failed, with this code.
+    2 StartFailed(code: u32) = "error start_failed {code}",
+    /// There are as many children as there may be.
+    3 Full = "error full",
+    /// The child ended, and is not started again.
+    4 Removed(number: u64) = "removed {number}",
+    /// The end of this significant child took the supervisor down.
+    5 ShutDown(number: u64) = "shut_down {number}",
+    /// The first child was started again, as the second.
+    6 Restarted(number: u64, next: u64) = "restarted {number} {next}",
+    /// The restart of this child failed with this code, and waits for a retry.
+    7 Restarting(number: u64, code: u32) = "restarting {number} {code}",
+    /// The start function ignored the restart of this child, which is not listed any more.
+    8 Ignored(number: u64) = "ignored {number}",
+    /// No child with this number runs.
+    9 Stray(number: u64) = "stray {number}",
+    /// No child with this number is listed, or waits for a retry.
+    10 NotFound = "error not_found",
+    /// The child was ended.
+    11 Ended = "ok",
+    /// The supervisor was stopped.
+    12 Stopped = "stopped",
+    /// There were more restarts within the period than are allowed: the supervisor went down.
+    13 GaveUp = "gave_up",
+    /// The supervisor is down.
+    14 Down = "error down",
 }
 
 /// How many children there are.
 #[derive(Clone, Copy, Debug, PartialEq, Eq, Hash)]
 pub struct Counts {
+    /// How many templates: 1.
     pub specs: u64,
+    /// How many children run.
     pub active: u64,
+    /// How many are listed, if they are supervisors.
     pub supervisors: u64,
+    /// How many are listed, if they are workers.
     pub workers: u64,
 }
 
 /// A listed child.
 #[derive(Clone, Copy, Debug, PartialEq, Eq, Hash)]
 pub struct Row {
+    /// Its number.
     pub number: u64,
     /// Whether it runs, or waits for another try.
     pub is_running: bool,
+    /// Its argument.
     pub arg: Text,
+}
+
+impl Row {
+    pub(crate) fn seen(row: &raw::Row) -> Seen<Option<Row>> {
+        match row.status {
+            0 => Seen::Up(None),
+            3 => Seen::Down,
+            status => Seen::Up(Some(Row { number: row.number, is_running: status == 1, arg: Text::told(&row.arg) })),
+        }
+    }
 }
 
 /// What a query answers: a value while the supervisor is up.
 #[derive(Clone, Copy, Debug, PartialEq, Eq, Hash)]
 pub enum Seen<T> {
+    /// The value.
     Up(T),
+    /// The supervisor is down.
     Down,
+}
+
+impl<T> Seen<T> {
+    /// Returns the value, if the supervisor is up.
+    pub fn up(self) -> Option<T> {
+        match self {
+            Seen::Up(value) => Some(value),
+            Seen::Down => None,
+        }
+    }
 }

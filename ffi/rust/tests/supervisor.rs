@@ -163,7 +163,7 @@ fn one_that_is_dropped_gives_its_memory_back() {
     let open = || {
         for _ in 0..2_000 {
             let mut sup = Supervisor::open(&Template::new(Restart::Permanent, 1000), running).unwrap();
-            sup.start_child(0, "a").unwrap();
+            let _ = sup.start_child(0, "a").unwrap();
             sup.which().unwrap();
         }
         resident()

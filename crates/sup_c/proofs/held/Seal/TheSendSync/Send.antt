@@ -11,8 +11,8 @@ use Rattle.std.proofs.Crossing as heap
 use Rattle.std.specs.Global.{Global}
 use Rattle.std_alloc.proofs.SendSync.{quiet, lies}
 use Rattle.std_heap.proofs.Global.TheSendSync as handle
-use Rattle.sup_c.specs.contracts.held.Shelf as shelf
-use Rattle.sup_c.proofs.held.Shelf.TheSendSync as shelf_crosses
+use Rattle.sup_c.specs.contracts.shelf.Shelf as shelf
+use Rattle.sup_c.proofs.shelf.Shelf.TheSendSync as shelf_crosses
 use Rattle.sup_c.specs.Seals.{seal_owns}
 use Rattle.sup_c.specs.contracts.held.Seal.{the_row, the_type}
 

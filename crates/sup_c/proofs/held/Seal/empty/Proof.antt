@@ -38,7 +38,8 @@ use Rattle.sup_types.specs.declared.template.AutoShutdown.TheVariants.{Never}
 use Rattle.sup_types.specs.declared.template.Template.{Template}
 use Rattle.sup_types.specs.declared.view.Seen.TheVariants.{Down}
 use Rattle.sup_core.specs.State.{State}
-use Rattle.sup_c.specs.declared.held.Shelf.{Shelf}
+use Rattle.indexmap.specs.Layout.{hash_map}
+use Rattle.sup_c.specs.declared.shelf.Shelf.{Shelf}
 use Rattle.sup_c.specs.contracts.held.Seal as Seal
 use Rattle.sup_c.proofs.AsBox.{E}
 use Rattle.sup_c.specs.contracts.held.Seal.empty as F
@@ -53,7 +54,7 @@ abbrev stayed : Stays (F.ended).signature.params (F.ended).kept
 stayed = (stay_dropped From yes, tt)
 
 -- some shelf: nothing is said of that of an empty seal
-template : Template
+abbrev template : Template
 template =
     record {
       restart = Permanent;
@@ -68,11 +69,11 @@ template =
       fitting = refl;
     }
 
-state : State
+abbrev state : State
 state = record { template = template; rows = []; made = 0; latest = 0; attempts = []; down = true; steps = 0 }
 
 some_shelf : Shelf
-some_shelf = record { sup = state; listed = Down }
+some_shelf = record { sup = state; template = template; listed = Down; left = Down; tokens = hash_map [] (record { initial = record { state = 0 } }) 0; tied = refl }
 
 module _ {M : Type 1} {𝓤 : Ura M} (𝓛 : Logic 𝓤) (at_mem : Memory → SProp 𝓤) (run : Routine → Fun 𝓤) (𝓣 : Tables 𝓤 𝓛.H) where
   open 𝓛 use {H}
