@@ -135,6 +135,8 @@ uint32_t sup_version(void);
  * RESTART is permanent, transient or temporary, and KIND worker or supervisor. INTENSITY, 0 to 1000, restarts are allowed within
  * PERIOD, 1 to 86400, seconds. There are at most MAX, 1 to 65536, children at a time. MARK is significant or plain, and AUTO never,
  * any or all. `entries`, 1 to SUP_MOST_ENTRIES, is how many entries there are at most. What follows the first line is not read.
+ * It takes memory for MAX children at once, some 200 bytes for each: 13 MB of addresses for 65,536, of which one without children has
+ * touched 1.1 MB. Choose MAX by need.
  * Answers SUP_BAD_LINE, SUP_BAD_TEMPLATE, SUP_OUT_OF_MEMORY or SUP_BAD_HANDLE. */
 uint32_t sup_open(struct sup *sup, const uint8_t *text, size_t size, uint64_t entries);
 

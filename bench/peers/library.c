@@ -80,7 +80,7 @@ static uint64_t moment;
 static void library_crashes(uint64_t rows) {
     struct sup_reply reply;
     for (uint64_t i = 0; i < TURNS; i++) {
-        uint64_t token, *number = &numbers[i % rows];
+        uint64_t token = 0, *number = &numbers[i % rows];
         struct sup_entry entry = sup_exit(moment = moment + (i % 500 == 0), *number, SUP_OTHER, "crash");
         if (sup_update_child(&sup, &entry, &token, runs, NULL, &reply) || reply.kind != SUP_RESTARTED) abort();
         *number = reply.next;

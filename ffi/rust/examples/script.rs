@@ -1,6 +1,6 @@
 //! Answers a script (docs/FORMATS.md) as `supload script` does, by the library: standard input to standard output, a fault to
 //! standard error. With a file's name, it writes the history there as a history text, which `supload replay` answers likewise.
-use sapyguendo::{Answer, AutoShutdown, Entry, Fault, Kind, Reply, Restart, Seen, Supervisor, Template, Text};
+use sapyguendo::{Answer, Entry, Fault, Seen, Supervisor, Template, Text};
 use std::fmt::Write as _;
 use std::io::{Read, Write};
 use std::process::ExitCode;
@@ -10,36 +10,11 @@ fn number(word: &str) -> Result<u64, Fault> {
     if is_plain { word.parse().map_err(|_| Fault::BadLine) } else { Err(Fault::BadLine) }
 }
 
+/// Reads a script's header, which is a history's first line but for the word with which it begins.
 fn template(line: &str) -> Result<Template, Fault> {
-    let words: Vec<&str> = line.split(' ').collect();
-    if words[0] != "sup" || !matches!(words.len(), 6 | 8) {
-        return Err(Fault::BadLine);
-    }
-    let restart = match words[1] {
-        "permanent" => Restart::Permanent,
-        "transient" => Restart::Transient,
-        "temporary" => Restart::Temporary,
-        _ => return Err(Fault::BadLine),
-    };
-    let kind = match words[2] {
-        "worker" => Kind::Worker,
-        "supervisor" => Kind::Supervisor,
-        _ => return Err(Fault::BadLine),
-    };
-    let (intensity, period, max) = (number(words[3])?, number(words[4])?, number(words[5])?);
-    let (mark, auto) = if words.len() == 8 { (words[6], words[7]) } else { ("plain", "never") };
-    let significant = match mark {
-        "significant" => true,
-        "plain" => false,
-        _ => return Err(Fault::BadLine),
-    };
-    let auto_shutdown = match auto {
-        "never" => AutoShutdown::Never,
-        "any" => AutoShutdown::Any,
-        "all" => AutoShutdown::All,
-        _ => return Err(Fault::BadLine),
-    };
-    Ok(Template { kind, intensity, period, significant, auto_shutdown, ..Template::new(restart, max) })
+    let words = line.strip_prefix("sup ").ok_or(Fault::BadLine)?;
+    let version = if words.split(' ').count() == 5 { 1 } else { 2 };
+    format!("history {version} {words}").parse()
 }
 
 /// The start function of scripts.
@@ -54,26 +29,6 @@ fn start(argument: &Text, moment: u64) -> Answer {
         "fail" => Answer::Failed(1),
         _ if gap => Answer::Failed(1),
         _ => Answer::Running,
-    }
-}
-
-fn text_of(reply: Reply) -> String {
-    match reply {
-        Reply::Started(number) => format!("ok {number}"),
-        Reply::Undefined => "ok undefined".into(),
-        Reply::StartFailed(code) => format!("error start_failed {code}"),
-        Reply::Full => "error full".into(),
-        Reply::Removed(number) => format!("removed {number}"),
-        Reply::ShutDown(number) => format!("shut_down {number}"),
-        Reply::Restarted(number, next) => format!("restarted {number} {next}"),
-        Reply::Restarting(number, code) => format!("restarting {number} {code}"),
-        Reply::Ignored(number) => format!("ignored {number}"),
-        Reply::Stray(number) => format!("stray {number}"),
-        Reply::NotFound => "error not_found".into(),
-        Reply::Ended => "ok".into(),
-        Reply::Stopped => "stopped".into(),
-        Reply::GaveUp => "gave_up".into(),
-        Reply::Down => "error down".into(),
     }
 }
 
@@ -118,7 +73,7 @@ fn answer(sup: &mut Session, line: &str, out: &mut String, history: &mut String)
             let read = operation(verb, rest)?;
             let (reply, entry) = sup.update(read.moment, read.operation)?;
             history.push_str(&entry.line()?);
-            let _ = writeln!(out, "{}", text_of(reply));
+            let _ = writeln!(out, "{reply}");
         }
     }
     Ok(())

@@ -58,12 +58,12 @@ impl Asked {
 /// A supervisor that keeps a value of the caller's for each child, such as the means to end it.
 ///
 /// ```
-/// use sapyguendo::{Begun, Children, Operation, Restart, Template, Text};
+/// use sapyguendo::{Begun, Children, Operation, Reply, Restart, Template, Text};
 ///
 /// let mut children = Children::open(&Template::new(Restart::Transient, 10))?;
 /// let start = Operation::Start(Text::new("session-17")?);
 /// let done = children.update(0, start, |argument, _moment| Begun::Running(argument.len())).unwrap();
-/// assert_eq!(children.get(1), Some(&10));
+/// assert_eq!((done.reply, children.get(1).copied()), (Reply::Started(1), Some(10)));
 /// # Ok::<(), sapyguendo::Fault>(())
 /// ```
 pub struct Children<T> {

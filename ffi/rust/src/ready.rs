@@ -1,6 +1,6 @@
 //! A supervisor that begins, restarts and ends its children itself.
 use crate::{Begun, Children, Fault, Operation, Reason, Reply, Template, Text};
-use std::collections::HashMap;
+use std::collections::{HashMap, VecDeque};
 use std::fmt::Display;
 use std::panic::{catch_unwind, AssertUnwindSafe};
 use std::sync::atomic::{AtomicBool, Ordering};
@@ -75,13 +75,15 @@ pub struct Ready<H: Host> {
     exits: (Sender<(u64, Reason)>, Receiver<(u64, Reason)>),
     // The children that wait for another try, and from which moment on.
     retries: Vec<(u64, u64)>,
+    // What is to be entered: the exit of a birth, or a retry of a number.
+    due: VecDeque<(u64, Option<Reason>)>,
 }
 
 impl<H: Host> Ready<H> {
     /// Opens a supervisor without children, or answers [`Fault::BadTemplate`] or [`Fault::OutOfMemory`].
     pub fn open(template: &Template, host: H) -> Result<Self, Fault> {
         let children = Children::open(template)?;
-        Ok(Ready { host, children, numbers: HashMap::new(), births: 0, exits: channel(), retries: Vec::new() })
+        Ok(Ready { host, children, numbers: HashMap::new(), births: 0, exits: channel(), retries: Vec::new(), due: VecDeque::new() })
     }
 
     /// Begins a child with this argument.
@@ -100,24 +102,31 @@ impl<H: Host> Ready<H> {
     }
 
     /// Enters the exits that were reported and the retries that are due, and returns the replies. It waits at most this long for
-    /// an exit. A restart that failed is tried again from the next second on.
+    /// an exit. A restart that failed is tried again from the next second on. What a fault keeps out is entered by the next turn.
     pub fn turn(&mut self, wait: Duration) -> Result<Vec<Reply>, Fault> {
-        let mut replies = Vec::new();
-        let mut next = self.exits.1.recv_timeout(wait).ok();
+        let mut next = if self.due.is_empty() { self.exits.1.recv_timeout(wait).ok() } else { None };
         while let Some((birth, reason)) = next {
-            // (one that was terminated has no number)
-            if let Some(number) = self.numbers.remove(&birth) {
-                replies.push(self.enter(Operation::Exit(number, reason))?);
-            }
+            self.due.push_back((birth, Some(reason)));
             next = self.exits.1.try_recv().ok();
         }
         let now = self.host.now();
-        for (moment, number) in std::mem::take(&mut self.retries) {
-            if moment > now {
-                self.retries.push((moment, number));
-            } else {
-                replies.push(self.enter(Operation::Retry(number))?);
+        while let Some(at) = self.retries.iter().position(|(moment, _)| *moment <= now) {
+            self.due.push_back((self.retries.remove(at).1, None));
+        }
+        let mut replies = Vec::new();
+        while let Some((of, reason)) = self.due.front().copied() {
+            let operation = match reason {
+                None => Some(Operation::Retry(of)),
+                // (one that was terminated has no number)
+                Some(reason) => self.numbers.get(&of).map(|number| Operation::Exit(*number, reason)),
+            };
+            match operation.map(|operation| self.enter(operation)) {
+                Some(Ok(reply)) => replies.push(reply),
+                Some(Err(fault)) if replies.is_empty() => return Err(fault),
+                Some(Err(_)) => break,
+                None => {}
             }
+            self.due.pop_front();
         }
         Ok(replies)
     }
@@ -135,8 +144,8 @@ impl<H: Host> Ready<H> {
     fn enter(&mut self, operation: Operation) -> Result<Reply, Fault> {
         self.births += 1;
         let (birth, moment, host) = (self.births, self.host.now(), &mut self.host);
-        let exit = Exit { birth, to: Some(self.exits.0.clone()) };
-        let entered = self.children.update(moment, operation, |argument, _| match host.begin(argument, exit) {
+        let exits = &self.exits.0;
+        let entered = self.children.update(moment, operation, |argument, _| match host.begin(argument, Exit { birth, to: Some(exits.clone()) }) {
             Begun::Running(child) => Begun::Running((birth, child)),
             Begun::Ignore => Begun::Ignore,
             Begun::Failed(code) => Begun::Failed(code),

@@ -1,5 +1,5 @@
 //! The ready supervisor: over a host that is a table, and over threads.
-use sapyguendo::{Begun, Exit, Host, Ready, Reason, Reply, Restart, Stop, Template, Text, Threads};
+use sapyguendo::{Begun, Exit, Fault, Host, Ready, Reason, Reply, Restart, Stop, Template, Text, Threads};
 use std::cell::{Cell, RefCell};
 use std::rc::Rc;
 use std::sync::atomic::{AtomicUsize, Ordering};
@@ -95,6 +95,30 @@ fn a_restart_that_failed_is_tried_again() {
     assert_eq!(sup.turn(NO_WAIT), Ok(vec![Reply::Restarted(1, 2)]));
     table.now.set(9);
     assert_eq!(sup.turn(NO_WAIT), Ok(vec![]));
+}
+
+#[test]
+fn what_can_not_be_entered_is_not_lost() {
+    let (mut sup, table) = opened(Template { entries: 3, ..Template::new(Restart::Temporary, 9) });
+    assert_eq!(sup.start("a"), Ok(Reply::Started(1)));
+    assert_eq!(sup.start("b"), Ok(Reply::Started(2)));
+    table.exit(0, Reason::Normal);
+    table.exit(1, Reason::Normal);
+    assert_eq!(sup.turn(NO_WAIT), Ok(vec![Reply::Removed(1)]));
+    for _ in 0..2 {
+        assert_eq!(sup.turn(NO_WAIT), Err(Fault::HistoryFull));
+    }
+    assert_eq!((sup.get(2).copied(), sup.get(1)), (Some(1), None));
+}
+
+#[test]
+fn a_turn_without_an_exit_waits() {
+    let (mut sup, _table) = opened(Template::new(Restart::Temporary, 9));
+    assert_eq!(sup.start("a"), Ok(Reply::Started(1)));
+    assert_eq!(sup.terminate(1), Ok(Reply::Ended));
+    let began = Instant::now();
+    assert_eq!(sup.turn(Duration::from_millis(30)), Ok(vec![]));
+    assert!(began.elapsed() >= Duration::from_millis(30));
 }
 
 #[test]
