@@ -27,26 +27,21 @@ pub trait Host {
 /// Reports the end of a child, once. If it is dropped before, the child crashed.
 pub struct Exit {
     birth: u64,
-    to: Option<Sender<(u64, Reason)>>,
+    reason: Reason,
+    to: Sender<(u64, Reason)>,
 }
 
 impl Exit {
     /// Reports that the child ended for this reason.
     pub fn report(mut self, reason: Reason) {
-        self.send(reason);
-    }
-
-    fn send(&mut self, reason: Reason) {
-        if let Some(to) = self.to.take() {
-            // (a supervisor that is gone needs no report)
-            let _ = to.send((self.birth, reason));
-        }
+        self.reason = reason;
     }
 }
 
 impl Drop for Exit {
     fn drop(&mut self) {
-        self.send(Reason::crash());
+        // (a supervisor that is gone needs no report)
+        let _ = self.to.send((self.birth, self.reason));
     }
 }
 
@@ -144,8 +139,8 @@ impl<H: Host> Ready<H> {
     fn enter(&mut self, operation: Operation) -> Result<Reply, Fault> {
         self.births += 1;
         let (birth, moment, host) = (self.births, self.host.now(), &mut self.host);
-        let exits = &self.exits.0;
-        let entered = self.children.update(moment, operation, |argument, _| match host.begin(argument, Exit { birth, to: Some(exits.clone()) }) {
+        let exit = || Exit { birth, reason: Reason::crash(), to: self.exits.0.clone() };
+        let entered = self.children.update(moment, operation, |argument, _| match host.begin(argument, exit()) {
             Begun::Running(child) => Begun::Running((birth, child)),
             Begun::Ignore => Begun::Ignore,
             Begun::Failed(code) => Begun::Failed(code),
