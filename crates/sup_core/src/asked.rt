@@ -3,19 +3,15 @@ ghost use Rattle.std.specs.Prelude.{◌≡◌, None};
 
 use sup_types::Text;
 
-/// Says at which index of the table a child was found, if it was looked up. It is a hint: no reply depends on it.
-///
-/// Supervisors after the same history have each child at the same index, so what one of them found, the others need not
-/// look up.
+/// Says at which index of the table a child was found, if it was looked up. It is a hint: no reply depends on it. Supervisors after the same
+/// history have each child at the same index, so what one of them found, the others need not look up.
 #[derive(Clone, Copy, Debug)]
 pub struct CachedIndex {
     index: usize,
 }
 
-/// Says whether the start function is to be asked, and about which argument.
-///
-/// It also says where a child was found that may be restarted, so that the entry with the answer needs no second
-/// look-up.
+/// Says whether the start function is to be asked, about which argument, and where a child that may be restarted was found, so that the
+/// entry with the answer needs no second look-up.
 #[derive(Clone, Copy, Debug)]
 pub struct Asked {
     /// The argument whose start decides the reply, if there is one.

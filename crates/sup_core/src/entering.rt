@@ -11,8 +11,8 @@ use std::alloc::Allocator;
 use sup_types::{Answer, Entry, FixedStarter, Operation, Reply, Text};
 
 impl<A: Allocator + Copy> Sup<A> {
-    /// Enters the next entry of the history, and returns the reply to it. It is never refused: it may be called only
-    /// while the history is not full (see [`Sup::is_spent`]).
+    /// Enters the next entry of the history, and returns the reply to it. It is never refused: it may be called only while the history is
+    /// not full (see [`Sup::is_spent`]).
     ///
     /// After [`Sup::asks`] for this entry, [`Sup::step_at`] takes one look-up less.
     pub fn step(&mut self, entry: &Entry) -> Reply
@@ -27,9 +27,9 @@ impl<A: Allocator + Copy> Sup<A> {
         self.apply_at(entry.moment, &entry.operation, entry.answer, NO_INDEX)
     }
 
-    /// Enters an entry as [`Sup::step`] does. The child is looked for at this index first, and by its number only if it
-    /// is not there. So the reply is right for any index: that of [`Sup::asks`] for this entry, or the [`Sup::cached_index`]
-    /// that another supervisor had after it.
+    /// Enters an entry as [`Sup::step`] does. The child is looked for at this index first, and by its number only if it is not there. So
+    /// the reply is right for any index: that of [`Sup::asks`] for this entry, or the [`Sup::cached_index`] that another supervisor had
+    /// after it.
     pub fn step_at(&mut self, entry: &Entry, cached_index: CachedIndex) -> Reply
         requires { self.old.steps < self.old.template.entries }
         ensures reply { result ≡ reply_to self.old entry.now }
@@ -45,9 +45,8 @@ impl<A: Allocator + Copy> Sup<A> {
         )
     }
 
-    /// Enters an operation at this moment, in seconds, as the next entry, with the start function's answer if it is
-    /// asked, and returns the reply. The start function is asked at most once, and the child is looked up once. Which
-    /// handle the entry is of makes no difference.
+    /// Enters an operation at this moment, in seconds, as the next entry, with the start function's answer if it is asked, and returns the
+    /// reply. The start function is asked at most once, and the child is looked up once. Which handle the entry is of makes no difference.
     pub fn update<S: FixedStarter>(
         &mut self,
         starter: &S,

@@ -1,23 +1,19 @@
-//! A supervisor of one thread, whose children are all instances of one template, by the rules of OTP's strategy
-//! `simple_one_for_one`.
+//! A supervisor of one thread, whose children are all instances of one template, by the rules of OTP's strategy `simple_one_for_one`.
 //!
-//! What the layer above may rely on: the rules are the definitions in `specs/` that compute each reply and each answer anew
-//! from the whole history (the reference semantics: `reply_after`, `which`, `count`, `child`). For every history that a
-//! [`Sup`] is after, [`Sup::step`] answers the reply of the reference semantics, and the supervisor is then after the history
-//! with the entry; every query answers as the reference semantics does. A step needs no memory, and is never refused while
-//! the history is not full: the supervisor makes room at first for all that its template allows.
+//! What the layer above may rely on: the rules are the definitions in `specs/` that compute each reply and each answer anew from the whole
+//! history (the reference semantics: `reply_after`, `which`, `count`, `child`). After every history [`Sup::step`] and every query answer as
+//! the reference semantics does. A step needs no memory, and is never refused while the history is not full: the supervisor makes room at
+//! first for all that its template allows.
 //!
-//! It reads no clock: the caller gives the moment. [`Sup::update`] asks the start function itself, when the rules ask
-//! it:
+//! It reads no clock: the caller gives the moment. [`Sup::update`] asks the start function itself, when the rules ask it:
 //!
 //! ```text
 //! let mut sup = Sup::new(alloc, template)?;
 //! let reply = sup.update(&starter, moment, &operation);
 //! ```
 //!
-//! A caller that keeps the entries asks itself, when [`Sup::asks`] says so, and hands the answer in with the entry.
-//! [`Sup::step_at`] continues from what `asks` found, so a restart takes one look-up; [`Sup::step`] looks for itself,
-//! such as for an entry of a history.
+//! A caller that keeps the entries asks itself, when [`Sup::asks`] says so, and hands the answer in with the entry. [`Sup::step_at`]
+//! continues from what `asks` found, so a restart takes one look-up; [`Sup::step`] looks for itself, such as for an entry of a history.
 //!
 //! ```text
 //! let asked = sup.asks(&operation, moment);
@@ -28,9 +24,6 @@
 //! let entry = Entry { handle: 0, serial: sup.stamp(), moment, operation, answer };
 //! let reply = sup.step_at(&entry, asked.cached_index);
 //! ```
-//!
-//! `supervisor` has the supervisor, `entering` how entries come in, `asked` what it asks of its caller, `table` its rows by
-//! their numbers, `sequential` the hash of a number, and `child` what is kept of one.
 #![tactic(auto)]
 
 mod asked;

@@ -1,7 +1,5 @@
-//! A hash of numbers under which neighbours lie close together.
-//!
-//! Numbers are made one after another. Four neighbours share a group of the map's index, and the next four lie in the group after it. So
-//! what is made in turn is read from lines in turn, and each group has as many of a run of numbers as any other.
+//! A hash of numbers under which neighbours lie close together: four share a group of the map's index, and the next four lie in the group
+//! after it. So what is made in turn is read from lines in turn, and each group has as many of a run of numbers as any other.
 ghost use Rattle.std.specs.Prelude.{◌≡◌};
 ghost use Rattle.sup_core.specs.SequentialHasher.{sequential_hash};
 

@@ -1,8 +1,8 @@
 //! The supervisor: its entries and its queries.
 //!
 //! A public function that only calls a private one (`counts` calls `count`, `child` calls `find`, `rows` calls `copied`, `step` calls
-//! `apply_at`) is proved of the whole history, by lemmas on the reference semantics. The private one is proved of the supervisor's
-//! state, by its code. So no proof walks through code and history at once.
+//! `apply_at`) is proved of the whole history, by lemmas on the reference semantics. The private one is proved of the supervisor's state,
+//! by its code. So no proof walks through code and history at once.
 ghost use Rattle.std.specs.Prelude.{◌≡◌, ◌==◌, ◌<◌, ◌≤◌, ℕ, ◌+◌, List, [], ◌∷◌, ◌++◌, None, IsTrue, IfOk, IsOk, ◌⊎◌, MatchOption, false, true, length, if◌then◌else◌};
 ghost use Rattle.std.specs.List.{list_any};
 ghost use Rattle.sup_window.specs.Attempts.{remembered};
@@ -26,8 +26,8 @@ use sup_types::{
 };
 use sup_window::Window;
 
-/// Applies the rules of `simple_one_for_one` to one entry after another. It has room for the children and the attempts
-/// that its template allows.
+/// Applies the rules of `simple_one_for_one` to one entry after another. It has room for the children and the attempts that its template
+/// allows.
 #[derive(Drop)]
 pub struct Sup<A: Allocator = Global> {
     template: Template,
@@ -178,8 +178,8 @@ impl<A: Allocator + Copy> Sup<A> {
         self.asked_argument(operation, moment).arg
     }
 
-    /// Returns what an entry with this operation and moment asks: the argument whose start decides the reply, if there is one. The
-    /// entry with the answer is then entered by [`Sup::step_at`], which does not look for the child again.
+    /// Returns what an entry with this operation and moment asks: the argument whose start decides the reply, if there is one. The entry
+    /// with the answer is then entered by [`Sup::step_at`], which does not look for the child again.
     pub fn asks(&self, operation: &Operation, moment: u64) -> Asked
         ensures value { result.arg ≡ asked_argument self.now operation.now moment }
         ensures history { (history : List Entry) → IsAfter self.now history
@@ -223,8 +223,8 @@ impl<A: Allocator + Copy> Sup<A> {
         self.table.asked_of(status, number)
     }
 
-    /// Returns where the child was that the last entry removed or left waiting. A supervisor that lacks just this entry
-    /// has it there, so that [`Sup::step_at`] need not look it up.
+    /// Returns where the child was that the last entry removed or left waiting. A supervisor that lacks just this entry has it there, so
+    /// that [`Sup::step_at`] need not look it up.
     pub fn cached_index(&self) -> CachedIndex {
         CachedIndex::at(self.table.last_index())
     }

@@ -1,9 +1,9 @@
 //! The rows of a supervisor, found by their numbers.
 //!
-//! The children are in a map from their numbers. Numbers only grow, so the map's order is that of the numbers. A child
-//! that ended leaves its number there without a child: the map does not promise that what is taken out gives its room
-//! back. If no room is left, or clearly more than half of the numbers have no child, the listed children move to the
-//! front in their order, and the rest goes. That needs no memory.
+//! The children are in a map from their numbers. Numbers only grow, so the map's order is that of the numbers. A child that ended leaves
+//! its number there without a child: the map does not promise that what is taken out gives its room back. If no room is left, or clearly
+//! more than half of the numbers have no child, the listed children move to the front in their order, and the rest goes. That needs no
+//! memory.
 ghost use Rattle.std.specs.Prelude.{true, false, ◌≡◌, ◌≤◌, ◌<◌, ◌+◌, ◌*◌, ◌^◌, ℕ, [], ◌∷◌, ◌++◌, IfOk, None, Some, map, length, nat_eq, is_some, slice_index_or, slice_get, take, MatchBool, MatchOption, IsOk, IsSome, IfSome, IfNone, if◌then◌else◌};
 ghost use Rattle.std.specs.List.{list_any};
 ghost use Rattle.std.specs.Vec.{vec_capacity};
@@ -262,8 +262,8 @@ fn copy_listed<A: Allocator>(children: &Children<A>, copy: &mut Vec<Row, A>)
     }
 }
 
-/// Makes room for one more number. Those without a child are given back once they are as many as the listed children
-/// and some more, so that what is read lies close together if the children are few.
+/// Makes room for one more number. Those without a child are given back once they are as many as the listed children and some more, so that
+/// what is read lies close together if the children are few.
 fn make_room<A: Allocator>(children: &mut Children<A>, max: usize, live: usize)
     requires unique { IsUnique nat_eq children.old }
     requires live { live ≡ length (listed children.old.entries) }

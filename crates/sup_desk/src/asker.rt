@@ -12,9 +12,8 @@ use std::marker::{Model, PhantomData};
 use sup_log::{Gone, Lens, Ticket, View};
 use sup_types::{Counts, Row, Seen, Template};
 
-/// Asks the desk that `N` names, and makes no update. It carries the front that it has seen. Each query is answered at one front that
-/// begins with that one and is then what it has seen. It borrows nothing, and may go to any thread. Its queries take no lock and never
-/// wait: each is proved to return, `inspect` if its function does.
+/// Asks the desk that `N` names: each query is answered at one front that begins with what the asker has seen, and is then what it has seen.
+/// It borrows nothing, and may go to any thread. Its queries take no lock and are proved to return, `inspect` if its function does.
 #[derive(Drop)]
 pub struct Asker<N: Name> {
     pub(crate) lens: Lens,
@@ -55,8 +54,7 @@ impl<N: Name> Asker<N> {
         }
     }
 
-    /// Returns the length of its front, in entries. The front is what the publications make that it has seen, so it ends with a whole one.
-    /// It enters nothing.
+    /// Returns the length of its front, in entries. The front ends with a whole publication. It enters nothing.
     pub fn front(&self) -> u64
         ensures front { result ≡ length self.now.front }
         ensures whole { self.now.front ≡ history_of self.now.editions }
@@ -84,10 +82,7 @@ impl<N: Name> Asker<N> {
         self.inspect(|view| view.counts())
     }
 
-    /// Returns the listed child with this number at such a front.
-    ///
-    /// # Errors
-    /// `Gone` if the desk has ended.
+    /// Returns the listed child with this number at such a front, with the error of [`Asker::count_children`].
     pub fn child(&mut self, number: u64) -> Result<Seen<Option<Row>>, Gone>
         ensures front { IsPrefix self.old.front self.new.front }
         ensures editions { IsPrefix self.old.editions self.new.editions }

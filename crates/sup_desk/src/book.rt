@@ -18,8 +18,7 @@ use sup_core::Asked;
 use sup_log::{Press, Ready, Ticket};
 use sup_types::{Answer, Entry, Operation, OutOfMemory, Reply, Starter};
 
-/// The press, which has stepped all that is pending, the journal and its fault, if it broke off, and the session registry of the handles,
-/// on which all that is published was entered.
+/// The press, which has stepped all that is pending, the journal and its fault, and the session registry, with all that is published.
 pub struct Transaction<N: Name, J: Journal + Drop> {
     pub(crate) press: Press,
     pub(crate) journal: J,
@@ -56,8 +55,7 @@ pub struct Closed<J> {
     pub fault: Option<JournalFault>,
 }
 
-/// Makes an entry, for which this was asked, pending in the press and ready in the journal, and steps it. After a refusal both are as
-/// before.
+/// Makes an entry, for which this was asked, pending and ready in the journal, and steps it. After a refusal both are as before.
 pub(crate) fn take<J: Journal>(
     ready: &mut Ready<'_>,
     journal: &mut J,
@@ -96,9 +94,8 @@ impl<N: Name, J: Journal + Drop> Transaction<N, J> {
         self.fault
     }
 
-    /// Shows that what the caller has seen begins what is published, and that its calls are all of this under its number. It changes
-    /// nothing, and serves the proofs alone: what a ticket and a token say is evidence, which is compared with the press's and the session
-    /// registry's by a step on their words.
+    /// Shows that what the caller has seen begins what is published, and that its calls are all of this under its number. It serves the
+    /// proofs alone: the evidence of a ticket and a token is compared with the press's and the registry's by a step on their words.
     pub fn lemma_calls_are_all(&mut self, caller: &mut DetachedHandle<N>)
         ensures met { entries_of self.old.published caller.old.number ≡ caller.old.calls }
         ensures made { IsMade self.old.made caller.old.number }

@@ -38,8 +38,7 @@ impl<N: Name, S: Starter + Drop, R: Wait + Drop, J: Journal + Drop> Drop for Des
     }
 }
 
-/// Holds a desk that continues a recorded history, a ticket for that history, and the callers that its handles were, in the order of their
-/// numbers: 1, 2, 3, .. (see [`Desk::bind`]).
+/// Holds a desk that continues a recorded history, a ticket for that history, and its handles, detached, in the order of their numbers.
 #[derive(Drop)]
 pub struct Recovered<N: Name, S: Starter + Drop, R: Wait + Drop, J: Journal + Drop> {
     pub desk: Desk<N, S, R, J>,
@@ -57,9 +56,8 @@ impl<N: Name, S: Starter + Drop, R: Wait + Drop> Desk<N, S, R> {
 }
 
 impl<N: Name, S: Starter + Drop, R: Wait + Drop, J: Journal + Drop> Desk<N, S, R, J> {
-    /// Makes a desk on this ground, which `N` names, with a journal that has recorded nothing of a supervisor of this template. From then
-    /// on the journal records each entry before it is published: whenever the lock is free, it has recorded just what is published. Once it
-    /// breaks off, updates are refused, and queries continue. It takes no memory.
+    /// Makes a desk on this ground, which `N` names, with a journal that has recorded nothing yet. The journal records each entry before it
+    /// is published. Once it breaks off, updates are refused, and queries continue. It takes no memory.
     pub fn with_journal(ground: Ground, rt: R, starter: S, journal: J) -> Desk<N, S, R, J>
         requires name { (ground.press ≡ N.press) × (ground.template ≡ N.template) × (ground.sessions ≡ N.sessions) }
         requires journal { J.has journal N.template [] [] }
@@ -71,9 +69,8 @@ impl<N: Name, S: Starter + Drop, R: Wait + Drop, J: Journal + Drop> Desk<N, S, R
         }
     }
 
-    /// Makes a desk on this ground, which `N` names, that continues a recorded history: all of its entries are published, in order, and the
-    /// journal has recorded them. The ticket is for this history, so a handle that learns it has seen all of it. The earlier handles come
-    /// back as callers, in the order of their numbers; new ones get the numbers after these.
+    /// Makes a desk on this ground, which `N` names, that continues a recorded history: its entries are published, the ticket is for them,
+    /// and new handles get the numbers after those of the earlier ones.
     ///
     /// # Errors
     /// `HistoryFull` if there are more entries than the template allows, `NoHandle` if one is of a number that no handle of the ground can
@@ -99,9 +96,8 @@ impl<N: Name, S: Starter + Drop, R: Wait + Drop, J: Journal + Drop> Desk<N, S, R
         Ok(recovery.finish(starter, journal))
     }
 
-    /// Ends the desk, and returns a ticket for all of its history, and the journal. The journal has recorded just this history. If it broke
-    /// off, it has recorded this history, and of what was refused a part, or all if a flush failed. It waits for the lenses that look.
-    /// Askers that remain are answered `Gone`.
+    /// Ends the desk, and returns a ticket for all of its history, and the journal, which has recorded just that, and if it broke off a part of
+    /// what was refused, or all if a flush failed. It waits for the lenses that look. Askers that remain are answered `Gone`.
     pub fn close(self) -> Closed<J>
         ensures ticket { result.ticket.press ≡ N.press }
         ensures journal { HasJust (J.has result.journal N.template) (J.is_torn result.journal N.template) J.may_fail result.fault result.ticket.front }
@@ -115,8 +111,7 @@ impl<N: Name, S: Starter + Drop, R: Wait + Drop, J: Journal + Drop> Desk<N, S, R
     /// gives its place back, and not its number.
     ///
     /// # Errors
-    /// `NoHandle` once as many handles were made as the ground allows, `NoPlace` only if handles and askers have all of its places. Nothing
-    /// changes.
+    /// `NoHandle` once as many handles were made as there may be, `NoPlace` only if all places are taken. Nothing changes.
     pub fn handle<W: Wait>(&self, rt: &W) -> Result<HandleOf<'_, N, Desk<N, S, R, J>>, HandleFault>
         ensures { IfOk result (λ h. (h.calls ≡ []) × (entries_of h.front h.number ≡ []) × (1 ≤ h.number)) }
     {
@@ -126,7 +121,7 @@ impl<N: Name, S: Starter + Drop, R: Wait + Drop, J: Journal + Drop> Desk<N, S, R
         Ok(self.bind(added?))
     }
 
-    /// Returns the handle that the caller was.
+    /// Returns the handle that this one was before it was detached.
     pub fn bind(&self, caller: DetachedHandle<N>) -> HandleOf<'_, N, Desk<N, S, R, J>>
         ensures { result ≡ caller }
     {

@@ -25,8 +25,7 @@ use std::sync::{MutexGuard, Wait};
 use sup_log::{Gone, Ticket, View};
 use sup_types::{Counts, Operation, Reason, Refusal, Reply, Row, Seen, Starter, Template, Text};
 
-/// Holds what came of operations that were entered together: the reply to each, in their order, and a ticket for the history up to and with
-/// the last.
+/// Holds the replies to operations that were entered together, in their order, and a ticket for the history up to and with the last.
 #[derive(Drop)]
 pub struct Dones<A: Allocator = Global> {
     pub replies: Vec<Reply, A>,
@@ -42,8 +41,7 @@ pub struct Part<A: Allocator = Global> {
     pub fault: UpdateFault,
 }
 
-/// Holds what a handle knows, without a borrow of its desk. It may leave the scope in which a desk is borrowed. `Desk::bind` makes the
-/// handle of it again.
+/// Holds what a handle knows, without a borrow of its desk: `Desk::bind` makes the handle of it again.
 #[derive(Drop)]
 pub struct DetachedHandle<N: Name> {
     pub(crate) token: SessionToken,
@@ -70,8 +68,7 @@ impl<N: Name> DetachedHandle<N> {
     }
 }
 
-/// Calls the desk `D`, which it borrows: it makes updates, and asks by an asker of its own. It may be moved to one thread. Its queries take
-/// no lock, and each is proved to return.
+/// Calls the desk `D`, which it borrows: it makes updates, and asks by an asker of its own. It may be moved to one thread.
 #[derive(Drop)]
 pub struct HandleOf<'d, N: Name, D> {
     pub(crate) caller: DetachedHandle<N>,
@@ -89,13 +86,10 @@ impl<'d, N: Name, D> Model for HandleOf<'d, N, D> {
     ghost view = { λ h. h.caller };
 }
 
-/// Makes updates. Each waits for the lock, learns all that is published, and is entered in the history at once: its reply is that of a
-/// supervisor of one thread after a history that begins with all that the handle had seen, learnt or done. Moments are in seconds. The
-/// start function is asked under the lock.
-///
-/// Each refusal leaves the history and every published answer as they were: `HistoryFull` if the history has as many entries as the
-/// template allows, `OutOfMemory` if memory runs out, and `Journal` if the journal breaks off or broke off before. Then it refuses this
-/// update and all later ones.
+/// Makes updates. Each waits for the lock, and is entered in the history at once: its reply is that of a supervisor of one thread after a
+/// history that begins with all that the handle had seen, learnt or done. Moments are in seconds. The start function is asked under the
+/// lock. Each refusal leaves the history and every published answer as they were: `HistoryFull` if the history has as many entries as the
+/// template allows, `OutOfMemory` if memory runs out, and `Journal` if the journal breaks off or broke off before, for good.
 impl<'d, N: Name, S: Starter + Drop, R: Wait + Drop, J: Journal + Drop> HandleOf<
     'd,
     N,
@@ -174,9 +168,8 @@ impl<'d, N: Name, S: Starter + Drop, R: Wait + Drop, J: Journal + Drop> HandleOf
         done
     }
 
-    /// Enters the operations of the queue as updates, from its front on and in order, and publishes them in one step: they are one
-    /// publication, so that everyone who asks sees all of them or none. An operation that is entered leaves the queue. An empty queue
-    /// enters nothing.
+    /// Enters the operations of the queue as updates, in order, and publishes them in one step: everyone who asks sees all of them or none.
+    /// An operation that is entered leaves the queue. An empty queue enters nothing.
     ///
     /// # Errors
     /// Those of an update. What was entered before the fault is published, and the queue has the others in order. The room for the replies
@@ -234,8 +227,7 @@ impl<'d, N: Name, S: Starter + Drop, R: Wait + Drop, J: Journal + Drop> HandleOf
         }
     }
 
-    /// Returns a ticket for all of the history, which the handle has then seen. Its calls are all the entries there under its number. It
-    /// waits for the lock.
+    /// Returns a ticket for all of the history, which the handle has then seen. It waits for the lock.
     pub fn ticket<W: Wait>(&mut self, rt: &W) -> Ticket
         ensures ticket { result ≡ record { press = N.press; editions = self.new.editions; front = self.new.front } }
         ensures own { entries_of self.new.front self.new.number ≡ self.new.calls }
@@ -279,8 +271,7 @@ impl<'d, N: Name, D> HandleOf<'d, N, D> {
         true
     }
 
-    /// Returns the length of its front, in entries. The front is what the publications make that the handle has seen, so it ends with a
-    /// whole one. It enters nothing.
+    /// Returns the length of its front, as [`Asker::front`] does.
     pub fn front(&self) -> u64
         ensures front { result ≡ length self.now.front }
         ensures whole { self.now.front ≡ history_of self.now.editions }
@@ -356,8 +347,7 @@ impl<'d, N: Name, D> HandleOf<'d, N, D> {
         Refusal::SimpleOneForOne
     }
 
-    /// Refuses to delete a child specification: children of one template have none of their own (OTP's manual of `supervisor`,
-    /// `delete_child/2`).
+    /// Refuses to delete a child specification (OTP's manual of `supervisor`, `delete_child/2`).
     pub fn delete_child(&self, _id: &Text) -> Refusal
         ensures { result ≡ Refusal.SimpleOneForOne }
     {

@@ -49,7 +49,7 @@ pub fn give_ticket<N: Name, J: Journal + Drop>(
     book.transaction.show(handle)
 }
 
-/// Enters an update of a caller whose calls are all the entries under its number. What the caller has seen stays as it was.
+/// Enters an update of a caller whose calls are all the entries under its number. What it has seen stays as it was.
 fn enter_one<N: Name, S: Starter, W: Wait, J: Journal + Drop>(
     rt: &W,
     book: &mut Book<N, J>,
@@ -89,14 +89,11 @@ pub fn enter<N: Name, D, S: Starter, W: Wait, J: Journal + Drop>(
     operation: &Operation,
 ) -> Result<Done, UpdateFault>
     ensures result { IsUpdateResult S.may_answer N.template N.press handle.old operation.now moment handle.new result }
-
     // What the book is then.
     ensures entered { OnOk result ((entry : Entry) × IsEntryOf S.may_answer N.template book.old.history handle.old.number (length handle.old.calls) operation.now moment entry
         × (book.new ≡ grown_by book.old (entry ∷ []))) }
     ensures seen { OnOk result ((handle.new.front ≡ book.new.history) × (handle.new.editions ≡ book.new.editions)) }
     ensures left { IfErr result (λ e. IsLeft J.may_fail book.old e book.new) }
-
-    // When the journal broke off before.
     ensures broken { IfSome book.old.fault (λ f. result ≡ Err (UpdateFault.Journal f)) }
     ensures learnt { IsPrefix book.old.history handle.new.front }
 {
@@ -218,11 +215,9 @@ pub fn enter_all<N: Name, D, S: Starter, W: Wait, J: Journal + Drop, A: Allocato
     ensures rest { operations.new.items ≡ drop (length replies.new.items) operations.old.items }
     ensures all { OnOk result (operations.new.items ≡ []) }
     ensures seen { HasSeenMore handle.old handle.new }
-
     // What the book is then: it has all of them in one publication, or the journal broke off, and it has none.
     ensures entered { ((entries : List Entry) × AreEntered S.may_answer N.template handle.old.number moment book.old.history (length handle.old.calls) (take (length replies.new.items) operations.old.items) entries replies.new.items
         × (book.new ≡ grown_by book.old entries)) ⊎ ((f : JournalFault) × (replies.new.items ≡ []) × (book.new ≡ broken_by book.old f) × J.may_fail f) }
-
     // When each refusal comes.
     ensures learnt { IsPrefix book.old.history handle.new.front }
     ensures gone { IfErr result (λ r. r.fault ≡ UpdateFault.Gone → ⊥) }
@@ -282,11 +277,10 @@ pub fn add_asker<N: Name, J: Journal + Drop>(book: &mut Book<N, J>) -> Result<As
     Ok(Asker::begin(book.transaction.press.lens()?))
 }
 
-/// Lets the handles see all of the history, and shows that it is their calls and nothing else: they are as many as were made, in the order
-/// of making.
+/// Lets the handles, which are in the order of making, see all of the history, and shows that it is their calls and nothing else.
 ///
 /// # Errors
-/// `Split` if they are not. Nothing changes.
+/// `Split` if they are not all that were made. Nothing changes.
 pub fn audit<N: Name, D, J: Journal + Drop>(
     book: &mut Book<N, J>,
     handles: &mut [HandleOf<'_, N, D>],

@@ -28,8 +28,6 @@
 //!
 //! A program with threads, or that proves more, makes a [`Ground`], and then calls a function of its own that is generic in `N`, with std's
 //! `Brand` for `N`, which three lines of its proof let name that ground.
-//!
-//! The functions of [`laws`] are lent the book: their contracts say what it is afterwards.
 #![tactic(auto)]
 
 mod asker;

@@ -31,8 +31,7 @@ pub trait JournaledProgram<S: Starter + Drop, R: Wait, J: Journal + Drop> {
     /// What comes of it.
     type Outcome: Drop;
 
-    /// Uses the desk, as a [`Program`] does. `before` are the callers of the history that the desk continues, in the order of their
-    /// numbers: none on a new desk.
+    /// Uses the desk, as a [`Program`] does. `before` are the handles of the history that the desk continues, detached, in their order.
     fn run<N: Name + Send + Sync>(
         self,
         rt: &R,
@@ -73,10 +72,8 @@ fn run_named<N: Name + Send + Sync, S: Starter + Drop, R: Wait, P: Program<S, R>
     program.run(rt, &desk)
 }
 
-/// Makes a desk with a journal, runs the program on it and closes it. Returns what came of the program, and the journal with a ticket for
-/// all of the history. The desk continues the history that the journal has recorded, which is empty for a new one. At the end the journal
-/// has recorded just the history of the ticket, unless it broke off (see `Desk::close`). The desk has 1 to 1,024 handles, those of the
-/// history included. Its caller writes no proof.
+/// Makes a desk that continues what this journal has recorded, runs the program on it and closes it (see `Desk::close`). Returns what came of
+/// the program, and the journal with a ticket. The desk has 1 to 1,024 handles, earlier ones included. Its caller writes no proof.
 ///
 /// # Errors
 /// Those of [`Desk::recover`], and `BadTemplate` for another number of handles. The program is not run then.

@@ -61,8 +61,7 @@ impl From<DeskFault> for RecoverFault {
     }
 }
 
-/// Enters a recorded history again, entry by entry, as updates were: by the callers that its handles were. Beside the ground it takes
-/// memory for the callers, and none that grows with the history.
+/// Enters a recorded history again, entry by entry, by its handles. It takes memory for these, and none that grows with the history.
 pub struct Recovery<N: Name, R: Wait + Drop> {
     book: Book<N, NoJournal>,
     callers: Vec<DetachedHandle<N>>,
@@ -169,8 +168,7 @@ impl<N: Name, R: Wait + Drop> Recovery<N, R> {
         Ok(())
     }
 
-    /// Enters a recorded entry, after those that were entered. A handle is made when its number is first seen, and those of the lower
-    /// numbers before it.
+    /// Enters a recorded entry, after those that were entered, and makes the handles up to its number.
     ///
     /// # Errors
     /// `NoHandle` if no handle of the ground can have its number, `HistoryFull` if there are as many entries as the template allows, and
