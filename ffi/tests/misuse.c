@@ -1,13 +1,11 @@
 /* A caller that breaks nothing of what the header asks, and hands over nonsense: each call answers its fault and changes nothing.
  * Linked with --wrap=malloc, --wrap=realloc and --wrap=calloc, it refuses each allocation of each call in turn. */
-#include <inttypes.h>
-#include <stdio.h>
 #include <stdlib.h>
 #include <string.h>
 
+#include "check.h"
 #include "sapyguendo.h"
 
-static int failed, passed;
 static long refused = -1, asked;
 
 void *__real_malloc(size_t size);
@@ -19,16 +17,6 @@ void *__wrap_malloc(size_t size) { return refuses() ? NULL : __real_malloc(size)
 void *__wrap_realloc(void *at, size_t size) { return refuses() ? NULL : __real_realloc(at, size); }
 void *__wrap_calloc(size_t count, size_t size) { return refuses() ? NULL : __real_calloc(count, size); }
 
-#define CHECK(is, wanted) check(#is, (is), (wanted), __LINE__)
-static void check(const char *text, uint64_t is, uint64_t wanted, int line) {
-    if (is == wanted) {
-        passed++;
-        return;
-    }
-    failed++;
-    printf("misuse.c:%d: %s is %" PRIu64 ", and not %" PRIu64 "\n", line, text, is, wanted);
-}
-
 /* Calls until no allocation is refused any more. How many were, is answered; each refusal must be fault 1. */
 static uint32_t (*called)(void);
 static long sweep(const char *name, int least) {
@@ -38,11 +26,11 @@ static long sweep(const char *name, int least) {
         bool struck = asked > turn;
         refused = -1;
         if (!struck) {
-            check(name, fault, SUP_DONE, __LINE__);
-            check(name, turn >= least, 1, __LINE__);
+            check(name, fault, SUP_DONE, __FILE__, __LINE__);
+            check(name, turn >= least, 1, __FILE__, __LINE__);
             return turn;
         }
-        check(name, fault, SUP_OUT_OF_MEMORY, __LINE__);
+        check(name, fault, SUP_OUT_OF_MEMORY, __FILE__, __LINE__);
     }
 }
 
@@ -180,6 +168,5 @@ int main(void) {
     CHECK(opens(), SUP_DONE);
     CHECK(sup_count(&sup, &counts) + counts.stamp, 0);
     CHECK(sup_close(&sup), SUP_DONE);
-    printf("%d passed, %d failed\n", passed, failed);
-    return failed != 0;
+    return tally();
 }

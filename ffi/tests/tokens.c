@@ -1,20 +1,6 @@
 /* The tokens of children, and who remains when the supervisor goes down: each as a table of the caller's has it. */
-#include <inttypes.h>
-#include <stdio.h>
-
+#include "check.h"
 #include "sapyguendo.h"
-
-static int failed, passed;
-
-#define CHECK(is, wanted) check(#is, (is), (wanted), __LINE__)
-static void check(const char *text, uint64_t is, uint64_t wanted, int line) {
-    if (is == wanted) {
-        passed++;
-        return;
-    }
-    failed++;
-    printf("tokens.c:%d: %s is %" PRIu64 ", and not %" PRIu64 "\n", line, text, is, wanted);
-}
 
 enum { OPERATIONS = 20000, CHILDREN = 40 };
 
@@ -125,6 +111,5 @@ int main(void) {
     CHECK(sup_left(&sup, 0, &row) + row.status, SUP_NOT_LISTED);
     CHECK(sup_token(&sup, 1, &token) + token, 0);
     CHECK(sup_close(&sup), SUP_DONE);
-    printf("%d passed, %d failed\n", passed, failed);
-    return failed != 0;
+    return tally();
 }

@@ -1,20 +1,6 @@
 /* The header's shorthands: what they leave alone at a fault, and a start function that uses the supervisor. */
-#include <inttypes.h>
-#include <stdio.h>
-
+#include "check.h"
 #include "sapyguendo.h"
-
-static int failed, passed;
-
-#define CHECK(is, wanted) check(#is, (is), (wanted), __LINE__)
-static void check(const char *text, uint64_t is, uint64_t wanted, int line) {
-    if (is == wanted) {
-        passed++;
-        return;
-    }
-    failed++;
-    printf("updates.c:%d: %s is %" PRIu64 ", and not %" PRIu64 "\n", line, text, is, wanted);
-}
 
 static struct sup sup;
 static int begun;
@@ -99,6 +85,5 @@ int main(void) {
     CHECK(entry.answer, SUP_IGNORE);
     CHECK(begun, 3);
     CHECK(sup_close(&sup), SUP_DONE);
-    printf("%d passed, %d failed\n", passed, failed);
-    return failed != 0;
+    return tally();
 }
