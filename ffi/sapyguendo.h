@@ -26,6 +26,7 @@
 #include <stdbool.h>
 #include <stddef.h>
 #include <stdint.h>
+#include <stdio.h>
 #include <string.h>
 
 #ifdef __cplusplus
@@ -40,8 +41,8 @@ enum sup_fault {
     SUP_DONE = 0,
     SUP_OUT_OF_MEMORY = 1,
     SUP_HISTORY_FULL = 2,
-    SUP_BAD_TEMPLATE = 7,
-    SUP_BAD_LINE = 9,    /* a line that spells no template or no entry, or numbers or a text that spell none */
+    SUP_BAD_TEMPLATE = 7, /* a part of the template is out of its range: sup_wrong_part says which */
+    SUP_BAD_LINE = 9,    /* a line that spells no template or no entry, or an entry that spells none: sup_wrong_field says why */
     SUP_TOO_LONG = 12,   /* the line is longer than the room for it */
     SUP_BAD_HANDLE = 15, /* the supervisor is closed, or was to be opened and is open already */
     SUP_STALE = 16,      /* there are not as many entries as the stamp says */
@@ -257,6 +258,37 @@ static inline const char *sup_reply_text(uint32_t kind) {
     static const char *const texts[] = {"started", "undefined", "start_failed", "full", "removed", "shut_down", "restarted", "restarting",
         "ignored", "stray", "not_found", "ended", "stopped", "gave_up", "down"};
     return kind < sizeof texts / sizeof *texts ? texts[kind] : "unknown";
+}
+
+/* Returns the field of an entry for which it is refused with SUP_BAD_LINE: "text", "answer", "reason" or "operation". If several are
+   wrong, it is one that follows the others in this order. Returns NULL if none is. */
+static inline const char *sup_wrong_field(const struct sup_entry *entry) {
+    static const char *const fields[] = {"text", "answer", "reason", "operation"};
+    struct sup_entry e = *entry;
+    uint8_t room[SUP_MOST_LINE];
+    uint64_t len;
+    int wrong = -1;
+    while (wrong < 3 && sup_write_entry(&e, room, sizeof room, &len) == SUP_BAD_LINE) {
+        switch (++wrong) {
+        case 0: e.text = sup_text_of("x"); break;
+        case 1: e.answer = SUP_RUNNING; break;
+        case 2: e.reason = SUP_NORMAL; break;
+        }
+    }
+    return wrong < 0 ? NULL : fields[wrong];
+}
+
+/* Returns the part of a template for which sup_open answers SUP_BAD_TEMPLATE: "intensity", "period", "max", "entries" or "significant".
+   Returns NULL if none is wrong. */
+static inline const char *sup_wrong_part(const char *line, uint64_t entries) {
+    unsigned long long intensity, period, max;
+    if (sscanf(line, "history %*s %*s %*s %19llu %19llu %19llu", &intensity, &period, &max) != 3) return NULL;
+    if (intensity > 1000) return "intensity";
+    if (period < 1 || period > 86400) return "period";
+    if (max < 1 || max > 65536) return "max";
+    if (entries < 1 || entries > SUP_MOST_ENTRIES) return "entries";
+    if (!strstr(line, " significant ")) return NULL;
+    return strstr(line, " permanent ") || strstr(line, " significant never\n") ? "significant" : NULL;
 }
 
 /* A start function: it sets `*code` if it answers SUP_FAILED. */
