@@ -1,6 +1,6 @@
--- An operation that can't take a supervisor down leaves it up.
-use Rattle.std.proofs.Common.{◌≡◌, ℕ, Bool, true, false, refl}
-use Rattle.std.specs.Prelude.{Option, Some, None, is_some, not, ◌&&◌, ◌||◌, if◌then◌else◌}
+-- An operation that can't take a supervisor down leaves it up; what is listed after a history.
+use Rattle.std.proofs.Common.{◌≡◌, ℕ, Bool, List, true, false, refl, ap}
+use Rattle.std.specs.Prelude.{Some, None, is_some, not, ◌&&◌, ◌||◌, if◌then◌else◌}
 use Rattle.std.specs.List.{list_any}
 use Rattle.sup_types.specs.declared.text.Text.{Text}
 use Rattle.sup_types.specs.declared.history.Operation.{Operation}
@@ -12,9 +12,11 @@ use Rattle.sup_types.specs.declared.history.Reply.{Reply}
 use Rattle.sup_types.specs.declared.history.Reply.TheVariants.{Full, Stray, GaveUp, ShutDown, Removed, NotFound, Ended, Down}
 use Rattle.sup_types.specs.Reason.{restarts_after}
 use Rattle.sup_core.specs.Rows.{has_number, runs_as, waits_as, argument_at, without}
-use Rattle.sup_core.specs.State.{State, arrived}
+use Rattle.sup_core.specs.State.{State, arrived, seen_of}
 use Rattle.sup_core.specs.Replies.{reply_to, reply_up, started, restarted, allows_restart, is_full, takes_down, asked_up, asked_argument}
 use Rattle.sup_core.specs.Changes.{goes_down}
+use Rattle.sup_core.specs.Account.{IsAfter}
+use Rattle.sup_core.specs.Queries.{which}
 use Rattle.sup_c.specs.Leaving.{may_end}
 
 started_up : (made : ℕ) (answer : Answer) → goes_down (started made answer) ≡ false
@@ -68,3 +70,6 @@ up_or_down false s operation answer h = reply_stays s operation answer h
 
 pub stays_up : (s : State) (e : Entry) → may_end s.template e.operation (is_some (asked_argument s e.operation e.moment)) ≡ false → goes_down (reply_to s e) ≡ false
 stays_up s e h = up_or_down s.down (arrived s e.moment) e.operation e.answer h
+
+pub listed_is : (s : State) (history : List Entry) → IsAfter s history → seen_of s s.rows ≡ which s.template history
+listed_is s history after = ap (λ (t : State). seen_of t t.rows) after.state

@@ -1,5 +1,5 @@
 -- The callers' values of children, by number: 0 if none was given.
-use Rattle.std.specs.Prelude.{ℕ, ◌==◌, Option, unwrap_or, if◌then◌else◌, nat_eq}
+use Rattle.std.specs.Prelude.{ℕ, ◌==◌, unwrap_or, if◌then◌else◌, nat_eq}
 use Rattle.std.specs.HashMap.{HashMap, get}
 use Rattle.sup_types.specs.declared.history.Operation.{Operation}
 use Rattle.sup_types.specs.declared.history.Operation.TheVariants.{Start, Exit, Retry, Terminate, Stop}

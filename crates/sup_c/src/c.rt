@@ -1,6 +1,6 @@
 //! The structs that cross between C and the supervisor, as `ffi/sapyguendo.h` declares them: what they spell, and what they tell.
 ghost use Rattle.std.specs.Prelude.{◌≡◌, ◌≤◌, length, SomeIff};
-ghost use Rattle.sup_c.specs.Spelled.{spelled_text, IsSpelledText, IsSpelledWord, spelled_operation, IsSpelledOperation, spelled_entry, IsSpelledEntry};
+ghost use Rattle.sup_c.specs.Spelled.{spelled_operation, IsSpelledOperation, spelled_entry, IsSpelledEntry};
 ghost use Rattle.sup_c.specs.Told.{told_text, told_reply, told_counts, told_child, told_entry};
 ghost use Rattle.sup_c.specs.Shelves.{rows_seen, row_seen};
 
@@ -61,29 +61,18 @@ pub struct CRow {
     pub arg: CText,
 }
 
-fn text_of(text: &CText) -> Option<Text>
-    ensures { SomeIff result (IsSpelledText text.now) (spelled_text text.now) }
-{
-    Text::new(text.bytes.get(..text.len as usize)?)
-}
-
-fn word_of(text: &CText) -> Option<Word>
-    ensures { SomeIff result (IsSpelledWord text.now) (spelled_text text.now) }
-{
-    Word::new(text.bytes.get(..text.len as usize)?)
-}
-
 /// Returns the operation of an entry, if its numbers and its text spell one.
 pub(crate) fn operation_of(entry: &CEntry) -> Option<Operation>
     ensures { SomeIff result (IsSpelledOperation entry.now) (spelled_operation entry.now) }
 {
-    let (number, text) = (entry.number, &entry.text);
+    let number = entry.number;
+    let text = entry.text.bytes.get(..entry.text.len as usize);
     match (entry.operation, entry.reason) {
-        (0, _) => Some(Operation::Start(text_of(text)?)),
+        (0, _) => Some(Operation::Start(Text::new(text?)?)),
         (1, 0) => Some(Operation::Exit(number, Reason::Normal)),
         (1, 1) => Some(Operation::Exit(number, Reason::Shutdown)),
-        (1, 2) => Some(Operation::Exit(number, Reason::ShutdownWith(text_of(text)?))),
-        (1, 3) => Some(Operation::Exit(number, Reason::Other(word_of(text)?))),
+        (1, 2) => Some(Operation::Exit(number, Reason::ShutdownWith(Text::new(text?)?))),
+        (1, 3) => Some(Operation::Exit(number, Reason::Other(Word::new(text?)?))),
         (2, _) => Some(Operation::Retry(number)),
         (3, _) => Some(Operation::Terminate(number)),
         (4, _) => Some(Operation::Stop),

@@ -2,7 +2,7 @@
 //!
 //! A call takes the box out of the handle, works on it in safe code and puts it back: the box can't be reached through a reference
 //! of C's.
-ghost use Rattle.std.specs.Prelude.{◌≡◌, Bool, true, false};
+ghost use Rattle.std.specs.Prelude.{◌≡◌, Bool, true, false, IfNone, IfSome};
 ghost use Rattle.std.specs.Coded.{coded_bool};
 ghost use Rattle.std.specs.Box.Ownership.{box_owns};
 ghost use Rattle.sup_c.specs.declared.shelf.Shelf.{Shelf as AShelf};
@@ -23,25 +23,26 @@ pub struct Held {
 }
 
 impl Held {
-    /// Makes an open handle.
-    pub(crate) fn of(shelf: Box<Shelf, Global>) -> Held
-        ensures { (result.is_open ≡ true) × (result.seal.shelf ≡ shelf.value) }
+    /// Takes out what an open handle holds, and leaves a closed one. A closed one holds nothing.
+    pub(crate) fn take(&mut self, heap: Global) -> Option<Box<Shelf, Global>>
+        ensures closed { IfNone result ((self.old.is_open ≡ false) × (self.new ≡ self.old)) }
+        ensures open { IfSome result (λ shelf. (self.old.is_open ≡ true) × (shelf.value ≡ self.old.seal.shelf) × (self.new.is_open ≡ false)) }
     {
-        Held {
-            seal: Seal::of_parts(Parts::of(shelf)),
-            is_open: true,
+        if !self.is_open {
+            return None;
         }
+        self.is_open = false;
+        let seal = replace(&mut self.seal, Seal::empty(heap));
+        Some(seal.into_parts().into_box())
     }
 
-    /// Takes out what an open handle holds, and leaves a closed one.
-    pub(crate) fn take(&mut self, heap: Global) -> Box<Shelf, Global>
-        requires { self.old.is_open ≡ true }
-        ensures { (result.value ≡ self.old.seal.shelf) × (self.new.is_open ≡ false) }
+    /// Puts a shelf into a closed handle, which is open then, and returns the answer.
+    pub(crate) fn put_back(&mut self, shelf: Box<Shelf, Global>, answer: u32) -> u32
+        ensures { (result ≡ answer) × (self.new.is_open ≡ true) × (self.new.seal.shelf ≡ shelf.value) }
     {
-        self.is_open = false;
-        replace(&mut self.seal, Seal::empty(heap))
-            .into_parts()
-            .into_box()
+        self.seal = Seal::of_parts(Parts::of(shelf));
+        self.is_open = true;
+        answer
     }
 }
 

@@ -21,16 +21,15 @@ ghost use Rattle.sup_c.specs.Answers.{AnswersOpening, AnswersWhileOpen, AnswersA
 mod c;
 mod held;
 mod shelf;
-mod tokens;
 
 use c::{CCounts, CEntry, CReply, CRow, CText};
 use held::Held;
 use indexmap::IndexMap;
-use shelf::Shelf;
+use shelf::{Shelf, follow, may_end, token_of};
 use std::alloc::Global;
 use sup_core::Sup;
 use sup_format::{append_entry, begin_history, next_entry};
-use sup_types::Seen;
+use sup_types::{Reply, Seen};
 
 /// The numbers of the faults (docs/FORMATS.md). 0 is none.
 const DONE: u32 = 0;
@@ -90,8 +89,7 @@ pub extern "C" fn sup_open(held: &mut Held, heap: Global, text: &[u8], entries: 
     let Ok(shelf) = Box::new(heap, shelf) else {
         return OUT_OF_MEMORY;
     };
-    *held = Held::of(shelf);
-    DONE
+    held.put_back(shelf, DONE)
 }
 
 /// Closes a supervisor, and gives its memory back. The handle may be opened again.
@@ -100,10 +98,10 @@ pub extern "C" fn sup_close(held: &mut Held, heap: Global) -> u32
     ensures answer { AnswersWhileOpen held.old result }
     ensures closed { held.new.is_open ≡ false }
 {
-    if !held.is_open {
+    let Some(shelf) = held.take(heap) else {
         return BAD_HANDLE;
-    }
-    drop(held.take(heap));
+    };
+    drop(shelf);
     DONE
 }
 
@@ -115,24 +113,20 @@ pub extern "C" fn sup_asks(held: &mut Held, heap: Global, entry: &CEntry, asked:
         asked.new ≡ told_asked (asked_argument (state_after template history) (spelled_operation entry.now) entry.now.moment)) }
     ensures kept { IsKept held.old held.new × (result ≢ 0 → asked.new ≡ asked.old) }
 {
-    if !held.is_open {
+    let Some(shelf) = held.take(heap) else {
         return BAD_HANDLE;
-    }
-    let Some(operation) = c::operation_of(entry) else {
-        return BAD_LINE;
     };
-    let shelf = held.take(heap);
-    let is_full = shelf.sup.is_spent();
-    if is_full {
-        *held = Held::of(shelf);
-        return HISTORY_FULL;
+    let Some(operation) = c::operation_of(entry) else {
+        return held.put_back(shelf, BAD_LINE);
+    };
+    if shelf.sup.is_spent() {
+        return held.put_back(shelf, HISTORY_FULL);
     }
     *asked = match shelf.sup.wants_answer(&operation, entry.moment) {
         Some(argument) => c::told_text(argument.bytes()),
         None => c::told_text(b""),
     };
-    *held = Held::of(shelf);
-    DONE
+    held.put_back(shelf, DONE)
 }
 
 /// Enters an entry, with what the start function answered, and tells the reply.
@@ -145,20 +139,17 @@ pub extern "C" fn sup_step(held: &mut Held, heap: Global, entry: &CEntry, reply:
         × IsAfter (state_of held.new) (history ++ spelled_entry entry.now ∷ [])) }
     ensures kept { (result ≢ 0 → (shelf_of held.new ≡ shelf_of held.old) × (reply.new ≡ reply.old)) × (held.new.is_open ≡ held.old.is_open) }
 {
-    if !held.is_open {
+    let Some(mut shelf) = held.take(heap) else {
         return BAD_HANDLE;
-    }
-    let Some(entry) = c::entry_of(entry) else {
-        return BAD_LINE;
     };
-    let mut shelf = held.take(heap);
+    let Some(entry) = c::entry_of(entry) else {
+        return held.put_back(shelf, BAD_LINE);
+    };
     if shelf.sup.is_spent() {
-        *held = Held::of(shelf);
-        return HISTORY_FULL;
+        return held.put_back(shelf, HISTORY_FULL);
     }
     *reply = c::told_reply(shelf.sup.step(&entry));
-    *held = Held::of(shelf);
-    DONE
+    held.put_back(shelf, DONE)
 }
 
 /// Enters an entry as `sup_step` does, if there are as many entries as `stamp` says. So the answer is to what the rules asked then.
@@ -185,29 +176,33 @@ pub extern "C" fn sup_step_at(
         ≡ tokens_after (token_of held.old) (number_of (spelled_operation entry.now)) token.old (reply_to (state_of held.old) (spelled_entry entry.now)) number) }
     ensures kept { (result ≢ 0 → HasSame held.old held.new × (token.new ≡ token.old) × (reply.new ≡ reply.old)) × (held.new.is_open ≡ held.old.is_open) }
 {
-    if !held.is_open {
+    let Some(mut shelf) = held.take(heap) else {
         return BAD_HANDLE;
-    }
+    };
     let Some(entry) = c::entry_of(entry) else {
-        return BAD_LINE;
+        return held.put_back(shelf, BAD_LINE);
     };
-    let mut shelf = held.take(heap);
     if shelf.sup.stamp() != stamp {
-        *held = Held::of(shelf);
-        return STALE;
+        return held.put_back(shelf, STALE);
     }
-    let is_over = shelf.sup.is_spent();
-    if is_over {
-        *held = Held::of(shelf);
-        return HISTORY_FULL;
+    if shelf.sup.is_spent() {
+        return held.put_back(shelf, HISTORY_FULL);
     }
-    let entered = shelf.enter(&entry, token);
-    *held = Held::of(shelf);
-    let Some(replied) = entered else {
-        return OUT_OF_MEMORY;
+    let asked = shelf.sup.asks(&entry.operation, entry.moment);
+    let mut rows = Ok(Seen::Down);
+    if may_end(&shelf.template, &entry.operation, asked.arg.is_some()) {
+        rows = shelf.sup.rows();
+    }
+    let (Ok(rows), Ok(())) = (rows, shelf.tokens.reserve(1)) else {
+        return held.put_back(shelf, OUT_OF_MEMORY);
     };
+    let replied = shelf.sup.step_at(&entry, asked.cached_index);
+    if matches!(replied, Reply::Stopped | Reply::GaveUp | Reply::ShutDown(_)) {
+        shelf.left = rows;
+    }
+    follow(&mut shelf.tokens, &entry.operation, token, &replied);
     *reply = c::told_reply(replied);
-    DONE
+    held.put_back(shelf, DONE)
 }
 
 /// Tells how many children and entries there are, and whether the supervisor is down.
@@ -217,13 +212,11 @@ pub extern "C" fn sup_count(held: &mut Held, heap: Global, counts: &mut CCounts)
     ensures history { result ≡ 0 → AfterEach held.old (λ template history. counts.new ≡ told_counts (length history) (count template history)) }
     ensures kept { IsKept held.old held.new × (result ≢ 0 → counts.new ≡ counts.old) }
 {
-    if !held.is_open {
+    let Some(shelf) = held.take(heap) else {
         return BAD_HANDLE;
-    }
-    let shelf = held.take(heap);
+    };
     *counts = c::told_counts(shelf.sup.stamp(), shelf.sup.counts());
-    *held = Held::of(shelf);
-    DONE
+    held.put_back(shelf, DONE)
 }
 
 /// Tells the child with this number.
@@ -233,13 +226,11 @@ pub extern "C" fn sup_child(held: &mut Held, heap: Global, number: u64, row: &mu
     ensures history { result ≡ 0 → AfterEach held.old (λ template history. row.new ≡ told_child (child template history number)) }
     ensures kept { IsKept held.old held.new × (result ≢ 0 → row.new ≡ row.old) }
 {
-    if !held.is_open {
+    let Some(shelf) = held.take(heap) else {
         return BAD_HANDLE;
-    }
-    let shelf = held.take(heap);
+    };
     *row = c::told_child(shelf.sup.child(number));
-    *held = Held::of(shelf);
-    DONE
+    held.put_back(shelf, DONE)
 }
 
 /// Tells the child with this index, from 0 on, among those that were listed last, by ascending numbers. Index 0 lists them anew.
@@ -252,20 +243,17 @@ pub extern "C" fn sup_row(held: &mut Held, heap: Global, index: u64, row: &mut C
     ensures kept { (held.new.is_open ≡ held.old.is_open) × (state_of held.new ≡ state_of held.old) × (result ≢ 0 → IsKept held.old held.new × (row.new ≡ row.old)) }
     ensures others { (left_of held.new ≡ left_of held.old) × ((number : ℕ) → token_of held.new number ≡ token_of held.old number) }
 {
-    if !held.is_open {
+    let Some(mut shelf) = held.take(heap) else {
         return BAD_HANDLE;
-    }
-    let mut shelf = held.take(heap);
+    };
     if index == 0 {
         let Ok(listed) = shelf.sup.rows() else {
-            *held = Held::of(shelf);
-            return OUT_OF_MEMORY;
+            return held.put_back(shelf, OUT_OF_MEMORY);
         };
         shelf.listed = listed;
     }
     *row = c::told_row(&shelf.listed, index);
-    *held = Held::of(shelf);
-    DONE
+    held.put_back(shelf, DONE)
 }
 
 /// Tells the child with this index, from 0 on, among those that were listed before the entry that took the supervisor down.
@@ -275,13 +263,11 @@ pub extern "C" fn sup_left(held: &mut Held, heap: Global, index: u64, row: &mut 
     ensures row { result ≡ 0 → row.new ≡ told_child (row_seen (left_of held.old) index) }
     ensures kept { IsKept held.old held.new × (result ≢ 0 → row.new ≡ row.old) }
 {
-    if !held.is_open {
+    let Some(shelf) = held.take(heap) else {
         return BAD_HANDLE;
-    }
-    let shelf = held.take(heap);
+    };
     *row = c::told_row(&shelf.left, index);
-    *held = Held::of(shelf);
-    DONE
+    held.put_back(shelf, DONE)
 }
 
 /// Tells the value of the child with this number: 0 if it has none.
@@ -291,13 +277,11 @@ pub extern "C" fn sup_token(held: &mut Held, heap: Global, number: u64, token: &
     ensures token { result ≡ 0 → token.new ≡ token_of held.old number }
     ensures kept { IsKept held.old held.new × (result ≢ 0 → token.new ≡ token.old) }
 {
-    if !held.is_open {
+    let Some(shelf) = held.take(heap) else {
         return BAD_HANDLE;
-    }
-    let shelf = held.take(heap);
-    *token = tokens::token_of(&shelf.tokens, number);
-    *held = Held::of(shelf);
-    DONE
+    };
+    *token = token_of(&shelf.tokens, number);
+    held.put_back(shelf, DONE)
 }
 
 /// Writes an entry as a line of a history text into a room, and tells its length.

@@ -1,18 +1,15 @@
-//! What is held of an open supervisor, and how an entry comes in: with its child's value, and who remains if it takes the supervisor down.
-ghost use Rattle.std.specs.Prelude.{◌≡◌, ◌<◌, ℕ, List, ◌++◌, ◌∷◌, [], MatchOption, true, IfSome, IfNone};
-ghost use Rattle.sup_types.specs.declared.history.Entry.{Entry};
-ghost use Rattle.sup_core.specs.Replies.{reply_to};
-ghost use Rattle.sup_core.specs.Changes.{next_state, goes_down};
-ghost use Rattle.sup_core.specs.Account.{IsAfter, reply_after};
-ghost use Rattle.sup_core.specs.Queries.{which};
-ghost use Rattle.sup_c.specs.Shelves.{rows_seen};
-ghost use Rattle.sup_c.specs.Leaving.{left_after, may_end};
-ghost use Rattle.sup_c.specs.Tokens.{token_in, tokens_after, token_told, number_of};
+//! What is held of an open supervisor: the rules, what they answered, and the callers' values of children. A child without one has 0.
+ghost use Rattle.std.specs.Prelude.{◌≡◌, ◌<◌, ℕ};
+ghost use Rattle.indexmap.specs.IndexMap.{spare};
+ghost use Rattle.sup_c.specs.Leaving.{may_end};
+ghost use Rattle.sup_c.specs.Tokens.{token_in, with_token, tokens_after, token_told, number_of};
 
-use crate::tokens::{Tokens, follow, number_of, token_of};
+use indexmap::IndexMap;
 use std::alloc::Global;
 use sup_core::Sup;
-use sup_types::{Entry, Operation, Reply, Row, Seen, Template};
+use sup_types::{Operation, Reply, Row, Seen, Template};
+
+type Tokens = IndexMap<u64, u64>;
 
 /// A supervisor, with what it answered when its rows were listed last, who remained when it went down, and its children's values.
 #[derive(Drop)]
@@ -25,44 +22,8 @@ pub struct Shelf {
     ghost tied: { template ≡ sup.template },
 }
 
-impl Shelf {
-    /// Enters an entry, and returns the reply, or nothing if memory was refused. A start gives its child this value, and the value
-    /// that the entry's child has is stored there.
-    pub(crate) fn enter(&mut self, entry: &Entry, token: &mut u64) -> Option<Reply>
-        requires { self.old.sup.steps < self.old.sup.template.entries }
-        ensures reply { IfSome result (λ reply. reply ≡ reply_to self.old.sup entry.now) }
-        ensures next { IfSome result (λ reply. self.new.sup ≡ next_state self.old.sup entry.now) }
-        ensures history { IfSome result (λ reply. (history : List Entry) → IsAfter self.old.sup history
-            → (reply ≡ reply_after self.old.sup.template history entry.now) × IsAfter self.new.sup (history ++ entry.now ∷ [])) }
-        ensures listed { rows_seen self.new.listed ≡ rows_seen self.old.listed }
-        ensures left { IfSome result (λ reply. rows_seen self.new.left ≡ left_after self.old.sup entry.now (rows_seen self.old.left)) }
-        ensures which { IfSome result (λ reply. (history : List Entry) → IsAfter self.old.sup history → goes_down reply ≡ true
-            → rows_seen self.new.left ≡ which self.old.sup.template history) }
-        ensures told { IfSome result (λ reply. token.new ≡ token_told (token_in self.old.tokens) entry.now.operation token.old) }
-        ensures tokens { IfSome result (λ reply. (number : ℕ) → token_in self.new.tokens number ≡ tokens_after (token_in self.old.tokens) (number_of entry.now.operation) token.old reply number) }
-        ensures kept { IfNone result ((self.new.sup ≡ self.old.sup) × (rows_seen self.new.left ≡ rows_seen self.old.left) × (token.new ≡ token.old)
-            × ((number : ℕ) → token_in self.new.tokens number ≡ token_in self.old.tokens number)) }
-    {
-        let asked = self.sup.asks(&entry.operation, entry.moment);
-        let mut rows = Seen::Down;
-        if may_end(&self.template, &entry.operation, asked.arg.is_some()) {
-            rows = self.sup.rows().ok()?;
-        }
-        self.tokens.reserve(1).ok()?;
-        let reply = self.sup.step_at(entry, asked.cached_index);
-        if goes_down(&reply) {
-            self.left = rows;
-        }
-        let (number, given) = (number_of(&entry.operation), *token);
-        if !matches!(entry.operation, Operation::Start(_)) {
-            *token = token_of(&self.tokens, number);
-        }
-        follow(&mut self.tokens, number, given, &reply);
-        Some(reply)
-    }
-}
-
-fn may_end(template: &Template, operation: &Operation, asked: bool) -> bool
+/// Returns whether an operation may take a supervisor of this template down, if it is asked about a start or not.
+pub(crate) fn may_end(template: &Template, operation: &Operation, asked: bool) -> bool
     ensures { result ≡ may_end template.now operation.now asked }
 {
     match operation {
@@ -75,8 +36,48 @@ fn may_end(template: &Template, operation: &Operation, asked: bool) -> bool
     }
 }
 
-fn goes_down(reply: &Reply) -> bool
-    ensures { result ≡ goes_down reply.now }
+/// Returns the value of the child with this number.
+pub(crate) fn token_of(tokens: &Tokens, number: u64) -> u64
+    ensures { result ≡ token_in tokens.now number }
 {
-    matches!(reply, Reply::Stopped | Reply::GaveUp | Reply::ShutDown(_))
+    tokens.get(&number).copied().unwrap_or(0)
+}
+
+/// Follows an operation that had this reply. A start gives its child the value `token`; then it stores that of the operation's child.
+pub(crate) fn follow(tokens: &mut Tokens, operation: &Operation, token: &mut u64, reply: &Reply)
+    requires { 0 < spare tokens.old }
+    ensures told { token.new ≡ token_told (token_in tokens.old) operation.now token.old }
+    ensures tokens { (other : ℕ) → token_in tokens.new other ≡ tokens_after (token_in tokens.old) (number_of operation.now) token.old reply.now other }
+{
+    let given = *token;
+    let number = match operation {
+        Operation::Exit(number, _) | Operation::Retry(number) => *number,
+        Operation::Terminate(number) => *number,
+        Operation::Start(_) | Operation::Stop => 0,
+    };
+    if !matches!(operation, Operation::Start(_)) {
+        *token = token_of(tokens, number);
+    }
+    match reply {
+        Reply::Started(number) => put(tokens, *number, given),
+        Reply::Restarted(number, next) => {
+            let token = tokens.swap_remove(number).unwrap_or(0);
+            put(tokens, *next, token);
+        }
+        Reply::Removed(number) | Reply::Ignored(number) => put(tokens, *number, 0),
+        Reply::Ended => put(tokens, number, 0),
+        _ => {}
+    }
+}
+
+/// Gives a child a value.
+fn put(tokens: &mut Tokens, number: u64, token: u64)
+    requires { 0 < spare tokens.old }
+    ensures { (other : ℕ) → token_in tokens.new other ≡ with_token (token_in tokens.old) number token other }
+{
+    if token == 0 {
+        let _ = tokens.swap_remove(&number);
+        return;
+    }
+    let _ = tokens.insert(number, token);
 }
