@@ -1,6 +1,6 @@
 //! A supervisor that keeps a value of the caller's for each child.
 use crate::raw;
-use crate::{Answer, Entry, Fault, Operation, Reply, Row, Rules, Seen, Template, Text};
+use crate::{Answer, Entry, Fault, Operation, Reply, Row, Rules, Template, Text};
 
 /// What a start function answers, with the child that it has begun.
 #[derive(Clone, Copy, Debug, PartialEq, Eq)]
@@ -125,7 +125,7 @@ impl<T> Children<T> {
             entry.answer = if argument.is_some() { answer } else { Answer::Ignore };
             let mut token = self.free.last().map_or(0, |slot| *slot as u64 + 1);
             if let Some(reply) = self.rules.step_at(&entry, &mut token)? {
-                return Ok((reply, entry, usize::try_from(token).ok().and_then(|token| token.checked_sub(1))));
+                return Ok((reply, entry, index_of(token)));
             }
             entry.serial = self.rules.stamp();
             argument = self.rules.ask(&entry)?;
@@ -153,15 +153,9 @@ impl<T> Children<T> {
 
     /// Takes the values of those out that were listed before the supervisor went down.
     fn take_left(&mut self) -> Vec<(Row, T)> {
-        let mut left = Vec::new();
-        for index in 0.. {
-            let mut row = raw::zeros();
-            // SAFETY: the handle is open, and the row is of its type.
-            unsafe { raw::sup_left(&mut self.rules.0, index, &mut row) };
-            let Seen::Up(Some(row)) = Row::seen(&row) else { break };
-            left.extend(self.slot_of(row.number).and_then(|slot| self.slots[slot].take()).map(|child| (row, child)));
-        }
-        left
+        let listed = self.rules.rows(raw::sup_left).expect("there is memory for those who remain");
+        let child_of = |row: Row| Some((row, self.slot_of(row.number)?.take()?));
+        listed.up().into_iter().flatten().filter_map(child_of).collect()
     }
 
     /// Takes all values out.
@@ -169,18 +163,22 @@ impl<T> Children<T> {
         self.slots.iter_mut().filter_map(Option::take).collect()
     }
 
-    fn slot_of(&mut self, number: u64) -> Option<usize> {
+    fn slot_of(&mut self, number: u64) -> Option<&mut Option<T>> {
         let mut token = 0;
-        // SAFETY: as above.
+        // SAFETY: the handle is open, and the token is a number.
         unsafe { raw::sup_token(&mut self.rules.0, number, &mut token) };
-        usize::try_from(token).ok()?.checked_sub(1)
+        self.slots.get_mut(index_of(token)?)
     }
 
     /// Returns the value of the child with this number, if it runs.
     pub fn get(&mut self, number: u64) -> Option<&mut T> {
-        let slot = self.slot_of(number)?;
-        self.slots[slot].as_mut()
+        self.slot_of(number)?.as_mut()
     }
+}
+
+/// Returns the index of the slot with this token, if it is one.
+fn index_of(token: u64) -> Option<usize> {
+    usize::try_from(token).ok()?.checked_sub(1)
 }
 
 /// Returns whether a reply says that the supervisor goes down.

@@ -116,11 +116,16 @@ impl Rules {
 
     /// Returns the listed children in ascending order of number, or [`Fault::OutOfMemory`].
     pub fn which(&mut self) -> Result<Seen<Vec<Row>>, Fault> {
+        self.rows(raw::sup_row)
+    }
+
+    /// Returns the rows that a call tells one by one.
+    fn rows(&mut self, call: unsafe extern "C" fn(*mut raw::Sup, u64, *mut raw::Row) -> u32) -> Result<Seen<Vec<Row>>, Fault> {
         let mut rows = Vec::new();
         loop {
             let mut row = raw::zeros();
             // SAFETY: as above.
-            Fault::of(unsafe { raw::sup_row(&mut self.0, rows.len() as u64, &mut row) })?;
+            Fault::of(unsafe { call(&mut self.0, rows.len() as u64, &mut row) })?;
             match Row::seen(&row) {
                 Seen::Down => return Ok(Seen::Down),
                 Seen::Up(None) => return Ok(Seen::Up(rows)),

@@ -253,27 +253,16 @@ impl FromStr for Template {
     type Err = Fault;
 
     fn from_str(line: &str) -> Result<Template, Fault> {
+        let line = line.strip_prefix("history 1 ").map_or(line.to_string(), |parts| format!("history 2 {parts} plain never"));
         let words: Vec<&str> = line.split(' ').collect();
-        let (restart, kind, limits, mark, auto_shutdown) = match words[..] {
-            ["history", "1", restart, kind, intensity, period, max] => (restart, kind, [intensity, period, max], "plain", "never"),
-            ["history", "2", restart, kind, intensity, period, max, mark, auto] => (restart, kind, [intensity, period, max], mark, auto),
-            _ => return Err(Fault::BadLine),
-        };
-        let significant = match mark {
-            "significant" => true,
-            "plain" => false,
-            _ => return Err(Fault::BadLine),
-        };
-        let [intensity, period, max] = [number(limits[0])?, number(limits[1])?, number(limits[2])?];
-        let (kind, auto_shutdown) = (kind.parse()?, auto_shutdown.parse()?);
-        Ok(Template { kind, intensity, period, significant, auto_shutdown, ..Template::new(restart.parse()?, max) })
+        let [_, _, restart, kind, intensity, period, max, mark, auto_shutdown] = words[..] else { return Err(Fault::BadLine) };
+        let number = |word: &str| word.parse().map_err(|_| Fault::BadLine);
+        let limits = Template { intensity: number(intensity)?, period: number(period)?, ..Template::new(restart.parse()?, number(max)?) };
+        let (kind, significant, auto_shutdown) = (kind.parse()?, mark == "significant", auto_shutdown.parse()?);
+        let template = Template { kind, significant, auto_shutdown, ..limits };
+        // (a sign, a leading zero, another mark and another version are written otherwise)
+        if template.to_string() == line { Ok(template) } else { Err(Fault::BadLine) }
     }
-}
-
-/// Reads a number of the formats: digits without a leading zero.
-fn number(word: &str) -> Result<u64, Fault> {
-    let is_plain = word.bytes().all(|byte| byte.is_ascii_digit()) && (word == "0" || !word.starts_with('0'));
-    word.parse().ok().filter(|_| is_plain).ok_or(Fault::BadLine)
 }
 
 /// Why a child ended.
