@@ -97,25 +97,25 @@ impl<T> Children<T> {
 
     /// Enters an operation with what was begun. If something was entered since it was asked, the rules are asked again: if they ask
     /// for the same, the child is taken, and else it comes back as `unused`.
-    pub fn enter(&mut self, asked: Asked, begun: Begun<T>) -> Result<Done<T>, Refused<T>> {
+    pub fn enter(&mut self, mut asked: Asked, begun: Begun<T>) -> Result<Done<T>, Refused<T>> {
         let (answer, mut new) = match begun {
             Begun::Running(child) => (Answer::Running, Some(child)),
             Begun::Ignore => (Answer::Ignore, None),
             Begun::Failed(code) => (Answer::Failed(code), None),
         };
-        match self.enter_answer(asked, answer) {
+        match self.enter_answer(&mut asked, answer) {
             Err(fault) => Err(Refused { fault, unused: new }),
-            Ok((reply, entry, slot)) => {
+            Ok((reply, slot)) => {
                 let old = self.follow(reply, slot, &mut new);
                 let left = if goes_down(reply) { self.take_left() } else { Vec::new() };
-                Ok(Done { reply, entry, old, unused: new, left })
+                Ok(Done { reply, entry: asked.entry, old, unused: new, left })
             }
         }
     }
 
     /// Enters an operation with the answer, as long as the rules ask for it, and returns the slot of its child.
-    fn enter_answer(&mut self, asked: Asked, answer: Answer) -> Result<(Reply, Entry, Option<usize>), Fault> {
-        let Asked { mut entry, mut argument } = asked;
+    fn enter_answer(&mut self, asked: &mut Asked, answer: Answer) -> Result<(Reply, Option<usize>), Fault> {
+        let Asked { entry, argument } = asked;
         if self.free.is_empty() {
             self.slots.try_reserve(1).and_then(|()| self.free.try_reserve(self.slots.len() + 1)).map_err(|_| Fault::OutOfMemory)?;
             self.free.push(self.slots.len());
@@ -124,11 +124,11 @@ impl<T> Children<T> {
         loop {
             entry.answer = if argument.is_some() { answer } else { Answer::Ignore };
             let mut token = self.free.last().map_or(0, |slot| *slot as u64 + 1);
-            if let Some(reply) = self.rules.step_at(&entry, &mut token)? {
-                return Ok((reply, entry, index_of(token)));
+            if let Some(reply) = self.rules.step_at(entry, &mut token)? {
+                return Ok((reply, index_of(token)));
             }
             entry.serial = self.rules.stamp();
-            argument = self.rules.ask(&entry)?;
+            *argument = self.rules.ask(entry)?;
         }
     }
 
