@@ -107,7 +107,7 @@ impl<T> Children<T> {
             Err(fault) => Err(Refused { fault, unused: new }),
             Ok((reply, slot)) => {
                 let old = self.follow(reply, slot, &mut new);
-                let left = if goes_down(reply) { self.take_left() } else { Vec::new() };
+                let left = if matches!(reply, Reply::GaveUp | Reply::ShutDown(_) | Reply::Stopped) { self.take_left() } else { Vec::new() };
                 Ok(Done { reply, entry: asked.entry, old, unused: new, left })
             }
         }
@@ -179,9 +179,4 @@ impl<T> Children<T> {
 /// Returns the index of the slot with this token, if it is one.
 fn index_of(token: u64) -> Option<usize> {
     usize::try_from(token).ok()?.checked_sub(1)
-}
-
-/// Returns whether a reply says that the supervisor goes down.
-fn goes_down(reply: Reply) -> bool {
-    matches!(reply, Reply::GaveUp | Reply::ShutDown(_) | Reply::Stopped)
 }

@@ -125,10 +125,10 @@ impl TryFrom<&str> for Text {
     }
 }
 
-/// Makes an enum whose variants are words of the formats, by which it is written and read.
+/// Makes enums whose variants are words of the formats, by which they are written and read.
 macro_rules! words {
-    ($(#[$about:meta])* $name:ident { $($(#[$doc:meta])* $variant:ident = $word:literal,)* }) => {
-        $(#[$about])*
+    ($($(#[$about:meta])* $name:ident { $($(#[$doc:meta])* $variant:ident = $word:literal,)* })*) => {
+        $($(#[$about])*
         #[derive(Clone, Copy, Debug, PartialEq, Eq, PartialOrd, Ord, Hash)]
         pub enum $name {
             $($(#[$doc])* $variant,)*
@@ -146,7 +146,7 @@ macro_rules! words {
             fn from_str(word: &str) -> Result<$name, Fault> {
                 match word { $($word => Ok($name::$variant),)* _ => Err(Fault::BadLine) }
             }
-        }
+        })*
     };
 }
 
@@ -160,9 +160,7 @@ words! {
         /// Never.
         Temporary = "temporary",
     }
-}
 
-words! {
     /// What the children are counted as.
     Kind {
         /// The children do the work.
@@ -170,9 +168,7 @@ words! {
         /// The children are supervisors themselves.
         Supervisor = "supervisor",
     }
-}
 
-words! {
     /// Which ends of significant children take the supervisor down.
     AutoShutdown {
         /// None.
