@@ -38,11 +38,13 @@ static struct sup sup;
 static const char template[] = "history 2 permanent worker 1 5 3 plain never\nwhat follows is not read";
 static struct sup_row row;
 static uint8_t room[SUP_MOST_LINE];
-static uint64_t len, token = 9;
+static uint64_t len, stamp, token = 9;
 static struct sup_entry entry;
+static struct sup_reply reply = {9, 9, 9, 9};
 
 static uint32_t opens(void) { return sup_open(&sup, (const uint8_t *)template, strlen(template), 6); }
 static uint32_t lists(void) { return sup_row(&sup, 0, &row); }
+static uint32_t steps_at(void) { return sup_step_at(&sup, &entry, stamp, &token, &reply); }
 static uint32_t writes_entry(void) { return sup_write_entry(&entry, room, sizeof room, &len); }
 
 static uint32_t open_with(const char *line, uint64_t entries) {
@@ -76,7 +78,6 @@ int main(void) {
     for (size_t i = 0; i < sizeof no_line / sizeof *no_line; i++) CHECK(open_with(no_line[i], 1), SUP_BAD_LINE);
 
     /* a closed one: each call is refused, and writes nothing */
-    struct sup_reply reply = {9, 9, 9, 9};
     struct sup_counts counts = {.stamp = 9};
     struct sup_text text = {.len = 9};
     row.status = 9;
@@ -128,7 +129,7 @@ int main(void) {
 
     /* what is listed stays while entries come, until index 0 is asked for */
     entry = sup_start(0, "b");
-    for (uint64_t stamp = 0; stamp < 4; stamp += 2) CHECK(sup_step_at(&sup, &entry, stamp, &token, &reply), SUP_STALE);
+    for (uint64_t other = 0; other < 4; other += 2) CHECK(sup_step_at(&sup, &entry, other, &token, &reply), SUP_STALE);
     CHECK(token, 9);
     CHECK(sup_step_at(&sup, &entry, 1, &token, &reply), SUP_DONE);
     CHECK(sup_row(&sup, 1, &row) + row.status, SUP_NOT_LISTED);
@@ -167,6 +168,17 @@ int main(void) {
     CHECK(sup_close(&sup), SUP_BAD_HANDLE);
     CHECK(opens(), SUP_DONE);
     CHECK(sup_count(&sup, &counts) + counts.stamp, 0);
+
+    /* tokens and who remains need memory: if it is refused, nothing is entered */
+    entry = sup_start(0, "c");
+    called = steps_at, sweep("start with a token", 1);
+    CHECK(reply.kind, SUP_STARTED);
+    entry = sup_stop(0), stamp = 1;
+    called = steps_at, sweep("stop", 1);
+    CHECK(reply.kind, SUP_STOPPED);
+    CHECK(sup_token(&sup, 1, &token) + token, 9);
+    CHECK(sup_count(&sup, &counts) + counts.stamp, 2);
+    CHECK(sup_left(&sup, 0, &row) + row.number, 1);
     CHECK(sup_close(&sup), SUP_DONE);
     return tally();
 }
