@@ -1,9 +1,7 @@
 -- How many entries a history text has.
-use Rattle.std.proofs.Common.{◌≡◌, ℕ, ◌≤◌, List, [], ◌∷◌, length, refl, ap, arith}
-use Rattle.sup_types.specs.declared.template.Template.{Template}
+use Rattle.std.proofs.Common.{◌≡◌, ℕ, List, [], ◌∷◌, length, refl, arith}
 use Rattle.sup_types.specs.declared.history.Entry.{Entry}
-use Rattle.sup_format.specs.Reading.History.{AreEntries, Spells}
-use Rattle.sup_format.specs.LineLaws.{few_lines}
+use Rattle.sup_format.specs.Reading.History.{AreEntries}
 
 pub entries_length : (lines : List (List ℕ)) (es : List Entry) → AreEntries lines es → length es ≡ length lines
 entries_length [] [] s = refl

@@ -20,13 +20,17 @@
 #![tactic(auto)]
 
 mod fault;
+mod faulty;
 pub mod laws;
 mod read;
+mod spelled;
 mod watch;
 mod write;
 
 pub use fault::{Fault, ScriptFault};
+pub use faulty::FaultyLine;
 pub use read::command::{Command, read_line};
+pub use read::cursor::Cursor;
 pub use read::entries::EntryReader;
 pub use read::header::read_header;
 pub use read::history::{
@@ -34,7 +38,8 @@ pub use read::history::{
 };
 pub use read::input::{MOST_BYTES, PIECE, line_after, read_whole};
 pub use read::lines::{ended_part, first_line};
-pub use read::tokens::read_reason;
+pub use read::misfit::{LineKind, find_misfit};
+pub use read::place::Place;
 pub use read::words::{next_word, read_number, split_once};
 pub use watch::{WatchedReader, WatchedWriter};
 pub use write::history_text::{append_entry, append_header, write_history};

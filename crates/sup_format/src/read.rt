@@ -1,9 +1,11 @@
-//! From bytes to values: lines, words and tokens, commands, headers and whole history texts.
+//! From bytes to values: lines, words, commands, headers and whole history texts.
 pub mod command;
+pub mod cursor;
 pub mod entries;
 pub mod header;
 pub mod history;
 pub mod input;
 pub mod lines;
-pub mod tokens;
+pub mod misfit;
+pub mod place;
 pub mod words;

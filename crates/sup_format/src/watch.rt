@@ -6,6 +6,7 @@ ghost use Rattle.std.specs.Prelude.{◌≡◌, ◌+◌, ◌<◌, ◌≤◌, ◌^
 ghost use Rattle.std.specs.Io.KnownBytes.{Appends, Consumes, IsAtEnd, Keeps};
 ghost use Rattle.sup_format.specs.Writing.Sent.{IsSent};
 
+use crate::faulty::FaultyLine;
 use std::io::{ErrorKind, Read, Write};
 
 /// Notes whether a writer answered an error, or took nothing of bytes that were not empty.
@@ -89,7 +90,7 @@ impl<W: Write> WatchedWriter<W> {
     }
 }
 
-/// Notes how often a reader was asked, how many bytes it gave, and whether it answered an error.
+/// Notes how often a reader was asked, how many bytes it gave, whether it answered an error, and which line of what it gave has a fault.
 #[derive(Debug, Drop)]
 pub struct WatchedReader<R> {
     reader: R,
@@ -97,6 +98,7 @@ pub struct WatchedReader<R> {
     given: u64,
     has_failed: bool,
     error: Option<ErrorKind>,
+    line: FaultyLine,
 }
 
 impl<R: Read> WatchedReader<R> {
@@ -113,6 +115,7 @@ impl<R: Read> WatchedReader<R> {
             given: 0,
             has_failed: false,
             error: None,
+            line: FaultyLine::default(),
         }
     }
 
@@ -171,6 +174,20 @@ impl<R: Read> WatchedReader<R> {
         ensures { result ≡ self.now.error }
     {
         self.error
+    }
+
+    /// Notes the line that has a fault.
+    pub fn note_line(&mut self, line: FaultyLine)
+        ensures reader { self.new.reader ≡ self.old.reader }
+        ensures calls { (self.new.calls ≡ self.old.calls) × (self.new.given ≡ self.old.given) }
+        ensures failed { self.new.has_failed ≡ self.old.has_failed }
+    {
+        self.line = line;
+    }
+
+    /// Returns the line that has a fault: the empty one, if none was noted.
+    pub fn line(&self) -> &FaultyLine {
+        &self.line
     }
 
     /// Returns the reader.

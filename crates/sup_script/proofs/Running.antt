@@ -6,5 +6,4 @@ pub mod Pieces
 pub mod WholeRuns
 pub mod Replaying
 pub mod Journaling
-pub mod Filing
 pub mod WholeReplays

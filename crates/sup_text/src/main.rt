@@ -10,10 +10,8 @@ mod program;
 use program::run_words;
 use std::io::IsTerminal;
 use std::process::ExitCode;
-use std::rt::Env;
-use std::{env, io};
 use sup_script::{WatchedReader, WatchedWriter};
-use sup_words::refuse_words;
+use sup_words::{refuse_words, words_given};
 
 fn main(rt: HostRuntime) -> ExitCode {
     let mut err = rt.stderr();
@@ -33,10 +31,5 @@ fn main(rt: HostRuntime) -> ExitCode {
         &mut err,
         is_person,
     );
-    ExitCode::from(status)
-}
-
-/// The words of the command line, the program's name first. InvalidData: a word is not UTF-8.
-fn words_given(rt: &(impl Env + AllocGlobal)) -> io::Result<Vec<String>> {
-    Ok(env::args(rt)?.collect(rt.alloc())?)
+    ExitCode::from(status.number())
 }

@@ -1,8 +1,7 @@
 //! The whole program, over any files, reader and writers.
 
 ghost use Rattle.std.specs.Prelude.{◌≡◌, ◌⊎◌, ℕ, List, [], ◌∷◌, codes, false, map, true};
-ghost use Rattle.sup_script.specs.Running.Answers.{IsReplayAnswered, IsScriptAnswered, status_number};
-ghost use Rattle.sup_script.specs.declared.runs.answer.Status.{Status as AStatus};
+ghost use Rattle.sup_script.specs.Running.Answers.{IsReplayAnswered, IsScriptAnswered};
 ghost use Rattle.sup_script.specs.declared.runs.answer.Status.TheVariants.{Failed};
 ghost use Rattle.sup_text.specs.Replies.{IsReplyTo};
 ghost use Rattle.sup_words.specs.Orders.{HasFile, command_at};
@@ -14,38 +13,10 @@ use std::io::{Read, Write};
 use sup_script::{Status, WatchedReader, WatchedWriter, answer_input};
 use sup_words::{Order, read_words, show};
 
-/// Answers the text that the words ask for, of which the first is the program's name, and returns the exit status. The replies, or a
-/// help text, go to `out`; the line of a fault, and words that are refused, go to `err`. The words of a load or a server are refused,
-/// with status 2. To a person, who reads `err`, a fault is explained without being asked.
+/// Answers the text that the words ask for, of which the first is the program's name, and returns how it ended. The replies, or a
+/// help text, go to `out`; the line of a fault, and words that are refused, go to `err`. The words of a load or a server are refused
+/// as bad input. To a person, who reads `err`, a fault is explained without being asked.
 pub fn run_words<F: Files, S: AsStr, R: Read, W: Write, E: Write>(
-    files: &F,
-    alloc: Global,
-    words: &[S],
-    reader: &mut WatchedReader<R>,
-    out: &mut WatchedWriter<W>,
-    err: &mut E,
-    is_person: bool,
-) -> u8
-    requires calls { reader.old.calls ≡ 0 }
-    requires none { reader.old.given ≡ 0 }
-    requires unfailed { reader.old.has_failed ≡ false }
-    requires unrefused { out.old.has_refused ≡ false }
-    ensures script { (name : List ℕ) → map S.text words.now ≡ name ∷ codes "script" ∷ [] → (status : AStatus) × (result ≡ status_number status)
-        × IsScriptAnswered (R.remaining reader.old.reader) (R.remaining reader.new.reader) (W.contents out.old.writer) (W.contents out.new.writer)
-        reader.new.has_failed reader.new.given out.new.has_refused status }
-    ensures replay { (name : List ℕ) → map S.text words.now ≡ name ∷ codes "replay" ∷ [] → (status : AStatus) × (result ≡ status_number status)
-        × IsReplayAnswered (R.remaining reader.old.reader) (R.remaining reader.new.reader) (W.contents out.old.writer) (W.contents out.new.writer)
-        reader.new.has_failed reader.new.given out.new.has_refused status }
-    ensures words { (status : AStatus) × (result ≡ status_number status)
-        × IsReplyTo (map S.text words.now) (R.remaining reader.old.reader) (R.remaining reader.new.reader) (W.contents out.old.writer)
-        (W.contents out.new.writer) reader.new.has_failed reader.new.given out.new.has_refused status }
-    ensures cause { result ≡ 3 → (reader.new.has_failed ≡ true) ⊎ ((out.new.has_refused ≡ true) ⊎ HasFile (command_at (map S.text words.now))) }
-{
-    answer_words(files, alloc, words, reader, out, err, is_person).number()
-}
-
-/// Answers the text that the words ask for, as [`run_words`].
-fn answer_words<F: Files, S: AsStr, R: Read, W: Write, E: Write>(
     files: &F,
     alloc: Global,
     words: &[S],

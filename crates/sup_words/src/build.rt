@@ -16,7 +16,7 @@ use std::alloc::{AllocError, Global};
 /// What the file of a script or of a history is.
 const TEXT: &str = "The text; standard input, if it is `-` or left out";
 
-/// An argument that takes the path of a file, and may be left out.
+/// Builds an option that takes the path of a file.
 fn path<'a>(alloc: Global, name: &'a str, value: &'a str, help: &'a str) -> Arg<'a>
     ensures rule { rule_of result ≡ path_rule name.entry.now }
     ensures local { result.global ≡ false }
@@ -28,7 +28,7 @@ fn path<'a>(alloc: Global, name: &'a str, value: &'a str, help: &'a str) -> Arg<
         .action(ArgAction::Set)
 }
 
-/// An argument that takes no value, and may be left out.
+/// Builds an option without a value.
 fn flag<'a>(alloc: Global, name: &'a str, help: &'a str) -> Arg<'a>
     ensures rule { rule_of result ≡ flag_rule name.entry.now }
     ensures local { result.global ≡ false }
@@ -39,7 +39,7 @@ fn flag<'a>(alloc: Global, name: &'a str, help: &'a str) -> Arg<'a>
         .action(ArgAction::SetTrue)
 }
 
-/// An argument without a name of its own that takes the path of a file.
+/// Builds an argument that is the path of a file.
 fn file<'a>(alloc: Global, help: &'a str, required: bool) -> Arg<'a>
     ensures rule { rule_of result ≡ file_rule required }
     ensures local { result.global ≡ false }
@@ -51,7 +51,7 @@ fn file<'a>(alloc: Global, help: &'a str, required: bool) -> Arg<'a>
         .action(ArgAction::Set)
 }
 
-/// An argument that takes a number of this range.
+/// Builds an option that has to be given, with a number of this range.
 fn number<'a>(
     alloc: Global,
     name: &'a str,
@@ -71,7 +71,7 @@ fn number<'a>(
         .value_parser(ValueParser::unsigned(range.0, range.1))
 }
 
-/// The command that runs a load.
+/// Builds the command that runs a load.
 fn load_command<'a>(alloc: Global) -> Result<Command<'a>, AllocError>
     ensures { IfOk result (λ c. (app_of c ≡ load_app) × ((fields_of c).has_globals ≡ false)) }
 {
@@ -110,8 +110,7 @@ fn load_command<'a>(alloc: Global) -> Result<Command<'a>, AllocError>
         .arg(flag(alloc, "explain", "Explains a fault"))
 }
 
-/// A command that answers a text: that of a file, which has to be given, or by default what standard input has. What it is about is
-/// said in short and in full.
+/// Builds a command that reads a file or standard input, with a short and a long help text.
 fn text_command<'a>(
     alloc: Global,
     name: &'a str,
@@ -129,7 +128,7 @@ fn text_command<'a>(
         .arg(file(alloc, text, in_file))
 }
 
-/// The command that serves sessions.
+/// Builds the command that serves sessions.
 fn serve_command<'a>(alloc: Global) -> Result<Command<'a>, AllocError>
     ensures { IfOk result (λ c. (app_of c ≡ serve_app) × ((fields_of c).has_globals ≡ false)) }
 {
@@ -150,7 +149,7 @@ fn serve_command<'a>(alloc: Global) -> Result<Command<'a>, AllocError>
         ))
 }
 
-/// Returns the whole command line, with its five commands.
+/// Builds the whole command line, with its five commands.
 pub(crate) fn command<'a>(alloc: Global) -> Result<Command<'a>, AllocError>
     ensures { IfOk result (λ c. app_of c ≡ supload_app) }
 {

@@ -188,8 +188,8 @@ pub(crate) const FAULTS: &str =
     "A fault is one line on standard error: `fault N line L`, with its number and the line's; of a file that can't be read,
 `fault 10: CAUSE: FILE`:
    1  out of memory
-   7  a number of the first line is out of its range, or `significant` can't stand there
-   9  a line that is none of the format
+   7  a number of the first line is out of its range, or `significant` is not allowed there
+   9  invalid line
   10  the file or standard input could not be read
   11  standard output could not be written
   12  more than 16777216 bytes came, which only a journal may have

@@ -19,4 +19,4 @@ mod words;
 
 pub use load::Load;
 pub use refusal::{refuse_words, show};
-pub use words::{Notices, Order, read_words};
+pub use words::{Notices, Order, read_words, words_given};

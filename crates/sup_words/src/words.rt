@@ -16,11 +16,13 @@ use crate::build::command;
 use crate::load::Load;
 use clap::error::{Error, ErrorKind};
 use clap::{ArgMatches, Command};
-use std::alloc::Global;
+use std::alloc::{AllocGlobal, Global};
 use std::convert::AsStr;
+use std::rt::Env;
+use std::{env, io};
 use sup_script::{Detail, Input};
 
-/// What the program is asked to do.
+/// Says what the program is asked to do.
 #[derive(Clone, Copy, Debug, PartialEq, Eq)]
 pub enum Order<'a> {
     /// To answer a script, a history text or a journal, and to say so much of a fault.
@@ -31,11 +33,16 @@ pub enum Order<'a> {
     Serve(Notices, Option<&'a str>),
 }
 
-/// Whether a server says by itself how many sessions there are.
+/// Says whether a server tells by itself how many sessions there are.
 #[derive(Clone, Copy, Debug, PartialEq, Eq)]
 pub enum Notices {
     On,
     Off,
+}
+
+/// Returns the words of the command line, the program's name first. InvalidData: a word is not UTF-8.
+pub fn words_given(rt: &(impl Env + AllocGlobal)) -> io::Result<Vec<String>> {
+    Ok(env::args(rt)?.collect(rt.alloc())?)
 }
 
 /// Reads the words of the command line, of which the first is the program's name. A help text, the version and words that
@@ -56,7 +63,7 @@ pub fn read_words<'a, S: AsStr>(alloc: Global, words: &'a [S]) -> Result<Order<'
     read_options(alloc, words)
 }
 
-/// Whether the words are the program's name and this command.
+/// Returns whether the words are the program's name and this command.
 fn is_command<S: AsStr>(words: &[S], command: &str) -> bool
     ensures { MatchBool result ((name : List ℕ) × (map S.text words.now ≡ name ∷ command.now ∷ []))
         ((name : List ℕ) → map S.text words.now ≡ name ∷ command.now ∷ [] → ⊥) }
@@ -72,7 +79,7 @@ fn read_options<'a, S: AsStr>(alloc: Global, words: &'a [S]) -> Result<Order<'a>
     read_matches(alloc, &matches)
 }
 
-/// The order that `clap` found among the words.
+/// Returns the order that `clap` found among the words.
 fn read_matches<'a>(alloc: Global, matches: &ArgMatches<'a>) -> Result<Order<'a>, Error>
     ensures { MatchResult result (IsOrder (subcommand_rows_of matches.now))
         (λ e. (kind_of e ≡ OutOfMemory) ⊎ IsNoOrder (subcommand_rows_of matches.now) (kind_of e)) }
@@ -119,7 +126,7 @@ fn refused(alloc: Global, kind: ErrorKind, text: &str) -> Error
     }
 }
 
-/// How much is to be said of a fault.
+/// Returns how much is to be written of a fault.
 fn read_detail(words: &ArgMatches) -> Detail
     ensures { IsDetail (rows_of (found_of words.now)) result }
 {
@@ -130,7 +137,7 @@ fn read_detail(words: &ArgMatches) -> Detail
     }
 }
 
-/// Whether the server says by itself how many sessions there are.
+/// Returns whether the server says by itself how many sessions there are.
 fn read_notices(words: &ArgMatches) -> Notices
     ensures { IsNotices (rows_of (found_of words.now)) result }
 {
@@ -141,7 +148,7 @@ fn read_notices(words: &ArgMatches) -> Notices
     }
 }
 
-/// The numbers of a load. `clap` has read them within their ranges.
+/// Returns the numbers of a load. `clap` has read them within their ranges.
 fn read_load(words: &ArgMatches) -> Option<Load>
     ensures { MatchOption result
         ((w n r t : ℕ) → AreNumbers (rows_of (found_of words.now)) w n r t → IsWithin w n r t → ⊥)
@@ -169,7 +176,7 @@ fn journal_at(file: &str) -> &str
     if file == "-" { "/dev/stdin" } else { file }
 }
 
-/// The path that has this name, if it was given.
+/// Returns the path that has this name, if it was given.
 fn read_path<'a>(words: &ArgMatches<'a>, name: &str) -> Option<&'a str>
     ensures { IsPath (rows_of (found_of words.now)) name.now result }
 {

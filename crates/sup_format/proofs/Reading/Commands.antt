@@ -1,5 +1,5 @@
 -- Which words spell which command.
-use Rattle.std.proofs.Common.{◌≡◌, ◌≢◌, ◌⊎◌, ℕ, ◌<◌, ◌^◌, ◌==◌, Bool, true, false, ◌||◌, cond, nat_eq, List, [], ◌∷◌, ◌++◌, length, drop, codes, refl, subst, sym, ap, ◌∙◌, arith, inl, inr, Option, None, Some, is_some}
+use Rattle.std.proofs.Common.{◌≡◌, ◌≢◌, ℕ, ◌<◌, ◌^◌, ◌==◌, true, false, cond, nat_eq, List, [], ◌∷◌, ◌++◌, length, drop, codes, refl, sym, ap, ◌∙◌, arith, inl, inr, Option, None, Some, is_some}
 use Rattle.std.specs.Fmt.{decimal}
 use Rattle.std.specs.Str.{bytes_eq}
 use Rattle.std.specs.List.{starts_with}
@@ -8,28 +8,24 @@ use Rattle.std.proofs.lemmas.Slice.Eq.{bytes_eq-Decides}
 use Rattle.std.proofs.lemmas.List.{length-append, nil_from_length}
 use Rattle.std.proofs.lemmas.List.Splits.{length-slice_split}
 use denote.Ref.{Bor}
-use Rattle.sup_types.specs.Text.{IsText, IsWord}
+use Rattle.sup_types.specs.Text.{IsWord}
 use Rattle.sup_types.specs.declared.reason.Reason.{Reason}
-use Rattle.sup_types.specs.declared.reason.Reason.TheVariants as reason
 use Rattle.sup_types.specs.declared.history.Operation.{Operation}
 use Rattle.sup_types.specs.declared.history.Operation.TheVariants as operation
 use Rattle.sup_format.specs.declared.read.command.Command.TheVariants as command
-use Rattle.sup_format.specs.declared.read.tokens.Verb.{Verb}
-use Rattle.sup_format.specs.declared.read.tokens.Verb.TheVariants as verb
+use Rattle.sup_format.specs.declared.spelled.Verb.{Verb}
+use Rattle.sup_format.specs.declared.spelled.Verb.TheVariants as verb
+use Rattle.sup_format.specs.declared.spelled.Query.TheVariants as query
 use Rattle.sup_format.specs.declared.read.header.Parts.{Parts}
 use Rattle.sup_format.specs.Reading.Words.{words_of, words_left}
-use Rattle.sup_format.specs.Reading.Tokens.{verb_word, operation_verb, argument_words, reason_word, IsReason, IsOperation, HasNoArguments}
-use Rattle.sup_format.specs.Reading.Lines.{IsIdentifierWord, is_identifier_word, MeansNothing}
+use Rattle.sup_format.specs.Reading.Tokens.{verb_word, operation_verb, argument_words, reason_word, IsReason, IsOperation, HasNoArguments, HasNoValue}
+use Rattle.sup_format.specs.Reading.Lines.{IsIdentifierWord, query_word, MeansNothing}
 use Rattle.sup_format.specs.Reading.Headers.{limit_words}
 
 -- ---- texts
 
 pub texts_differ : (a b : List ℕ) → bytes_eq a b ≡ false → a ≡ b → ⊥
 texts_differ a b other e = false≢true (sym other ∙ (bytes_eq-Decides a b).1 e)
-
--- what a test of two texts says
-pub other_text : (xs ys zs : List ℕ) → false ≡ bytes_eq xs ys → ys ≡ zs → xs ≢ zs
-other_text xs ys zs differs same e = false≢true (differs ∙ (bytes_eq-Decides xs ys).1 (e ∙ sym same))
 
 -- ---- words
 
@@ -80,28 +76,12 @@ verb_same v w e = let same : Some v ≡ Some w = sym (verb_is v) ∙ ap verb_of 
 pub no_verb : (v : Verb) (word : List ℕ) → verb_of word ≡ None → verb_word v ≡ word → ⊥
 no_verb v word none e = let same : Some v ≡ None = sym (verb_is v) ∙ ap verb_of e ∙ none in cc
 
-identifier_is : (word : List ℕ) → IsIdentifierWord word → is_identifier_word word ≡ true
-identifier_is word is =
-    elim is [
-      | inl a ↦ rw a refl
-      | inr b ↦ elim b [ inl c ↦ rw c refl | inr d ↦ rw d refl ]
-    ]
-
-no_identifier : (word : List ℕ) → is_identifier_word word ≡ false → IsIdentifierWord word → ⊥
-no_identifier word other is = false≢true (sym other ∙ identifier_is word is)
-
 pub identifier_no_verb : (word : List ℕ) → IsIdentifierWord word → verb_of word ≡ None
 identifier_no_verb word is =
     elim is [
       | inl a ↦ rw a refl
       | inr b ↦ elim b [ inl c ↦ rw c refl | inr d ↦ rw d refl ]
     ]
-
-either_is : (a b c : Bool) → a || b || c ≡ true → (a ≡ true) ⊎ ((b ≡ true) ⊎ (c ≡ true))
-either_is true b c e = inl refl
-either_is false true c e = inr (inl refl)
-either_is false false true e = inr (inr refl)
-either_is false false false e = absurd (false≢true e)
 
 -- ---- words that spell no command
 
@@ -115,19 +95,17 @@ no_update v ws none (command.ById text) s =
     let name = s.spelled.0 in
     no_verb v name (identifier_no_verb name s.spelled.1) (first_same _ _ _ _ s.spelled.2)
 
-pub no_by_id : (word : List ℕ) (ws : List (List ℕ)) → IsIdentifierWord word → ((text : List ℕ) → IsText text → ws ≡ text ∷ [] → ⊥) → MeansNothing (word ∷ ws)
-no_by_id word ws is none (command.Update m o) s = no_verb (operation_verb o) word (identifier_no_verb word is) (sym (first_same _ _ _ _ s.spelled))
-no_by_id word ws is none command.Which s = no_identifier (codes "which") refl (subst IsIdentifierWord (first_same _ _ _ _ s.spelled) is)
-no_by_id word ws is none command.Count s = no_identifier (codes "count") refl (subst IsIdentifierWord (first_same _ _ _ _ s.spelled) is)
-no_by_id word ws is none (command.ById text) s = none text s.fits (rest_same _ _ _ _ s.spelled.2)
-
--- a first word that names no operation and no call by identifier
-pub no_command : (word : List ℕ) (ws : List (List ℕ)) → ((v : Verb) → word ≢ verb_word v) → is_identifier_word word ≡ false → (word ≡ codes "which" → ws ≡ [] → ⊥) → (word ≡ codes "count" → ws ≡ [] → ⊥) → MeansNothing (word ∷ ws)
-no_command word ws verb identifier which count (command.Update m o) s = verb (operation_verb o) (first_same _ _ _ _ s.spelled)
-no_command word ws verb identifier which count command.Which s = which (first_same _ _ _ _ s.spelled) (rest_same _ _ _ _ s.spelled)
-no_command word ws verb identifier which count command.Count s = count (first_same _ _ _ _ s.spelled) (rest_same _ _ _ _ s.spelled)
-no_command word ws verb identifier which count (command.ById text) s =
-    no_identifier word identifier (subst IsIdentifierWord (sym (first_same _ _ _ _ s.spelled.2)) s.spelled.1)
+-- a first word that names no command
+pub no_command : (ws : List (List ℕ)) → HasNoValue verb_word ws → HasNoValue query_word ws → MeansNothing ws
+no_command ws verbs queries (command.Update m o) s = verbs (operation_verb o) _ s.spelled
+no_command ws verbs queries command.Which s = queries query.Which [] s.spelled
+no_command ws verbs queries command.Count s = queries query.Count [] s.spelled
+no_command ws verbs queries (command.ById text) s =
+    let e = s.spelled.2 in
+    elim s.spelled.1 [
+      | inl a ↦ queries query.TerminateId (text ∷ []) (rw a at e)
+      | inr b ↦ elim b [ inl c ↦ queries query.DeleteChild (text ∷ []) (rw c at e) | inr d ↦ queries query.RestartChild (text ∷ []) (rw d at e) ]
+    ]
 
 -- ---- reasons
 
@@ -141,40 +119,6 @@ begins t = refl
 
 pub term_is_no_word : (t word : List ℕ) → word ≡ codes "shutdown:" ++ t → IsWord word → ⊥
 term_is_no_word t word e w = false≢true (sym w.3 ∙ ap (λ l. starts_with nat_eq l (codes "shutdown:")) e ∙ begins t)
-
--- ---- arguments
-
-arguments_count : Verb → ℕ
-arguments_count verb.Start = 1
-arguments_count verb.Exit = 2
-arguments_count verb.Retry = 1
-arguments_count verb.Terminate = 1
-arguments_count verb.Stop = 0
-
-count_is : (o : Operation) → length (argument_words o) ≡ arguments_count (operation_verb o)
-unfolding arguments_count
-count_is (operation.Start a) = refl
-count_is (operation.Exit n r) = refl
-count_is (operation.Retry n) = refl
-count_is (operation.Terminate n) = refl
-count_is operation.Stop = refl
-
--- operations of one name have as many arguments
-pub arguments_same : (o p : Operation) → operation_verb o ≡ operation_verb p → length (argument_words o) ≡ length (argument_words p)
-arguments_same o p same = count_is o ∙ ap arguments_count same ∙ sym (count_is p)
-
-pub none_past : (v : Verb) (o p : Operation) (ws xs : List (List ℕ)) → operation_verb o ≡ v → operation_verb p ≡ v → ws ≡ argument_words o ++ xs → ws ≡ argument_words p → xs ≡ []
-none_past v o p ws xs a b e f =
-    let same = arguments_same o p (a ∙ sym b) in
-    let whole : length (argument_words o ++ xs) ≡ length (argument_words p) = ap length (sym e ∙ f) in
-    nil_from_length xs (omega (arith, length-append (argument_words o) xs))
-
-pub no_exit : (v : Verb) (ws : List (List ℕ)) → v ≡ verb.Exit → ((n : ℕ) (r : Reason) (more : List (List ℕ)) → n < 2 ^ 64 → IsReason r → ws ≡ decimal n ∷ reason_word r ∷ more → ⊥) → HasNoArguments v ws
-no_exit v ws is none (operation.Exit n r) more fits same e = none n r more fits.0 fits.1 e
-no_exit v ws is none (operation.Start a) more fits same e = absurd cc
-no_exit v ws is none (operation.Retry n) more fits same e = absurd cc
-no_exit v ws is none (operation.Terminate n) more fits same e = absurd cc
-no_exit v ws is none operation.Stop more fits same e = absurd cc
 
 -- ---- first lines
 

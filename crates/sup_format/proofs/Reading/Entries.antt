@@ -1,20 +1,17 @@
 -- Which words spell which entry.
-use Rattle.std.proofs.Common.{◌≡◌, ◌≢◌, ℕ, ◌<◌, ◌≤◌, ◌^◌, ◌==◌, false, List, [], ◌∷◌, ◌++◌, length, get_or, drop, codes, refl, subst, sym, ap, ◌∙◌, arith, inl, inr, eq-eqb, Option, None, Some}
+use Rattle.std.proofs.Common.{◌≡◌, ℕ, ◌<◌, ◌≤◌, ◌^◌, ◌==◌, false, List, [], ◌∷◌, length, get_or, refl, subst, sym, ap, ◌∙◌, arith, eq-eqb}
 use Rattle.std.specs.Fmt.{decimal}
-use Rattle.std.proofs.Math.Seq.{get_or-append_seam, drop-append_seam}
+use Rattle.std.proofs.Math.Seq.{get_or-append_seam}
 use Rattle.std.proofs.lemmas.Bool.{false≢true}
 use Rattle.std.proofs.lemmas.Fmt.{decimal_injective}
 use Rattle.std.proofs.lemmas.List.{length-append}
 use Rattle.sup_types.specs.declared.history.Answer.{Answer}
 use Rattle.sup_types.specs.declared.history.Answer.TheVariants as answer
-use Rattle.sup_types.specs.declared.history.Operation.{Operation}
-use Rattle.sup_format.specs.declared.read.header.Parts.{Parts}
-use Rattle.sup_format.specs.Reading.Words.{words_of, Lacks, IsSplit}
-use Rattle.sup_format.specs.Reading.Tokens.{operation_verb, argument_words}
-use Rattle.sup_format.specs.Reading.Headers.{HasParts}
-use Rattle.sup_format.specs.Reading.History.{AreFirstWords, answer_words, IsAnswer, MeansNoEntry}
-use Rattle.sup_format.specs.Reading.HistoryReading.{HasPlain, HasMarked}
-use Rattle.sup_format.proofs.Reading.Commands.{texts_differ, first_same, rest_same, arguments_same}
+use Rattle.sup_format.specs.declared.spelled.AnswerName.TheVariants as name
+use Rattle.sup_format.specs.Reading.Words.{Lacks, IsSplit}
+use Rattle.sup_format.specs.Reading.Tokens.{HasNoValue}
+use Rattle.sup_format.specs.Reading.History.{answer_word, answer_words, MeansNoEntry}
+use Rattle.sup_format.proofs.Reading.Commands.{first_same}
 use Rattle.sup_format.specs.LineLaws.{lines-split}
 
 -- ---- answers
@@ -22,12 +19,10 @@ use Rattle.sup_format.specs.LineLaws.{lines-split}
 pub too_large_a_code : (word : List ℕ) (n code : ℕ) → n < 2 ^ 64 → 2 ^ 32 ≤ n → code < 2 ^ 32 → word ≡ decimal n → word ≡ decimal code → ⊥
 too_large_a_code word n code fits large small e f = let same : n ≡ code = decimal_injective n code fits (omega arith) (sym e ∙ f) in absurd (omega arith)
 
-pub no_answer : (word : List ℕ) (ws : List (List ℕ)) → word ≢ codes "failed" → (word ≡ codes "running" → ws ≡ [] → ⊥) → (word ≡ codes "ignore" → ws ≡ [] → ⊥) → (a : Answer) → IsAnswer a → word ∷ ws ≡ answer_words a → ⊥
-no_answer word ws failed running ignore answer.Running fits e = running (first_same _ _ _ _ e) (rest_same _ _ _ _ e)
-no_answer word ws failed running ignore answer.Ignore fits e = ignore (first_same _ _ _ _ e) (rest_same _ _ _ _ e)
-no_answer word ws failed running ignore (answer.Failed code) fits e = failed (first_same _ _ _ _ e)
-
--- ---- operations and what follows them
+pub no_answer : (ws : List (List ℕ)) → HasNoValue answer_word ws → (a : Answer) → ws ≡ answer_words a → ⊥
+no_answer ws none answer.Running e = none name.Running [] e
+no_answer ws none answer.Ignore e = none name.Ignore [] e
+no_answer ws none (answer.Failed code) e = none name.Failed (decimal code ∷ []) e
 
 -- ---- lines
 
@@ -43,5 +38,3 @@ line_same bytes line more line' more' a b = first_same _ _ _ _ (sym (lines-split
 
 pub no_entry_in : (bytes line more : List ℕ) → IsSplit 10 bytes line more → MeansNoEntry line → (line' more' : List ℕ) → IsSplit 10 bytes line' more' → MeansNoEntry line'
 no_entry_in bytes line more split none line' more' other = subst MeansNoEntry (line_same bytes line more line' more' split other) none
-
--- ---- first lines

@@ -25,8 +25,8 @@ use Rattle.sup_types.specs.declared.history.Answer.TheVariants as answer
 use Rattle.sup_types.specs.declared.history.Operation.{Operation}
 use Rattle.sup_types.specs.declared.history.Operation.TheVariants as operation
 use Rattle.sup_types.specs.declared.history.Entry.{Entry}
-use Rattle.sup_format.specs.declared.read.tokens.Verb.{Verb}
-use Rattle.sup_format.specs.declared.read.tokens.Verb.TheVariants as verb
+use Rattle.sup_format.specs.declared.spelled.Verb.{Verb}
+use Rattle.sup_format.specs.declared.spelled.Verb.TheVariants as verb
 use Rattle.sup_format.specs.Reading.Words.{words_of, Lacks}
 use Rattle.sup_format.specs.Reading.Tokens.{restart_word, kind_word, mark_word, auto_word, reason_word, verb_word, operation_verb, argument_words, IsReason, IsOperation}
 use Rattle.sup_format.specs.Writing.Replies.{line_of, spaced}

@@ -7,13 +7,13 @@ use Rattle.std.proofs.lemmas.Bool.{ltb-true, ltb-false}
 use Rattle.sup_types.specs.declared.template.Template.{Template}
 use Rattle.sup_types.specs.declared.history.Entry.{Entry}
 use Rattle.sup_format.specs.declared.fault.Fault.{Fault}
-use Rattle.sup_format.specs.HistorySteps.{read_more, split_parts, split_length}
-use Rattle.sup_format.specs.LineLaws.{full-both, full-right, few_lines}
+use Rattle.sup_format.specs.HistorySteps.{read_more, split_parts}
+use Rattle.sup_format.specs.LineLaws.{full-both, full-right}
 use Rattle.sup_format.specs.Reading.History.{EntryMeans}
 use Rattle.sup_format.specs.Reading.HistoryReading.{IsReadTo}
 use Rattle.sup_format.specs.Reading.Streams.{Stream, EndsFeed, IsFed, IsStreamed, IsUnread}
-use Rattle.sup_format.specs.Reading.Texts.{IsFull, lines_of}
-use Rattle.sup_format.specs.Reading.Words.{IsSplit, Lacks}
+use Rattle.sup_format.specs.Reading.Texts.{IsFull}
+use Rattle.sup_format.specs.Reading.Words.{IsSplit}
 
 -- ---- a piece
 

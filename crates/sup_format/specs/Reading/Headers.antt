@@ -81,10 +81,10 @@ HasFirst Shape line (Err fault.ReadFault) = ⊥
 HasFirst Shape line (Err fault.WriteFault) = ⊥
 HasFirst Shape line (Err fault.TooLong) = ⊥
 
--- the parts that were found, or that there are none
-abbrev pub HasParts : (List (List ℕ) → Parts → Type 0) → List ℕ → Option Parts → Type 0
-HasParts Shape line None = IsNoFirst Shape line
-HasParts Shape line (Some parts) = HasShape Shape line parts
+-- the parts that words of this shape name
+abbrev pub HasParts : (List (List ℕ) → Parts → Type 0) → List (List ℕ) → Option Parts → Type 0
+HasParts Shape words None = (parts : Parts) → FitsParts parts → Shape words parts → ⊥
+HasParts Shape words (Some parts) = FitsParts parts × Shape words parts
 
 -- the template of the parts that were found, or what is wrong with the line
 abbrev pub GivesTemplate : Option Parts → Result Template Fault → Type 0

@@ -7,6 +7,8 @@ use Rattle.sup_types.specs.declared.history.Answer.TheVariants as answer
 use Rattle.sup_types.specs.declared.history.Entry.{Entry}
 use Rattle.sup_types.specs.declared.history.Operation.{Operation}
 use Rattle.sup_format.specs.declared.read.header.Parts.{Parts}
+use Rattle.sup_format.specs.declared.spelled.AnswerName.{AnswerName}
+use Rattle.sup_format.specs.declared.spelled.AnswerName.TheVariants as name
 use Rattle.sup_format.specs.Reading.Words.{words_of}
 use Rattle.sup_format.specs.Reading.Tokens.{verb_word, operation_verb, argument_words, IsOperation}
 use Rattle.sup_format.specs.Reading.Headers.{limit_words, shutdown_words, IsPlain, IsFirst, IsTemplateOf}
@@ -24,6 +26,17 @@ abbrev pub answer_words : Answer → List (List ℕ)
 answer_words answer.Running = codes "running" ∷ []
 answer_words answer.Ignore = codes "ignore" ∷ []
 answer_words (answer.Failed code) = codes "failed" ∷ decimal code ∷ []
+
+-- the name of an answer
+abbrev pub answer_word : AnswerName → List ℕ
+answer_word name.Running = codes "running"
+answer_word name.Ignore = codes "ignore"
+answer_word name.Failed = codes "failed"
+
+abbrev pub answer_name : Answer → AnswerName
+answer_name answer.Running = name.Running
+answer_name answer.Ignore = name.Ignore
+answer_name (answer.Failed code) = name.Failed
 
 -- an operation and its answer
 abbrev pub deed_words : Operation → Answer → List (List ℕ)

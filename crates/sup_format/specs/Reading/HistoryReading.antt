@@ -1,19 +1,17 @@
 -- What the reading of a history text answers.
-use Rattle.std.specs.Prelude.{◌≡◌, ℕ, ◌+◌, ◌<◌, ◌^◌, List, [], ◌∷◌, ◌++◌, length, Option, None, Some, codes}
+use Rattle.std.specs.Prelude.{◌≡◌, ℕ, ◌+◌, ◌<◌, List, [], ◌∷◌, ◌++◌, length, Option, None, Some}
 use denote.Ref.{Bor}
-use Rattle.std.specs.Fmt.{decimal}
 use Rattle.sup_types.specs.declared.template.Template.{Template}
 use Rattle.sup_types.specs.declared.history.Answer.{Answer}
 use Rattle.sup_types.specs.declared.history.Entry.{Entry}
 use Rattle.sup_types.specs.declared.history.Operation.{Operation}
 use Rattle.sup_format.specs.declared.fault.Fault.{Fault}
 use Rattle.sup_format.specs.declared.fault.Fault.TheVariants as fault
-use Rattle.sup_format.specs.declared.read.header.Parts.{Parts}
 use Rattle.sup_format.specs.Reading.Words.{IsSplit}
 use Rattle.sup_format.specs.Reading.Tokens.{IsOperation}
-use Rattle.sup_format.specs.Reading.Headers.{limit_words, shutdown_words, FitsParts, IsPlain, IsFirst, IsNoFirst, IsOutOfRange}
+use Rattle.sup_format.specs.Reading.Headers.{IsFirst, IsNoFirst, IsOutOfRange}
 use Rattle.sup_format.specs.Reading.Texts.{lines_of, IsFull}
-use Rattle.sup_format.specs.Reading.History.{AreFirstWords, answer_words, deed_words, IsAnswer, EntryMeans, MeansNoEntry, AreEntries}
+use Rattle.sup_format.specs.Reading.History.{AreFirstWords, answer_words, deed_words, entry_words, IsAnswer, IsEntry, EntryMeans, MeansNoEntry, AreEntries}
 
 -- ---- a fault, and where it is
 
@@ -61,19 +59,6 @@ pub record IsReadTo (text rest : List ℕ) (template : Template) (entries : List
 
 -- ---- parts of a line
 
--- the five words of version 1, and the seven of version 2
-abbrev pub HasPlain : List (List ℕ) → Option Parts → Type 0
-HasPlain words None = (parts : Parts) → FitsParts parts → words ≡ limit_words parts → ⊥
-HasPlain words (Some parts) = FitsParts parts × IsPlain parts × (words ≡ limit_words parts)
-
-abbrev pub HasMarked : List (List ℕ) → Option Parts → Type 0
-HasMarked words None = (parts : Parts) → FitsParts parts → words ≡ limit_words parts ++ shutdown_words parts → ⊥
-HasMarked words (Some parts) = FitsParts parts × (words ≡ limit_words parts ++ shutdown_words parts)
-
-abbrev pub HasFailure : List (List ℕ) → Option Answer → Type 0
-HasFailure words None = (code : ℕ) → code < 2 ^ 32 → words ≡ decimal code ∷ [] → ⊥
-HasFailure words (Some a) = IsAnswer a × (codes "failed" ∷ words ≡ answer_words a)
-
 abbrev pub HasAnswer : List (List ℕ) → Option Answer → Type 0
 HasAnswer words None = (a : Answer) → IsAnswer a → words ≡ answer_words a → ⊥
 HasAnswer words (Some a) = IsAnswer a × (words ≡ answer_words a)
@@ -81,6 +66,10 @@ HasAnswer words (Some a) = IsAnswer a × (words ≡ answer_words a)
 abbrev pub HasDeed : List (List ℕ) → Option (Operation × Answer) → Type 0
 HasDeed words None = (operation : Operation) (a : Answer) → IsOperation operation → IsAnswer a → words ≡ deed_words operation a → ⊥
 HasDeed words (Some deed) = IsOperation deed.0 × IsAnswer deed.1 × (words ≡ deed_words deed.0 deed.1)
+
+abbrev pub HasEntry : List (List ℕ) → Option Entry → Type 0
+HasEntry words None = (e : Entry) → IsEntry e → words ≡ entry_words e → ⊥
+HasEntry words (Some e) = IsEntry e × (words ≡ entry_words e)
 
 -- the entry of the next line, and the text after that line
 abbrev pub IsNextEntry : List ℕ → Option (Entry × Bor (List ℕ)) → Type 0

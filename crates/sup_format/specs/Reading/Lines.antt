@@ -1,10 +1,11 @@
 -- What the bytes of a line of a script mean, after its header.
-use Rattle.std.specs.Prelude.{◌≡◌, ◌⊎◌, ℕ, ◌<◌, ◌^◌, List, [], ◌∷◌, Bool, ◌||◌, Option, codes, MatchOption}
+use Rattle.std.specs.Prelude.{◌≡◌, ◌⊎◌, ℕ, ◌<◌, ◌^◌, List, [], ◌∷◌, Option, codes, MatchOption}
 use Rattle.std.specs.Fmt.{decimal}
-use Rattle.std.specs.Str.{bytes_eq}
 use Rattle.sup_types.specs.Text.{IsText}
 use Rattle.sup_format.specs.declared.read.command.Command.{Command}
 use Rattle.sup_format.specs.declared.read.command.Command.TheVariants as command
+use Rattle.sup_format.specs.declared.spelled.Query.{Query}
+use Rattle.sup_format.specs.declared.spelled.Query.TheVariants as query
 use Rattle.sup_format.specs.Reading.Words.{words_of}
 use Rattle.sup_format.specs.Reading.Tokens.{verb_word, operation_verb, argument_words, IsOperation}
 
@@ -12,8 +13,13 @@ use Rattle.sup_format.specs.Reading.Tokens.{verb_word, operation_verb, argument_
 abbrev pub IsIdentifierWord : List ℕ → Type 0
 IsIdentifierWord word = (word ≡ codes "terminate_id") ⊎ ((word ≡ codes "delete_child") ⊎ (word ≡ codes "restart_child"))
 
-abbrev pub is_identifier_word : List ℕ → Bool
-is_identifier_word word = bytes_eq word (codes "terminate_id") || bytes_eq word (codes "delete_child") || bytes_eq word (codes "restart_child")
+-- the names of the commands that enter nothing
+abbrev pub query_word : Query → List ℕ
+query_word query.Which = codes "which"
+query_word query.Count = codes "count"
+query_word query.TerminateId = codes "terminate_id"
+query_word query.DeleteChild = codes "delete_child"
+query_word query.RestartChild = codes "restart_child"
 
 -- the words of a command: an operation has its moment after its name
 abbrev pub AreWordsOf : List (List ℕ) → Command → Type 0

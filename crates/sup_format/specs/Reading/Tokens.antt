@@ -12,8 +12,8 @@ use Rattle.sup_types.specs.declared.template.AutoShutdown.{AutoShutdown}
 use Rattle.sup_types.specs.declared.template.AutoShutdown.TheVariants as auto
 use Rattle.sup_types.specs.declared.history.Operation.{Operation}
 use Rattle.sup_types.specs.declared.history.Operation.TheVariants as operation
-use Rattle.sup_format.specs.declared.read.tokens.Verb.{Verb}
-use Rattle.sup_format.specs.declared.read.tokens.Verb.TheVariants as verb
+use Rattle.sup_format.specs.declared.spelled.Verb.{Verb}
+use Rattle.sup_format.specs.declared.spelled.Verb.TheVariants as verb
 
 abbrev pub restart_word : Restart → List ℕ
 restart_word restart.Permanent = codes "permanent"
@@ -85,11 +85,18 @@ abbrev pub IsWordOf : {X : Type 0} → (X → List ℕ) → List ℕ → Option 
 IsWordOf spelled word None = (x : _) → word ≢ spelled x
 IsWordOf spelled word (Some x) = word ≡ spelled x
 
+-- the remaining words begin with none of these values
+abbrev pub HasNoValue : {X : Type 0} → (X → List ℕ) → List (List ℕ) → Type 0
+HasNoValue spelled words = (x : _) (more : List (List ℕ)) → words ≡ spelled x ∷ more → ⊥
+
 abbrev pub HasOtherWord : List (List ℕ) → List ℕ → Type 0
 HasOtherWord words word = (more : List (List ℕ)) → words ≡ word ∷ more → ⊥
 
 abbrev pub HasNoNumber : List (List ℕ) → Type 0
 HasNoNumber words = (n : ℕ) (more : List (List ℕ)) → n < 2 ^ 64 → words ≡ decimal n ∷ more → ⊥
+
+abbrev pub HasNoCode : List (List ℕ) → Type 0
+HasNoCode words = (code : ℕ) (more : List (List ℕ)) → code < 2 ^ 32 → words ≡ decimal code ∷ more → ⊥
 
 abbrev pub HasNoText : List (List ℕ) → Type 0
 HasNoText words = (text : List ℕ) (more : List (List ℕ)) → IsText text → words ≡ text ∷ more → ⊥

@@ -1,12 +1,13 @@
 //! Commands, and the lines that spell them.
 
-ghost use Rattle.std.specs.Prelude.{◌≡◌, ℕ, List, ◌∷◌};
+ghost use Rattle.std.specs.Prelude.{◌≡◌, ◌∷◌};
 ghost use Rattle.sup_format.specs.Reading.Words.{words_of, words_left};
 ghost use Rattle.sup_format.specs.Reading.Tokens.{verb_word};
-ghost use Rattle.sup_format.specs.Reading.Lines.{IsReading, is_identifier_word, IsIdentifierWord};
+ghost use Rattle.sup_format.specs.Reading.Lines.{IsReading};
 
-use crate::read::tokens::{Verb, next_number, next_operation, read_verb};
-use crate::read::words::next_word;
+use crate::read::cursor::Cursor;
+use crate::read::place::Place;
+use crate::spelled::{Query, Verb};
 use sup_types::{Operation, Text};
 
 /// Says what a line of a script after its header asks for.
@@ -27,54 +28,32 @@ pub enum Command {
 pub fn read_line(line: &[u8]) -> Option<Command>
     ensures { IsReading (words_of line.now) result }
 {
-    let (word, rest) = next_word(line);
-    if let Some(verb) = read_verb(word) {
-        return read_update(verb, rest);
-    }
-    if is_identifier_word(word) {
-        return read_identifier(rest);
-    }
-    if rest.is_some() {
-        return None;
-    }
-    if word == b"count".as_slice() {
-        return Some(Command::Count);
-    }
-    if word == b"which".as_slice() {
-        return Some(Command::Which);
-    }
-    None
+    read_command(&mut Cursor::new(line))
 }
 
-/// Returns whether a word names a call by identifier.
-fn is_identifier_word(word: &[u8]) -> bool
-    ensures { result ≡ is_identifier_word word.now }
+/// Returns the command that the words of a line spell.
+pub fn read_command(words: &mut Cursor<'_>) -> Option<Command>
+    ensures { IsReading (words_left words.old.rest) result }
 {
-    word == b"terminate_id".as_slice()
-        || word == b"delete_child".as_slice()
-        || word == b"restart_child".as_slice()
-}
-
-fn read_update(verb: Verb, rest: Option<&[u8]>) -> Option<Command>
-    ensures { IsReading (verb_word verb ∷ words_left rest.entry) result }
-{
-    let (moment, rest) = next_number(rest)?;
-    let Some((operation, rest)) = next_operation(verb, rest) else {
-        return None;
+    if let Some(verb) = words.value(Place::Command) {
+        return read_update(verb, words);
+    }
+    let command = match words.value(Place::Command)? {
+        Query::Which => Command::Which,
+        Query::Count => Command::Count,
+        Query::TerminateId | Query::DeleteChild | Query::RestartChild => {
+            Command::ById(words.text()?)
+        }
     };
-    if rest.is_some() {
-        return None;
-    }
-    Some(Command::Update(moment, operation))
+    words.end()?;
+    Some(command)
 }
 
-fn read_identifier(rest: Option<&[u8]>) -> Option<Command>
-    ensures { (word : List ℕ) → IsIdentifierWord word → IsReading (word ∷ words_left rest.entry) result }
+fn read_update(verb: Verb, words: &mut Cursor<'_>) -> Option<Command>
+    ensures { IsReading (verb_word verb ∷ words_left words.old.rest) result }
 {
-    let (word, rest) = next_word(rest?);
-    if rest.is_some() {
-        return None;
-    }
-    let text = Text::new(word)?;
-    Some(Command::ById(text))
+    let moment = words.number(Place::Moment)?;
+    let operation = words.operation(verb)?;
+    words.end()?;
+    Some(Command::Update(moment, operation))
 }

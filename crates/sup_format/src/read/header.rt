@@ -1,13 +1,12 @@
 //! The first lines of texts.
 
-ghost use Rattle.std.specs.Prelude.{◌≡◌, [], ◌∷◌, ◌++◌, ◌↔◌, IsOk, IfOk, MatchOption};
+ghost use Rattle.std.specs.Prelude.{◌≡◌, ◌++◌, ◌↔◌, IsOk, IfOk, MatchOption};
 ghost use Rattle.sup_format.specs.Reading.Words.{words_left};
-ghost use Rattle.sup_format.specs.Reading.Tokens.{mark_word, auto_word};
-ghost use Rattle.sup_format.specs.Reading.Headers.{AreHeaderWords, HasFirst, HasParts, GivesTemplate, IsPlain, FitsParts, CanStand, IsTemplateOf, limit_words, HasNoLimits, HasNoShutdown};
+ghost use Rattle.sup_format.specs.Reading.Headers.{AreHeaderWords, HasFirst, HasParts, GivesTemplate, IsPlain, FitsParts, CanStand, IsTemplateOf, limit_words, shutdown_words, HasNoLimits, HasNoShutdown};
 
 use crate::fault::Fault;
-use crate::read::tokens::{after_word, next_number, read_auto, read_kind, read_mark, read_restart};
-use crate::read::words::next_word;
+use crate::read::cursor::Cursor;
+use crate::read::place::Place;
 use sup_types::{AutoShutdown, BadTemplate, Kind, Restart, Template};
 
 /// The most entries of a template that a text gives: 2^62.
@@ -41,13 +40,27 @@ impl Parts {
         )?;
         template.with_shutdown(self.significant, self.auto_shutdown)
     }
+
+    /// Returns the place of the first number that no template has, or else that of the mark, and how many words it comes after the
+    /// restart type.
+    pub fn misfit(self) -> (Place, usize) {
+        if self.intensity > 1000 {
+            (Place::Intensity, 2)
+        } else if !(1..=86_400).contains(&self.period) {
+            (Place::Period, 3)
+        } else if !(1..=65_536).contains(&self.max) {
+            (Place::Rows, 4)
+        } else {
+            (Place::Mark, 5)
+        }
+    }
 }
 
 /// Returns the template of a script's header, or BadLine or BadTemplate.
 pub fn read_header(line: &[u8]) -> Result<Template, Fault>
     ensures { HasFirst AreHeaderWords line.now result }
 {
-    template_of(read_shape(line))
+    template_of(read_parts(&mut Cursor::new(line)))
 }
 
 /// Returns the template of the parts that a first line names. BadLine if it names none, BadTemplate if no template has them.
@@ -63,58 +76,46 @@ pub fn template_of(parts: Option<Parts>) -> Result<Template, Fault>
     }
 }
 
-/// Returns the parts that a line of a header's shape names.
-fn read_shape(line: &[u8]) -> Option<Parts>
-    ensures { HasParts AreHeaderWords line.now result }
+/// Returns the parts that the words of a header name.
+pub fn read_parts(words: &mut Cursor<'_>) -> Option<Parts>
+    ensures { HasParts AreHeaderWords (words_left words.old.rest) result }
 {
-    let rest = after_word(Some(line), b"sup")?;
-    let (parts, rest) = next_limits(rest)?;
-    if rest.is_none() {
-        return Some(parts);
+    words.word(Place::Sup, b"sup")?;
+    let parts = read_limits(words)?;
+    if words.rest.is_some() {
+        return read_shutdown(parts, words);
     }
-    let (significant, auto_shutdown) = read_shutdown(rest)?;
+    Some(parts)
+}
+
+/// Returns restart, kind, intensity, period and max. Such children are not significant.
+pub fn read_limits(words: &mut Cursor<'_>) -> Option<Parts>
+    ensures { MatchOption result (HasNoLimits (words_left words.old.rest))
+        (λ parts. FitsParts parts × IsPlain parts × (words_left words.old.rest ≡ limit_words parts ++ words_left words.new.rest)) }
+{
+    Some(Parts {
+        restart: words.value(Place::Restart)?,
+        kind: words.value(Place::Kind)?,
+        intensity: words.number(Place::Intensity)?,
+        period: words.number(Place::Period)?,
+        max: words.number(Place::Rows)?,
+        significant: false,
+        auto_shutdown: AutoShutdown::Never,
+    })
+}
+
+/// Returns these parts with the mark and the automatic shutdown that the last two words are.
+pub fn read_shutdown(parts: Parts, words: &mut Cursor<'_>) -> Option<Parts>
+    ensures { MatchOption result (HasNoShutdown (words_left words.old.rest))
+        (λ whole. (whole ≡ record parts { significant = whole.significant; auto_shutdown = whole.auto_shutdown })
+        × (words_left words.old.rest ≡ shutdown_words whole)) }
+{
+    let significant = words.value(Place::Mark)?;
+    let auto_shutdown = words.value(Place::Auto)?;
+    words.end()?;
     Some(Parts {
         significant,
         auto_shutdown,
         ..parts
     })
-}
-
-/// Returns restart, kind, intensity, period and max, and the words after them. Such children are not significant.
-pub fn next_limits(rest: Option<&[u8]>) -> Option<(Parts, Option<&[u8]>)>
-    ensures { MatchOption result (HasNoLimits (words_left rest.entry))
-        (λ found. FitsParts found.0 × IsPlain found.0 × (words_left rest.entry ≡ limit_words found.0 ++ words_left found.1)) }
-{
-    let (word, rest) = next_word(rest?);
-    let restart = read_restart(word)?;
-    let (word, rest) = next_word(rest?);
-    let kind = read_kind(word)?;
-    let (intensity, rest) = next_number(rest)?;
-    let (period, rest) = next_number(rest)?;
-    let (max, rest) = next_number(rest)?;
-    let parts = Parts {
-        restart,
-        kind,
-        intensity,
-        period,
-        max,
-        significant: false,
-        auto_shutdown: AutoShutdown::Never,
-    };
-    Some((parts, rest))
-}
-
-/// Returns the mark and the automatic shutdown that the last two words are.
-pub fn read_shutdown(rest: Option<&[u8]>) -> Option<(bool, AutoShutdown)>
-    ensures { MatchOption result (HasNoShutdown (words_left rest.entry))
-        (λ found. words_left rest.entry ≡ mark_word found.0 ∷ auto_word found.1 ∷ []) }
-{
-    let (word, rest) = next_word(rest?);
-    let significant = read_mark(word)?;
-    let (word, rest) = next_word(rest?);
-    if rest.is_some() {
-        return None;
-    }
-    let auto_shutdown = read_auto(word)?;
-    Some((significant, auto_shutdown))
 }

@@ -7,20 +7,17 @@ ghost use Rattle.sup_format.specs.declared.fault.Fault.TheVariants.{BadLine};
 ghost use Rattle.sup_format.specs.Causes.{IsTextFault};
 ghost use Rattle.sup_format.specs.Reading.Words.{words_left};
 ghost use Rattle.sup_format.specs.Reading.Headers.{HasFirst, HasParts};
-ghost use Rattle.sup_format.specs.Reading.History.{AreFirstWords, EntryMeans, MeansNoEntry, Spells};
-ghost use Rattle.sup_format.specs.Reading.HistoryReading.{HistoryStops, IsReadTo, HasPlain, HasMarked, HasDeed, HasAnswer, HasFailure, IsNextEntry};
+ghost use Rattle.sup_format.specs.Reading.History.{AreFirstWords, Spells};
+ghost use Rattle.sup_format.specs.Reading.HistoryReading.{HistoryStops, IsReadTo, HasEntry, HasDeed, HasAnswer, IsNextEntry};
 
 use crate::fault::{Fault, ScriptFault};
-use crate::read::header::{Parts, next_limits, read_shutdown, template_of};
+use crate::read::cursor::Cursor;
+use crate::read::header::{Parts, read_limits, read_shutdown, template_of};
 use crate::read::lines::cut_line;
-use crate::read::tokens::{Verb, after_word, next_number, next_operation, read_verb};
-use crate::read::words::{next_word, read_number};
+use crate::read::place::Place;
+use crate::spelled::AnswerName;
 use std::alloc::Allocator;
 use sup_types::{Answer, Entry, Operation, Template};
-use thiserror::Error;
-
-/// The greatest code of a failure: 2^32 - 1.
-const MOST_CODE: u64 = 4_294_967_295;
 
 /// Holds what a history text spells. The template's `entries` is 2^62.
 #[derive(Debug, Drop)]
@@ -30,33 +27,7 @@ pub struct History<A: Allocator> {
 }
 
 /// Says what is wrong with a history text (OutOfMemory, BadTemplate or BadLine), and in which line, from 1 on.
-#[derive(Clone, Copy, Debug, PartialEq, Eq, Error)]
-#[error("fault {} line {}", .fault.number(), .line)]
-pub struct HistoryFault {
-    pub fault: Fault,
-    pub line: u64,
-}
-
-impl HistoryFault {
-    ghost use Rattle.sup_format.specs.Faults.{fault_number};
-
-    /// Returns the number of the fault: 1, 7 or 9.
-    pub fn number(&self) -> u8
-        ensures { result ≡ fault_number self.now.fault }
-    {
-        self.fault.number()
-    }
-}
-
-impl From<HistoryFault> for ScriptFault {
-    ghost use Rattle.std.specs.Prelude.{◌≡◌};
-
-    ghost from_gives = { λ e f. (f.fault ≡ e.fault) × (f.line ≡ e.line) };
-
-    fn from(HistoryFault { fault, line }: HistoryFault) -> ScriptFault {
-        ScriptFault { fault, line }
-    }
-}
+pub type HistoryFault = ScriptFault;
 
 /// Reads a history text of version 1, which is plain and never, or of version 2.
 ///
@@ -75,12 +46,12 @@ pub fn read_history<A: Allocator + Copy>(alloc: A, text: &[u8]) -> Result<Histor
             Some(found) => found,
             None => {
                 let fault = Fault::BadLine;
-                return Err(HistoryFault { fault, line });
+                return Err(ScriptFault { fault, line });
             }
         };
         if entries.push(entry).is_err() {
             let fault = Fault::OutOfMemory;
-            return Err(HistoryFault { fault, line });
+            return Err(ScriptFault { fault, line });
         }
         line += 1;
         rest = after;
@@ -99,12 +70,12 @@ pub fn begin_history(text: &[u8]) -> Result<(Template, &[u8]), HistoryFault>
         Some(parts) => parts,
         None => {
             let fault = Fault::BadLine;
-            return Err(HistoryFault { fault, line: 1 });
+            return Err(ScriptFault { fault, line: 1 });
         }
     };
     match read_first(first) {
         Ok(template) => Ok((template, after)),
-        Err(fault) => Err(HistoryFault { fault, line: 1 }),
+        Err(fault) => Err(ScriptFault { fault, line: 1 }),
     }
 }
 
@@ -123,7 +94,7 @@ pub fn check_entries(rest: &[u8], line: u64) -> Result<(), HistoryFault>
             Some(found) => found,
             None => {
                 let fault = Fault::BadLine;
-                return Err(HistoryFault { fault, line });
+                return Err(ScriptFault { fault, line });
             }
         };
         line += 1;
@@ -136,44 +107,22 @@ pub fn check_entries(rest: &[u8], line: u64) -> Result<(), HistoryFault>
 fn read_first(line: &[u8]) -> Result<Template, Fault>
     ensures { HasFirst AreFirstWords line.now result }
 {
-    template_of(read_shape(line))
+    template_of(read_first_parts(&mut Cursor::new(line)))
 }
 
-/// Returns the parts that a line of a first line's shape names: five in version 1, and seven in version 2.
-fn read_shape(line: &[u8]) -> Option<Parts>
-    ensures { HasParts AreFirstWords line.now result }
+/// Returns the parts that the words of a first line name: five in version 1, and seven in version 2.
+pub fn read_first_parts(words: &mut Cursor<'_>) -> Option<Parts>
+    ensures { HasParts AreFirstWords (words_left words.old.rest) result }
 {
-    let rest = after_word(Some(line), b"history")?;
-    let (version, rest) = next_word(rest?);
-    if version == b"1".as_slice() {
-        return read_plain(rest);
+    words.word(Place::History, b"history")?;
+    if words.word(Place::Version, b"1").is_some() {
+        let parts = read_limits(words)?;
+        words.end()?;
+        return Some(parts);
     }
-    if version == b"2".as_slice() {
-        return read_marked(rest);
-    }
-    None
-}
-
-fn read_plain(rest: Option<&[u8]>) -> Option<Parts>
-    ensures { HasPlain (words_left rest.entry) result }
-{
-    let (parts, rest) = next_limits(rest)?;
-    if rest.is_some() {
-        return None;
-    }
-    Some(parts)
-}
-
-fn read_marked(rest: Option<&[u8]>) -> Option<Parts>
-    ensures { HasMarked (words_left rest.entry) result }
-{
-    let (parts, rest) = next_limits(rest)?;
-    let (significant, auto_shutdown) = read_shutdown(rest)?;
-    Some(Parts {
-        significant,
-        auto_shutdown,
-        ..parts
-    })
+    words.word(Place::Version, b"2")?;
+    let parts = read_limits(words)?;
+    read_shutdown(parts, words)
 }
 
 /// Returns the entry that the next line spells, and the text after it. None if no line is ended, or if the line spells no entry.
@@ -181,18 +130,18 @@ pub fn next_entry(rest: &[u8]) -> Option<(Entry, &[u8])>
     ensures { IsNextEntry rest.now result }
 {
     let (line, after) = cut_line(rest)?;
-    let entry = read_entry(line)?;
+    let entry = read_entry(&mut Cursor::new(line))?;
     Some((entry, after))
 }
 
-/// Returns the entry that a line spells, if it spells one.
-fn read_entry(line: &[u8]) -> Option<Entry>
-    ensures { MatchOption result (MeansNoEntry line.now) (λ entry. EntryMeans line.now entry) }
+/// Returns the entry that the words of a line spell.
+pub fn read_entry(words: &mut Cursor<'_>) -> Option<Entry>
+    ensures { HasEntry (words_left words.old.rest) result }
 {
-    let (handle, rest) = next_number(Some(line))?;
-    let (serial, rest) = next_number(rest)?;
-    let (moment, rest) = next_number(rest)?;
-    let (operation, answer) = read_deed(rest)?;
+    let handle = words.number(Place::Handle)?;
+    let serial = words.number(Place::Serial)?;
+    let moment = words.number(Place::Moment)?;
+    let (operation, answer) = read_deed(words)?;
     Some(Entry {
         handle,
         serial,
@@ -203,49 +152,24 @@ fn read_entry(line: &[u8]) -> Option<Entry>
 }
 
 /// Returns the operation and the answer that the last words are.
-fn read_deed(rest: Option<&[u8]>) -> Option<(Operation, Answer)>
-    ensures { HasDeed (words_left rest.entry) result }
+fn read_deed(words: &mut Cursor<'_>) -> Option<(Operation, Answer)>
+    ensures { HasDeed (words_left words.old.rest) result }
 {
-    let (word, rest) = next_word(rest?);
-    let verb = read_verb(word)?;
-    let Some((operation, rest)) = next_operation(verb, rest) else {
-        return None;
-    };
-    let answer = read_answer(rest)?;
+    let verb = words.value(Place::Operation)?;
+    let operation = words.operation(verb)?;
+    let answer = read_answer(words)?;
     Some((operation, answer))
 }
 
 /// Returns the answer that the last words are.
-fn read_answer(rest: Option<&[u8]>) -> Option<Answer>
-    ensures { HasAnswer (words_left rest.entry) result }
+fn read_answer(words: &mut Cursor<'_>) -> Option<Answer>
+    ensures { HasAnswer (words_left words.old.rest) result }
 {
-    let (word, rest) = next_word(rest?);
-    if word == b"failed".as_slice() {
-        return read_failed(rest);
-    }
-    if rest.is_some() {
-        return None;
-    }
-    if word == b"running".as_slice() {
-        return Some(Answer::Running);
-    }
-    if word == b"ignore".as_slice() {
-        return Some(Answer::Ignore);
-    }
-    None
-}
-
-/// Returns the failure whose code is the last word.
-fn read_failed(rest: Option<&[u8]>) -> Option<Answer>
-    ensures { HasFailure (words_left rest.entry) result }
-{
-    let (word, rest) = next_word(rest?);
-    if rest.is_some() {
-        return None;
-    }
-    let number = read_number(word)?;
-    if number > MOST_CODE {
-        return None;
-    }
-    Some(Answer::Failed(number as u32))
+    let answer = match words.value(Place::Answer)? {
+        AnswerName::Running => Answer::Running,
+        AnswerName::Ignore => Answer::Ignore,
+        AnswerName::Failed => Answer::Failed(words.code()?),
+    };
+    words.end()?;
+    Some(answer)
 }

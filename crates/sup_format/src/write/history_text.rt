@@ -5,13 +5,12 @@ ghost use Rattle.std.specs.Fmt.{decimal};
 ghost use Rattle.sup_format.specs.Reading.History.{answer_words, IsAnswer, IsEntry, SpellsAs};
 ghost use Rattle.sup_format.specs.Writing.HistoryTexts.{header_line, entry_line, SpellsOneMore};
 ghost use Rattle.sup_format.specs.Writing.Replies.{line_of, field_word, spaced, Grows};
-ghost use Rattle.sup_format.specs.Reading.Tokens.{restart_word, kind_word, mark_word, auto_word, reason_word, verb_word, operation_verb, argument_words, IsReason, IsOperation};
+ghost use Rattle.sup_format.specs.Reading.Tokens.{reason_word, verb_word, operation_verb, argument_words, IsReason, IsOperation};
 
+use crate::spelled::{AnswerName, NORMAL, SHUTDOWN, Verb};
 use crate::write::reply::{Field, append_line, append_spaced};
 use std::alloc::{AllocError, Allocator};
-use sup_types::{
-    Answer, AutoShutdown, Entry, Kind, Operation, OutOfMemory, Reason, Restart, Template,
-};
+use sup_types::{Answer, Entry, Operation, OutOfMemory, Reason, Template};
 
 /// Writes the history text of a template and entries, always in version 2. The template's `entries` is not in it, and is read as
 /// 2^62. OutOfMemory leaves nothing.
@@ -44,54 +43,15 @@ pub fn append_header<A: Allocator>(
         &[
             Field::Word(b"history"),
             Field::Word(b"2"),
-            Field::Word(restart_word(template.restart)),
-            Field::Word(kind_word(template.kind)),
+            Field::spelled(template.restart),
+            Field::spelled(template.kind),
             Field::Number(template.intensity),
             Field::Number(template.period),
             Field::Number(template.max),
-            Field::Word(mark_word(template.significant)),
-            Field::Word(auto_word(template.auto_shutdown)),
+            Field::spelled(template.significant),
+            Field::spelled(template.auto_shutdown),
         ],
     )
-}
-
-fn restart_word(restart: Restart) -> &'static [u8]
-    ensures { result.now ≡ restart_word restart }
-{
-    match restart {
-        Restart::Permanent => b"permanent",
-        Restart::Transient => b"transient",
-        Restart::Temporary => b"temporary",
-    }
-}
-
-fn kind_word(kind: Kind) -> &'static [u8]
-    ensures { result.now ≡ kind_word kind }
-{
-    match kind {
-        Kind::Worker => b"worker",
-        Kind::Supervisor => b"supervisor",
-    }
-}
-
-fn mark_word(significant: bool) -> &'static [u8]
-    ensures { result.now ≡ mark_word significant }
-{
-    if significant {
-        b"significant"
-    } else {
-        b"plain"
-    }
-}
-
-fn auto_word(auto: AutoShutdown) -> &'static [u8]
-    ensures { result.now ≡ auto_word auto }
-{
-    match auto {
-        AutoShutdown::Never => b"never",
-        AutoShutdown::Any => b"any",
-        AutoShutdown::All => b"all",
-    }
 }
 
 /// Appends the line of an entry: a history text with it is the text of that history and this entry. After a refusal there may be a
@@ -138,26 +98,26 @@ fn append_operation<A: Allocator>(
     ensures fits { IsOperation operation.now }
     ensures err { OnErr result (Grows text.old.items text.new.items) }
 {
+    let verb = Verb::of(operation);
     match operation {
         Operation::Start(argument) => append_spaced(
             text,
-            &[Field::Word(b"start"), Field::Word(argument.bytes())],
+            &[Field::spelled(verb), Field::Word(argument.bytes())],
         ),
-        Operation::Exit(number, reason) => append_spaced(
-            text,
-            &[
-                Field::Word(b"exit"),
-                Field::Number(*number),
-                reason_field(reason),
-            ],
-        ),
-        Operation::Retry(number) => {
-            append_spaced(text, &[Field::Word(b"retry"), Field::Number(*number)])
+        Operation::Exit(number, reason) => {
+            append_spaced(
+                text,
+                &[
+                    Field::spelled(verb),
+                    Field::Number(*number),
+                    reason_field(reason),
+                ],
+            )
         }
-        Operation::Terminate(number) => {
-            append_spaced(text, &[Field::Word(b"terminate"), Field::Number(*number)])
+        Operation::Retry(number) | Operation::Terminate(number) => {
+            append_spaced(text, &[Field::spelled(verb), Field::Number(*number)])
         }
-        Operation::Stop => append_spaced(text, &[Field::Word(b"stop")]),
+        Operation::Stop => append_spaced(text, &[Field::spelled(verb)]),
     }
 }
 
@@ -166,8 +126,8 @@ fn reason_field(reason: &Reason) -> Field<'_>
     ensures fits { IsReason reason.now }
 {
     match reason {
-        Reason::Normal => Field::Word(b"normal"),
-        Reason::Shutdown => Field::Word(b"shutdown"),
+        Reason::Normal => Field::Word(NORMAL.as_bytes()),
+        Reason::Shutdown => Field::Word(SHUTDOWN.as_bytes()),
         Reason::ShutdownWith(term) => Field::Term(term.bytes()),
         Reason::Other(word) => Field::Word(word.bytes()),
     }
@@ -179,12 +139,12 @@ fn append_answer<A: Allocator>(answer: Answer, text: &mut Vec<u8, A>) -> Result<
     ensures fits { IsAnswer answer }
     ensures err { OnErr result (Grows text.old.items text.new.items) }
 {
+    let name = AnswerName::of(answer);
     match answer {
-        Answer::Running => append_line(text, &[Field::Word(b"running")]),
-        Answer::Ignore => append_line(text, &[Field::Word(b"ignore")]),
         Answer::Failed(code) => append_line(
             text,
-            &[Field::Word(b"failed"), Field::Number(u64::from(code))],
+            &[Field::spelled(name), Field::Number(u64::from(code))],
         ),
+        Answer::Running | Answer::Ignore => append_line(text, &[Field::spelled(name)]),
     }
 }

@@ -4,6 +4,7 @@ ghost use Rattle.std.specs.Prelude.{◌≡◌, ◌++◌, [], ◌∷◌, map, OnO
 ghost use Rattle.std.specs.Fmt.{decimal};
 ghost use Rattle.sup_format.specs.Writing.Replies.{line_of, reply_text, row_text, rows_text, count_text, refusal_text, field_word, spaced, Grows};
 
+use crate::spelled::{SHUTDOWN_WITH, Spelled};
 use itoa::Buffer;
 use std::alloc::{AllocError, Allocator};
 use sup_types::{Counts, OutOfMemory, Refusal, Reply, Row, Seen, Status};
@@ -15,6 +16,15 @@ pub enum Field<'a> {
     Number(u64),
     /// `shutdown:` and these bytes.
     Term(&'a [u8]),
+}
+
+impl Field<'_> {
+    /// Returns the word of a value.
+    pub fn spelled<X: Spelled>(value: X) -> Self
+        ensures { field_word result ≡ X.spelled value }
+    {
+        Field::Word(value.word().as_bytes())
+    }
 }
 
 /// Appends the text of a reply, with its line feed. After a refusal `out` is as before.
@@ -236,7 +246,7 @@ fn append_field<A: Allocator>(out: &mut Vec<u8, A>, field: &Field) -> Result<(),
         Field::Word(bytes) => out.extend_from_slice(bytes),
         Field::Number(number) => append_number(out, *number),
         Field::Term(bytes) => {
-            out.extend_from_slice(b"shutdown:")?;
+            out.extend_from_slice(SHUTDOWN_WITH.as_bytes())?;
             out.extend_from_slice(bytes)
         }
     }

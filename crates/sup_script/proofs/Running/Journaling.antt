@@ -1,10 +1,10 @@
 -- Answering the entries of a journal while it is read.
-use Rattle.std.proofs.Common.{◌≡◌, ◌⊎◌, ℕ, ◌+◌, ◌-◌, ◌<◌, ◌≤◌, Bool, true, List, [], ◌∷◌, ◌++◌, length, get_or, take, drop, Option, None, Some, Result, Ok, Err, refl, sym, ap, subst, ◌∙◌, append_assoc, append-nil, arith, inl, inr}
+use Rattle.std.proofs.Common.{◌≡◌, ◌⊎◌, ℕ, ◌+◌, ◌-◌, ◌<◌, Bool, true, List, [], ◌∷◌, ◌++◌, length, get_or, take, drop, Option, None, Some, Result, Ok, Err, refl, sym, ap, subst, ◌∙◌, append_assoc, append-nil, arith, inl, inr}
 use Rattle.std.specs.Prelude.{IfErr}
-use Rattle.std.specs.Io.KnownBytes.{Appends, Consumes, IsAtEnd, Keeps}
+use Rattle.std.specs.Io.KnownBytes.{Appends, IsAtEnd, Keeps}
 use Rattle.std.proofs.KnownBytes.{Appends-nil, Appends-trans, Appends-kept}
 use Rattle.std.proofs.Math.ListN.{get_or-eq_default}
-use Rattle.std.proofs.lemmas.List.{take-append-drop, length-append, length-drop}
+use Rattle.std.proofs.lemmas.List.{take-append-drop, length-drop}
 use Rattle.sup_types.specs.declared.template.Template.{Template}
 use Rattle.sup_types.specs.declared.history.Entry.{Entry}
 use Rattle.sup_core.specs.State.{State}
@@ -16,13 +16,13 @@ use Rattle.sup_format.specs.declared.fault.ScriptFault.{ScriptFault}
 use Rattle.sup_format.specs.Causes.{HasLineCause}
 use Rattle.sup_format.specs.Reading.History.{AreEntries}
 use Rattle.sup_format.specs.Reading.HistoryReading.{HistoryStops}
-use Rattle.sup_format.specs.Reading.Streams.{Continues, HasStreamCause, IsStreamed, IsUnread, Stream}
+use Rattle.sup_format.specs.Reading.Streams.{HasStreamCause, IsStreamed, IsUnread, Stream}
 use Rattle.sup_format.specs.StreamLaws.{streamed_ended, streamed_spelled, unread_ended}
 use Rattle.sup_format.specs.Writing.Replies.{reply_text}
 use Rattle.sup_format.specs.Writing.Waiting.{IsTorn, IsFlushed}
-use Rattle.sup_script.specs.Running.Journals.{AreAllAnswered, AreAnswered, AreTold, EndsAnswering, EndsTelling, IsJournal, IsLastCut, IsReplyStopped, IsStop, IsStoppedJournal, IsWholeJournal, JournalStops, last_text}
+use Rattle.sup_script.specs.Running.Journals.{AreAllAnswered, AreTold, EndsAnswering, EndsTelling, IsJournal, IsStop, IsStoppedJournal, JournalStops, last_text}
 use Rattle.sup_script.specs.Running.Queues.{IsQueue}
-use Rattle.sup_script.specs.Running.Replays.{ReplyStops, entries_text}
+use Rattle.sup_script.specs.Running.Replays.{entries_text}
 use Rattle.sup_script.specs.Running.Stops.{IsAtLine, IsCutShort}
 use Rattle.sup_script.proofs.Running.Queues.{queue_none, queue_more, torn_cut}
 use Rattle.sup_script.proofs.Running.Replaying.{no_memory, refused, text_push}
@@ -96,18 +96,6 @@ pub record IsAnswering (initial : Option (List ℕ)) (s : Stream) (template : Te
   pub after : IsAfter sup entries
   pub template_is : sup.template ≡ template
   pub queue : IsQueue (AreTold template) entries written waiting ends
-
-pub answering_none : (initial : Option (List ℕ)) (s : Stream) (contents : Option (List ℕ)) (waiting ends : List ℕ) (sup : State) → waiting ≡ [] → ends ≡ [] → IsAfter sup [] → IsStreamed initial s [] sup.template []
-    → IsAnswering initial s sup.template contents contents waiting ends sup
-answering_none initial s contents waiting ends sup w e after read = record {
-  entries = [];
-  read = read;
-  written = [];
-  wrote = Appends-nil contents;
-  after = after;
-  template_is = refl;
-  queue = rw (w, e) (queue_none (AreTold sup.template) [] [] refl);
-}
 
 -- what waits was written, or it waits
 pub answering_passed : (initial : Option (List ℕ)) (s : Stream) (template : Template) (contents mid new : Option (List ℕ)) (waiting ends waiting' ends' : List ℕ) (sup : State) → IsAnswering initial s template contents mid waiting ends sup

@@ -141,16 +141,6 @@ waits_more answer front line written old new ends sup sup' next w one =
       queue = queue_more (Answers answer) front line written old one.more new ends w.queue one.grown (answers_of answer (front ++ line ∷ []) (written ++ new) sup' (next + 1) so_far);
     }
 
--- the line's fault stays a fault of that line, whatever it left behind
-pub next_refused : (answer : Answering) (front : List (List ℕ)) (written line old new bytes : List ℕ) (sup : Option State) (next : ℕ) (f : Fault)
-    → LineGives answer front (written ++ old) line sup next old new (Err f) → LineGives answer front written line sup next bytes bytes (Err f)
-next_refused answer front written line old new bytes sup next fault.OutOfMemory h = tt
-next_refused answer front written line old new bytes sup next fault.BadTemplate h = h
-next_refused answer front written line old new bytes sup next fault.BadLine h = h
-next_refused answer front written line old new bytes sup next fault.ReadFault h = absurd h
-next_refused answer front written line old new bytes sup next fault.WriteFault h = absurd h
-next_refused answer front written line old new bytes sup next fault.TooLong h = absurd h
-
 -- ---- where the writing stops
 
 stops_by_write : (answer : Answering) (lines : List (List ℕ)) (number : ℕ) (written : List ℕ) (f : Fault) → f ≡ fault.WriteFault → IsCutShort (Answers answer) lines number written → StopsWith answer lines written number f

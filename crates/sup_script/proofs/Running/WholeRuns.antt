@@ -27,18 +27,6 @@ pub record IsReadTo (answer : Answering) (remaining left contents held : Option 
   pub wrote : Appends contents held written
   pub so_far : IsAnsweredTo answer (lines_of done) written sup next
 
-pub read_none : (answer : Answering) (remaining contents : Option (List ℕ)) (part : List ℕ) (sup : Option State) (next given : ℕ) → part ≡ [] → given ≡ 0 → sup ≡ None → next ≡ 1 → IsReadTo answer remaining remaining contents contents part sup next given
-read_none answer remaining contents part sup next given empty zero none first = record {
-  done = [];
-  full = λ some. absurd (omega arith);
-  lacks = rw empty (λ k d below. absurd (omega arith));
-  took = rw empty (Consumes-nil remaining);
-  count = zero ∙ sym (ap length empty);
-  written = [];
-  wrote = Appends-nil contents;
-  so_far = record { stands = rw none refl; next_is = first };
-}
-
 some_text : (text : List ℕ) → length (lines_of text) ≡ 0 → text ≡ []
 some_text [] none = refl
 some_text (b ∷ bs) none = let some = some_lines b bs in absurd (omega arith)

@@ -6,8 +6,8 @@ use Rattle.sup_script.specs.Running.Journals.{IsJournal}
 use Rattle.sup_script.specs.Running.Replays.{IsReplay}
 use Rattle.sup_script.specs.Running.Runs.{IsRun}
 use Rattle.sup_script.specs.Starter.{script_answer}
-use Rattle.sup_script.specs.declared.explain.shape.Format.{Format}
-use Rattle.sup_script.specs.declared.explain.shape.Format.TheVariants as format
+use Rattle.sup_script.specs.declared.explain.Format.{Format}
+use Rattle.sup_script.specs.declared.explain.Format.TheVariants as format
 use Rattle.sup_format.specs.declared.fault.Fault.{Fault}
 use Rattle.sup_format.specs.declared.fault.Fault.TheVariants as fault
 use Rattle.sup_format.specs.declared.fault.ScriptFault.{ScriptFault}

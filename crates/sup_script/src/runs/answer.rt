@@ -1,20 +1,22 @@
 //! Texts and journals as a program answers them: a fault is told on the error stream, and how it ended is an exit status.
 
 ghost use Rattle.std.specs.Prelude.{◌≡◌, ◌⊎◌, false, true};
-ghost use Rattle.sup_script.specs.Running.Answers.{IsFileAnswered, IsInputAnswered, IsJournalAnswered, IsJournalTold, IsScriptAnswered, IsReplayAnswered, IsUnnamed, status_of, status_number};
+ghost use Rattle.sup_script.specs.Running.Answers.{IsFileAnswered, IsInputAnswered, IsJournalAnswered, IsTextAnswered, IsUnnamed, status_of, status_number};
 ghost use Rattle.sup_script.specs.declared.runs.answer.Status.TheVariants as status;
 
-use crate::explain::{Explanation, FaultyLine, Format};
+use crate::explain::{Explanation, Format};
 use crate::runs::journal::replay_journal;
-use crate::runs::replays::replay_with_line;
-use crate::runs::script::run_with_line;
+use crate::runs::replays::replay;
+use crate::runs::script::run;
 use crate::starter::ScriptStarter;
 use std::alloc::{Allocator, Global};
 use std::fs::{File, Files};
 use std::io::{ErrorKind, Read, Write};
-use sup_format::{EntryReader, Fault, ScriptFault, WatchedReader, WatchedWriter, first_line};
+use sup_format::{
+    EntryReader, Fault, FaultyLine, ScriptFault, WatchedReader, WatchedWriter, first_line,
+};
 
-/// How a program ended.
+/// Says how a program ended.
 #[derive(Clone, Copy, Debug, PartialEq, Eq)]
 pub enum Status {
     /// All was answered.
@@ -42,7 +44,7 @@ impl Status {
         }
     }
 
-    /// The status of a run that stopped with this fault.
+    /// Returns the status of a run that stopped with this fault.
     fn of(fault: Fault) -> Status
         ensures { result ≡ status_of_fault fault }
     {
@@ -54,7 +56,7 @@ impl Status {
     }
 }
 
-/// How much is said of a fault in a text.
+/// Says how much is written of a fault in a text.
 #[derive(Clone, Copy, Debug, PartialEq, Eq)]
 pub enum Detail {
     /// Its number and its line.
@@ -64,26 +66,14 @@ pub enum Detail {
 }
 
 impl Detail {
-    /// Returns how much is said to a person, who has a fault explained without asking for it.
+    /// Returns how much is written to a person, who has a fault explained without asking for it.
     pub fn said_to(self, is_person: bool) -> Detail {
         if is_person { Detail::Explained } else { self }
     }
 }
 
-/// How a run over a text ended.
-#[derive(Drop)]
-struct Run<'a> {
-    format: Format,
-    /// The file that was read, if the text has a name.
-    path: Option<&'a str>,
-    outcome: Result<(), ScriptFault>,
-    /// What the reader or the writer answered, if that is the fault.
-    cause: Option<ErrorKind>,
-    /// The line that has the fault, if the fault is one of a line.
-    line: FaultyLine,
-}
-
-/// What a program is asked to answer: of a script and of a history text the file at this path, if there is one, and else the input.
+/// Names what a program answers: a script or a history text in the file at this path, if there is one, and else from the input, or a
+/// journal.
 #[derive(Clone, Copy, Debug, PartialEq, Eq)]
 pub enum Input<'a> {
     Script(Option<&'a str>),
@@ -113,19 +103,13 @@ pub fn answer_input<F: Files, R: Read, W: Write, E: Write>(
     ensures cause { IsUnnamed input.entry → result ≡ status.Failed → (reader.new.has_failed ≡ true) ⊎ (out.new.has_refused ≡ true) }
 {
     match input {
-        Input::Script(None) => answer_script(alloc, detail, None, reader, out, err),
-        Input::Script(Some(path)) => answer_file(
-            files,
-            alloc,
-            Format::Script,
-            detail,
-            path,
-            out,
-            err,
-        ),
-        Input::History(None) => answer_history(alloc, detail, None, reader, out, err),
+        Input::Script(None) => answer_text(alloc, detail, Format::Script, None, reader, out, err),
+        Input::History(None) => answer_text(alloc, detail, Format::History, None, reader, out, err),
+        Input::Script(Some(path)) => {
+            answer_file(files, alloc, detail, Format::Script, path, out, err)
+        }
         Input::History(Some(path)) => {
-            answer_file(files, alloc, Format::History, detail, path, out, err)
+            answer_file(files, alloc, detail, Format::History, path, out, err)
         }
         Input::Journal(path) => answer_journal(files, alloc, detail, path, out, err),
     }
@@ -135,8 +119,8 @@ pub fn answer_input<F: Files, R: Read, W: Write, E: Write>(
 fn answer_file<F: Files, W: Write, E: Write>(
     files: &F,
     alloc: Global,
-    format: Format,
     detail: Detail,
+    format: Format,
     path: &str,
     out: &mut WatchedWriter<W>,
     err: &mut E,
@@ -144,20 +128,20 @@ fn answer_file<F: Files, W: Write, E: Write>(
     requires { out.old.has_refused ≡ false }
     ensures { IsFileAnswered format (W.contents out.old.writer) (W.contents out.new.writer) out.new.has_refused result }
 {
-    let mut reader = match File::open(files, path) {
-        Ok(file) => WatchedReader::new(file),
-        Err(error) => return tell_unread(error.kind(), path, err),
-    };
-    match format {
-        Format::Script => answer_script(alloc, detail, Some(path), &mut reader, out, err),
-        Format::History => answer_history(alloc, detail, Some(path), &mut reader, out, err),
+    match File::open(files, path) {
+        Ok(file) => {
+            let mut reader = WatchedReader::new(file);
+            answer_text(alloc, detail, format, Some(path), &mut reader, out, err)
+        }
+        Err(error) => tell_unread(error.kind(), path, err),
     }
 }
 
-/// Answers a script. The status is that of the outcome of its run.
-fn answer_script<R: Read, W: Write, E: Write>(
+/// Answers a script or a history text. The status is that of the outcome of its run.
+fn answer_text<R: Read, W: Write, E: Write>(
     alloc: Global,
     detail: Detail,
+    format: Format,
     path: Option<&str>,
     reader: &mut WatchedReader<R>,
     out: &mut WatchedWriter<W>,
@@ -167,47 +151,21 @@ fn answer_script<R: Read, W: Write, E: Write>(
     requires none { reader.old.given ≡ 0 }
     requires unfailed { reader.old.has_failed ≡ false }
     requires unrefused { out.old.has_refused ≡ false }
-    ensures { IsScriptAnswered (R.remaining reader.old.reader) (R.remaining reader.new.reader) (W.contents out.old.writer) (W.contents out.new.writer)
-        reader.new.has_failed reader.new.given out.new.has_refused result }
+    ensures { IsTextAnswered format (R.remaining reader.old.reader) (R.remaining reader.new.reader) (W.contents out.old.writer)
+        (W.contents out.new.writer) reader.new.has_failed reader.new.given out.new.has_refused result }
 {
-    let mut line = FaultyLine::new();
-    let outcome = run_with_line(alloc, reader, out, &ScriptStarter, &mut line);
-    let run = Run {
-        format: Format::Script,
+    let outcome = match format {
+        Format::Script => run(alloc, reader, out, &ScriptStarter),
+        Format::History => replay(alloc, reader, out),
+    };
+    let ended = Run {
+        format,
         path,
         outcome,
         cause: cause_of(outcome, reader.error(), out.error()),
-        line,
+        line: *reader.line(),
     };
-    tell(alloc, detail, &run, err)
-}
-
-/// Replays a history text. The status is that of the outcome of its replay.
-fn answer_history<R: Read, W: Write, E: Write>(
-    alloc: Global,
-    detail: Detail,
-    path: Option<&str>,
-    reader: &mut WatchedReader<R>,
-    out: &mut WatchedWriter<W>,
-    err: &mut E,
-) -> Status
-    requires calls { reader.old.calls ≡ 0 }
-    requires none { reader.old.given ≡ 0 }
-    requires unfailed { reader.old.has_failed ≡ false }
-    requires unrefused { out.old.has_refused ≡ false }
-    ensures { IsReplayAnswered (R.remaining reader.old.reader) (R.remaining reader.new.reader) (W.contents out.old.writer) (W.contents out.new.writer)
-        reader.new.has_failed reader.new.given out.new.has_refused result }
-{
-    let mut line = FaultyLine::new();
-    let outcome = replay_with_line(alloc, reader, out, &mut line);
-    let run = Run {
-        format: Format::History,
-        path,
-        outcome,
-        cause: cause_of(outcome, reader.error(), out.error()),
-        line,
-    };
-    tell(alloc, detail, &run, err)
+    tell(alloc, detail, &ended, err)
 }
 
 /// Answers the journal in the file at this path.
@@ -221,38 +179,25 @@ fn answer_journal<F: Files, W: Write, E: Write>(
 ) -> Status
     ensures { IsJournalAnswered (W.contents out.old.writer) (W.contents out.new.writer) out.new.has_refused result }
 {
-    match File::open(files, path) {
-        Ok(file) => answer_lines(alloc, detail, path, file, out, err),
-        Err(error) => tell_unread(error.kind(), path, err),
-    }
-}
-
-/// Answers the journal that this file has.
-fn answer_lines<R: Read + Drop, W: Write, E: Write>(
-    alloc: Global,
-    detail: Detail,
-    path: &str,
-    file: R,
-    out: &mut WatchedWriter<W>,
-    err: &mut E,
-) -> Status
-    ensures { IsJournalTold (R.remaining file) (W.contents out.old.writer) (W.contents out.new.writer) out.new.has_refused result }
-{
+    let file = match File::open(files, path) {
+        Ok(file) => file,
+        Err(error) => return tell_unread(error.kind(), path, err),
+    };
     let mut lines = EntryReader::new(alloc, WatchedReader::new(file));
     let outcome = replay_journal(alloc, &mut lines, out);
-    let run = Run {
+    let ended = Run {
         format: Format::History,
         path: Some(path),
         outcome,
         cause: cause_of(outcome, lines.error(), out.error()),
         line: line_at(&lines),
     };
-    tell(alloc, detail, &run, err)
+    tell(alloc, detail, &ended, err)
 }
 
-/// The line at which the reading of a journal stands.
+/// Returns the line at which the reading of a journal stopped.
 fn line_at<R: Read, A: Allocator>(lines: &EntryReader<R, A>) -> FaultyLine {
-    let mut line = FaultyLine::new();
+    let mut line = FaultyLine::default();
     if lines.ready().is_empty() {
         line.keep(lines.torn());
     } else {
@@ -261,38 +206,38 @@ fn line_at<R: Read, A: Allocator>(lines: &EntryReader<R, A>) -> FaultyLine {
     line
 }
 
-/// Tells the fault of a run, if there is one, by a line, and explains it by further ones, if that is asked for.
+/// Says how a run over a text ended.
+#[derive(Drop)]
+struct Run<'a> {
+    format: Format,
+    /// The file that was read, if the text has a name.
+    path: Option<&'a str>,
+    outcome: Result<(), ScriptFault>,
+    /// What the reader or the writer answered, if that is the fault.
+    cause: Option<ErrorKind>,
+    /// The line that has the fault, if the fault is one of a line.
+    line: FaultyLine,
+}
+
+/// Writes the fault of a run, if there is one: a named file that can't be read by what is wrong with it, all else by number and line.
+/// Further lines explain it, if that is asked for. Returns the run's status.
 fn tell<E: Write>(alloc: Global, detail: Detail, run: &Run<'_>, err: &mut E) -> Status
     ensures { result ≡ status_of run.now.outcome }
 {
-    match run.outcome {
-        Ok(()) => Status::Done,
-        Err(stop) => {
-            tell_fault(alloc, detail, run, stop, err);
-            Status::of(stop.fault)
-        }
-    }
-}
-
-/// Tells a fault: a named file that can't be read by what is wrong with it, all else by number and line.
-fn tell_fault<E: Write>(
-    alloc: Global,
-    detail: Detail,
-    run: &Run<'_>,
-    stop: ScriptFault,
-    err: &mut E,
-) {
+    let Err(stop) = run.outcome else {
+        return Status::Done;
+    };
     if let (Fault::ReadFault, Some(path), Some(kind)) = (stop.fault, run.path, run.cause) {
-        tell_unread(kind, path, err);
-        return;
+        return tell_unread(kind, path, err);
     }
     let _ = writeln!(err, "{stop}");
     if detail == Detail::Explained {
         explain(alloc, run, stop, err);
     }
+    Status::of(stop.fault)
 }
 
-/// Tells that the file at a path can't be read, and why.
+/// Writes that the file at a path can't be read, and why.
 fn tell_unread<E: Write>(kind: ErrorKind, path: &str, err: &mut E) -> Status
     ensures { result ≡ status.Failed }
 {
@@ -325,12 +270,9 @@ fn cause_of(
     }
 }
 
-/// Explains a fault by further lines.
+/// Writes the further lines that explain a fault.
 fn explain<E: Write>(alloc: Global, run: &Run<'_>, stop: ScriptFault, err: &mut E) {
-    let text = match (
-        Explanation::new(alloc, run.format, stop, &run.line),
-        run.cause,
-    ) {
+    let text = match (Explanation::new(run.format, stop, &run.line), run.cause) {
         (Some(explanation), _) => format!(in alloc; "{explanation}"),
         (None, Some(kind)) => format!(in alloc; "  {}: {kind}\n", stop.fault),
         (None, None) => format!(in alloc; "  {}\n", stop.fault),

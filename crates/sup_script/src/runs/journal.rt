@@ -37,7 +37,7 @@ pub fn replay_journal<A: Allocator + Copy, R: Read, W: Write>(
     }
 }
 
-/// The fault of the first line.
+/// Returns a fault of the first line.
 fn in_line_1(fault: Fault) -> ScriptFault
     ensures { (result.fault ≡ fault) × (result.line ≡ 1) }
 {
@@ -65,7 +65,7 @@ fn answer_first<A: Allocator + Copy, R: Read, W: Write>(
     }
 }
 
-/// Answers the entries of a journal whose first line was given, from a supervisor that none was entered in, and tells what it came to.
+/// Replays the entries after the header into a new supervisor, and writes the last line.
 fn answer_by<A: Allocator + Copy, R: Read, W: Write>(
     alloc: A,
     mut sup: Sup<A>,

@@ -9,12 +9,11 @@ ghost use Rattle.sup_format.specs.Reading.HistoryReading.{IsReadTo};
 ghost use Rattle.sup_script.specs.Running.Replays.{IsReplay, TextGives};
 ghost use Rattle.sup_format.specs.Writing.Replies.{reply_text};
 
-use crate::explain::FaultyLine;
 use std::alloc::Allocator;
 use std::io::{Read, Write};
 use sup_core::Sup;
 use sup_format::{
-    Fault, HistoryFault, Outbox, ScriptFault, WatchedReader, WatchedWriter, begin_history,
+    Fault, FaultyLine, Outbox, ScriptFault, WatchedReader, WatchedWriter, begin_history,
     check_entries, line_after, next_entry, read_whole, write_reply,
 };
 use sup_types::{Entry, OutOfMemory};
@@ -39,51 +38,33 @@ pub fn replay<A: Allocator + Copy, R: Read, W: Write>(
     ensures reads { reader.new.calls ≤ 16777217 }
     ensures cause { IfErr result (λ e. HasCause reader.new.has_failed reader.new.given writer.new.has_refused e.fault) }
 {
-    replay_with_line(alloc, reader, writer, &mut FaultyLine::new())
-}
-
-/// Does what [`replay`] does, and keeps the line that has the fault, if it is a fault of the text.
-pub fn replay_with_line<A: Allocator + Copy, R: Read, W: Write>(
-    alloc: A,
-    reader: &mut WatchedReader<R>,
-    writer: &mut WatchedWriter<W>,
-    faulty: &mut FaultyLine,
-) -> Result<(), ScriptFault>
-    requires calls { reader.old.calls ≡ 0 }
-    requires none { reader.old.given ≡ 0 }
-    requires unfailed { reader.old.has_failed ≡ false }
-    requires unrefused { writer.old.has_refused ≡ false }
-    ensures replay { IsReplay (R.remaining reader.old.reader) (R.remaining reader.new.reader)
-        (W.contents writer.old.writer) (W.contents writer.new.writer) result }
-    ensures reads { reader.new.calls ≤ 16777217 }
-    ensures cause { IfErr result (λ e. HasCause reader.new.has_failed reader.new.given writer.new.has_refused e.fault) }
-{
     let mut text = Vec::new(alloc);
     if let Err(fault) = read_whole(reader, &mut text) {
         let line = line_after(text.as_slice());
         return Err(ScriptFault { fault, line });
     }
     let outcome = replay_text(alloc, text.as_slice(), writer);
-    if let Err(
-        ScriptFault {
-            fault: Fault::BadTemplate | Fault::BadLine,
-            line,
-        },
-    ) = outcome
-    {
-        keep_line(&text, line, faulty);
-    }
+    reader.note_line(faulty_line(text.as_slice(), outcome));
     outcome
 }
 
-/// Keeps the line of this number, from 1 on.
-fn keep_line<A: Allocator>(text: &Vec<u8, A>, number: u64, faulty: &mut FaultyLine) {
-    for (place, line) in text.as_slice().split(|byte| *byte == b'\n').enumerate() {
-        if place as u64 + 1 == number {
-            faulty.keep(line);
-            return;
+/// Returns the line of a history text that has the fault, if the fault is one of a line, and else the empty line.
+fn faulty_line(text: &[u8], outcome: Result<(), ScriptFault>) -> FaultyLine {
+    let mut faulty = FaultyLine::default();
+    if let Err(
+        ScriptFault {
+            fault: Fault::BadTemplate | Fault::BadLine,
+            line: number,
+        },
+    ) = outcome
+    {
+        for (place, line) in text.split(|byte| *byte == b'\n').enumerate() {
+            if place as u64 + 1 == number {
+                faulty.keep(line);
+            }
         }
     }
+    faulty
 }
 
 /// Writes the replies to the entries of a history text, once all of it was read.
@@ -116,7 +97,7 @@ fn refusal(rest: &[u8]) -> ScriptFault
             let fault = Fault::OutOfMemory;
             ScriptFault { fault, line: 1 }
         }
-        Err(HistoryFault { fault, line }) => ScriptFault { fault, line },
+        Err(fault) => fault,
     }
 }
 
@@ -185,7 +166,7 @@ fn answer_from<A: Allocator + Copy, W: Write>(
     outbox.flush(next)
 }
 
-/// Enters an entry, and puts its reply behind those that wait. After a refusal they wait as before.
+/// Enters an entry, and adds its reply to those that wait. After a refusal they wait as before.
 pub(crate) fn answer_entry<A: Allocator + Copy, W: Write>(
     entry: &Entry,
     sup: &mut Sup<A>,

@@ -4,7 +4,6 @@ ghost use Rattle.std.specs.Prelude.{◌≡◌, ◌≤◌, [], false, None, IfErr
 ghost use Rattle.sup_format.specs.Causes.{HasCause};
 ghost use Rattle.sup_script.specs.Running.Runs.{IsRun};
 
-use crate::explain::FaultyLine;
 use crate::runs::session::Session;
 use std::alloc::Allocator;
 use std::io::{Read, Write};
@@ -34,31 +33,14 @@ pub fn run<A: Allocator + Copy, R: Read, W: Write, S: FixedStarter>(
     ensures reads { reader.new.calls ≤ 16777217 }
     ensures cause { IfErr result (λ e. HasCause reader.new.has_failed reader.new.given writer.new.has_refused e.fault) }
 {
-    run_with_line(alloc, reader, writer, starter, &mut FaultyLine::new())
-}
-
-/// Does what [`run`] does, and keeps the line that has the fault, if the fault is one of the line itself: the empty line if the
-/// input is empty.
-pub fn run_with_line<A: Allocator + Copy, R: Read, W: Write, S: FixedStarter>(
-    alloc: A,
-    reader: &mut WatchedReader<R>,
-    writer: &mut WatchedWriter<W>,
-    starter: &S,
-    line: &mut FaultyLine,
-) -> Result<(), ScriptFault>
-    requires calls { reader.old.calls ≡ 0 }
-    requires none { reader.old.given ≡ 0 }
-    requires unfailed { reader.old.has_failed ≡ false }
-    requires unrefused { writer.old.has_refused ≡ false }
-    ensures run { IsRun S.answer (R.remaining reader.old.reader) (R.remaining reader.new.reader)
-        (W.contents writer.old.writer) (W.contents writer.new.writer) result }
-    ensures reads { reader.new.calls ≤ 16777217 }
-    ensures cause { IfErr result (λ e. HasCause reader.new.has_failed reader.new.given writer.new.has_refused e.fault) }
-{
     let mut session = Session::new(alloc, starter, writer);
     let mut part = Vec::new(alloc);
     let outcome = match (session.outbox.make_room(), part.reserve_exact(PART + PIECE)) {
-        (Ok(()), Ok(())) => answer_pieces(&mut session, &mut part, reader),
+        (Ok(()), Ok(())) => {
+            let outcome = answer_pieces(&mut session, &mut part, reader);
+            reader.note_line(session.faulty);
+            outcome
+        }
         _ => Err(session.fault(Fault::OutOfMemory)),
     };
     // Taken apart, the session gives the writer back, and with it what is known of it.
@@ -68,7 +50,7 @@ pub fn run_with_line<A: Allocator + Copy, R: Read, W: Write, S: FixedStarter>(
         supervisor,
         outbox,
         next: _next,
-        faulty,
+        faulty: _faulty,
     } = session;
     let Outbox {
         bytes,
@@ -76,7 +58,6 @@ pub fn run_with_line<A: Allocator + Copy, R: Read, W: Write, S: FixedStarter>(
         writer: _writer,
     } = outbox;
     drop((supervisor, bytes, ends));
-    *line = faulty;
     outcome
 }
 

@@ -11,13 +11,13 @@ ghost use Rattle.sup_format.specs.Writing.Replies.{Grows};
 ghost use Rattle.sup_format.specs.Reading.Texts.{lines_of};
 ghost use Rattle.sup_format.specs.Reading.Words.{Lacks};
 
-use crate::explain::FaultyLine;
 use crate::runs::entered::append_answer;
 use std::alloc::Allocator;
 use std::io::Write;
 use sup_core::Sup;
 use sup_format::{
-    Fault, Outbox, ScriptFault, WatchedWriter, ended_part, first_line, read_header, read_line,
+    Fault, FaultyLine, Outbox, ScriptFault, WatchedWriter, ended_part, first_line, read_header,
+    read_line,
 };
 use sup_types::FixedStarter;
 
@@ -52,7 +52,7 @@ impl<'s, 'w, A: Allocator + Copy, W: Write, S: FixedStarter> Session<'s, 'w, A, 
             supervisor: None,
             outbox: Outbox::new(alloc, writer),
             next: 1,
-            faulty: FaultyLine::new(),
+            faulty: FaultyLine::default(),
         }
     }
 

@@ -1,4 +1,4 @@
-use Rattle.std.proofs.Common.{◌≡◌, ℕ, List, ◌++◌, length, drop, refl, sym, ap, subst, ◌∙◌}
+use Rattle.std.proofs.Common.{sym, subst, ◌∙◌}
 use Rattle.sup_format.specs.Reading.Words.{Lacks}
 use Rattle.sup_format.proofs.Reading.Streams.{rest_of}
 use Rattle.sup_format.proofs.read.entries.join.Goals as goal

@@ -32,7 +32,7 @@ returns-in_err-check_entries-clause-given g c = λ text read.
     let found = c.in-Some.ensures in
     let p = err_from_is_err_and c.from_residual.result c.from_residual.ensures.1 in
     let more = read_more text c.loop-rest.rest.now c.args.sup.now.template now.entries c.loop-rest.next now.read found.0 c.in-Some.after.now c.in-Some.entry found.1 found.2 in
-    rw (p.1, p.2.0, p.2.1, c.in-Err.ensures.writer, c.loop-rest.invariant.writer)
+    rw (p.1, p.2, c.in-Err.ensures.writer, c.loop-rest.invariant.writer)
     (inl (c.in_err-check_entries.ensures.stops text c.args.sup.now.template (now.entries ++ c.in-Some.entry ∷ []) more, bad_line_kind _ c.in_err-check_entries.ensures.fault, Appends-nil (g.W.Write.contents c.args.outbox.now.writer.now.writer)))
 
 pub returns-in_err-flush-clause-given : goal.returns-in_err-flush-clause-given
