@@ -1,4 +1,8 @@
-"""The toolchain's kit: its own command as a module, the crates that it reads, and their functions."""
+"""The toolchain's kit, for the tools: its own command as a module, the crates that it reads, and their functions.
+
+This is the one file that loads private parts of the kit. NEEDED says which names of them the tools use and what for. The kit's commands do
+none of it at the same price: `rt must-fail` checks a crate once for each edit, where tools/mutants tries all of a crate in one check.
+"""
 import functools
 import hashlib
 import importlib.machinery
@@ -17,6 +21,26 @@ CACHE = f"{os.environ.get('XDG_CACHE_HOME') or os.path.expanduser('~/.cache')}/s
 KEPT_AT_MOST = 10_000
 # Held while libraries are built.
 BUILDING = threading.Lock()
+# Of each file of the kit the names that the tools use, and what for.
+NEEDED = {
+    "bin/rt": {
+        "Crate": "knows a crate's folder, what is below it, and the words of its check",
+        "handles_of": "reads HANDLES, which the check of a crate is given",
+        "kit_sum": "tells one kit from another, so that what passed is kept for this one",
+        "main": "runs `rt try` without the check that it begins beside the run",
+        "read_edit": "applies the file of a mutant to the text of a crate",
+        "rtlib": "is what the kit's commands share",
+        "stamp_of": "sums up all that the check of a crate rests on",
+    },
+    "bin/rt's rtlib": {
+        "PARTS": "names the folders of a crate that a copy needs",
+        "RATTLE": "is the compiler's command",
+        "crates_below": "reads crates.txt",
+        "guarded": "limits the memory of a check",
+        "lock": "keeps other runs of the kit away from the crates",
+    },
+    "bin/rt-plant-bodies": {"Source": "finds the functions of a crate, and where their bodies are"},
+}
 
 
 def loaded(name, file):
@@ -35,15 +59,28 @@ def kit():
     folder = os.path.dirname(page)
     rt = loaded("rt_of_the_kit", f"{folder}/bin/rt")
     bodies = loaded("rt_plant_bodies", f"{folder}/bin/rt-plant-bodies")
+    for (file, names), module in zip(NEEDED.items(), (rt, getattr(rt, "rtlib", None), bodies)):
+        for name in names:
+            if not hasattr(module, name):
+                sys.exit(f"tools/kit.py: {file} of this kit has no `{name}`, which {names[name]}")
     rt.Crate.allowed = rt.handles_of(TOP)
     rt.rtlib.Crate = rt.Crate
     rt.rtlib.guarded()
     return types.SimpleNamespace(rt=rt, lib=rt.rtlib, bodies=bodies)
 
 
+def text_of(file):
+    """Returns the text of a file, or None if there is none."""
+    try:
+        with open(file, encoding="utf-8", errors="replace") as it:
+            return it.read()
+    except OSError:
+        return None
+
+
 def checksum(files, *more):
     """Of the kit, these files, and what else a run rests on."""
-    return hashlib.sha256(repr((kit().rt.kit_sum(), [kit().lib.text_of(it) for it in files], more)).encode())
+    return hashlib.sha256(repr((kit().rt.kit_sum(), [text_of(it) for it in files], more)).encode())
 
 
 def keep(name, text):
@@ -64,21 +101,9 @@ def kept(name):
     """Returns the text that is kept under this name, or None."""
     try:
         os.utime(f"{CACHE}/{name}")
-        return kit().lib.text_of(f"{CACHE}/{name}")
+        return text_of(f"{CACHE}/{name}")
     except OSError:
         return None
-
-
-def passes_once(name, test, is_new):
-    """Runs a test, which returns how many passed and how many failed, unless it passed before under this name."""
-    found = None if is_new else kept(name)
-    if found:
-        print("it passed before, with the same tool and kit")
-        return int(found), 0
-    passed, failed = test()
-    if not failed:
-        keep(name, str(passed))
-    return passed, failed
 
 
 def names_in(words):
@@ -123,7 +148,7 @@ def bodies_to_leave_out(source, kept):
 
 def is_current(library):
     """Whether a library is what a build of the sources that are there has left."""
-    stamps = [kit().lib.text_of(f"{library.folder}/out/{it}") for it in ("rlib/stamp", "built")]
+    stamps = [text_of(f"{library.folder}/out/{it}") for it in ("rlib/stamp", "built")]
     return os.path.isdir(library.rlib) and library.stamp() in stamps
 
 
