@@ -128,7 +128,8 @@ def path_of(f):
     if f.in_trait:
         # (a trait's own function is named for the trait alone)
         words = f.block.trait if f.block.is_trait else [*f.block.ty, *f.block.trait]
-        owner = "".join(it for it in names_in(words) if it not in f.block.generics)
+        # (and one of a type of the language with a great letter, as BoolSpelled)
+        owner = "".join(it[0].upper() + it[1:] for it in names_in(words) if it not in f.block.generics)
     elif f.block:
         # (a block for some arguments of its type alone is named for them, too, as HandleOf+N+Desk)
         names = names_in(f.block.ty)

@@ -38,8 +38,8 @@ pub use read::history::{
 };
 pub use read::input::{MOST_BYTES, PIECE, line_after, read_whole};
 pub use read::lines::{ended_part, first_line};
-pub use read::misfit::{LineKind, find_misfit};
 pub use read::place::Place;
+pub use read::syntax::{LineKind, find_syntax_error};
 pub use read::words::{next_word, read_number, split_once};
 pub use watch::{WatchedReader, WatchedWriter};
 pub use write::history_text::{append_entry, append_header, write_history};

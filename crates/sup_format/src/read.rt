@@ -6,6 +6,6 @@ pub mod header;
 pub mod history;
 pub mod input;
 pub mod lines;
-pub mod misfit;
 pub mod place;
+pub mod syntax;
 pub mod words;

@@ -2,10 +2,9 @@
 
 ghost use Rattle.std.specs.Prelude.{◌≡◌, ◌≢◌, MatchOption};
 ghost use Rattle.sup_types.specs.declared.reason.Reason.{Reason as AReason};
-ghost use Rattle.sup_format.specs.Reading.Tokens.{IsReason, IsWordOf, operation_verb, reason_word};
-ghost use Rattle.sup_format.specs.Reading.History.{answer_name};
+ghost use Rattle.sup_format.specs.Reading.Tokens.{IsReason, IsWordOf, reason_word};
 
-use sup_types::{Answer, AutoShutdown, Kind, Operation, Reason, Restart, Text, Word};
+use sup_types::{AutoShutdown, Kind, Reason, Restart, Text, Word};
 
 /// The word of [`Reason::Normal`](sup_types::Reason).
 pub const NORMAL: &str = "normal";
@@ -139,21 +138,6 @@ pub enum Verb {
     Stop,
 }
 
-impl Verb {
-    /// Returns the name of an operation.
-    pub fn of(operation: &Operation) -> Verb
-        ensures { result ≡ operation_verb operation.now }
-    {
-        match operation {
-            Operation::Start(_) => Verb::Start,
-            Operation::Exit(..) => Verb::Exit,
-            Operation::Retry(_) => Verb::Retry,
-            Operation::Terminate(_) => Verb::Terminate,
-            Operation::Stop => Verb::Stop,
-        }
-    }
-}
-
 impl Spelled for Verb {
     ghost use Rattle.sup_format.specs.Reading.Tokens.{verb_word};
 
@@ -222,19 +206,6 @@ pub enum AnswerName {
     Running,
     Ignore,
     Failed,
-}
-
-impl AnswerName {
-    /// Returns the name of an answer.
-    pub fn of(answer: Answer) -> AnswerName
-        ensures { result ≡ answer_name answer }
-    {
-        match answer {
-            Answer::Running => AnswerName::Running,
-            Answer::Ignore => AnswerName::Ignore,
-            Answer::Failed(_) => AnswerName::Failed,
-        }
-    }
 }
 
 impl Spelled for AnswerName {

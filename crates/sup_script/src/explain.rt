@@ -3,7 +3,8 @@
 
 use std::fmt;
 use sup_format::{
-    Cursor, Fault, FaultyLine, LineKind, Place, ScriptFault, find_misfit, next_word, read_number,
+    Cursor, Fault, FaultyLine, LineKind, Place, ScriptFault, find_syntax_error, next_word,
+    read_number,
 };
 
 /// Says which text a line is of.
@@ -21,7 +22,7 @@ pub enum Format {
 pub struct Explanation<'a> {
     line: &'a FaultyLine,
     /// The place, unless the words of the line are right.
-    misfit: Option<Cursor<'a>>,
+    error: Option<Cursor<'a>>,
 }
 
 impl<'a> Explanation<'a> {
@@ -34,14 +35,14 @@ impl<'a> Explanation<'a> {
             (Fault::BadLine, Format::History, _) => LineKind::Entry,
             _ => return None,
         };
-        let misfit = find_misfit(kind, line.bytes());
-        Some(Explanation { line, misfit })
+        let error = find_syntax_error(kind, line.bytes());
+        Some(Explanation { line, error })
     }
 }
 
 impl fmt::Display for Explanation<'_> {
     fn fmt<W: fmt::Write>(&self, f: &mut fmt::Formatter<W>) -> fmt::Result {
-        let (rest, place) = match self.misfit {
+        let (rest, place) = match self.error {
             Some(Cursor { rest, place }) => (rest, place),
             None => (None, Place::End),
         };
@@ -51,7 +52,7 @@ impl fmt::Display for Explanation<'_> {
         repeat(f, ' ', self.line.bytes().len().saturating_sub(rest.len()))?;
         repeat(f, '^', word.len().max(1))?;
         f.write_char(' ')?;
-        match self.misfit {
+        match self.error {
             None => f.write_str("the line lacks its line feed")?,
             Some(Cursor { rest: None, .. }) => f.write_str("the line ends here")?,
             Some(_) => write_wrong(f, place, word)?,
@@ -75,13 +76,7 @@ fn write_wrong<W: fmt::Write>(f: &mut fmt::Formatter<W>, place: Place, word: &[u
         );
     }
     f.write_str(match place {
-        Place::Text if word.len() > 40 => "this text has more than 40 bytes",
-        Place::Reason
-            if word
-                .strip_prefix(b"shutdown:".as_slice())
-                .unwrap_or(word)
-                .len()
-                > 40 => { "this text has more than 40 bytes" }
+        Place::Text | Place::Reason if word.len() > 40 => "this text has more than 40 bytes",
         Place::Mark if word == b"significant".as_slice() => {
             "a significant child is not permanent, and needs the automatic shutdown `any` or `all`"
         }

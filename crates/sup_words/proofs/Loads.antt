@@ -32,7 +32,7 @@ use Rattle.sup_script.specs.declared.runs.answer.Detail.TheVariants as detail
 use Rattle.sup_script.specs.declared.runs.answer.Input.TheVariants as input
 use Rattle.sup_words.proofs.Numbers.{same_number}
 use Rattle.sup_words.proofs.Tables.{appends, explain_row, found_at, is_new, row_for, same_setting, table, table_of, unexplained}
-use Rattle.sup_words.proofs.Walks.{AllPlain, leaf_fault, leaf_rows, load_rules, load_shape, missing, or_else-nil, pair_fault, pair_faults, plain_text, rows_from}
+use Rattle.sup_words.proofs.Walks.{AllPlain, leaf_fault, leaf_rows, load_rules, load_shape, missing, or_else-nil, pair_fault, pair_faults, plain_text}
 
 -- ---- numbers
 

@@ -1,6 +1,5 @@
 -- What an order that answers a text comes to, for both programs.
-use Rattle.std.proofs.Common.{◌≡◌, ◌⊎◌, ◌∙◌, ℕ, Bool, true, List, Option, None, Some, refl, sym, ap, subst, codes, inl, inr}
-use Rattle.std.specs.Borrow.{Bor}
+use Rattle.std.proofs.Common.{◌≡◌, ◌⊎◌, ℕ, Bool, List, Option, None, Some, refl, sym, ap, subst, codes, inl, inr}
 use Rattle.std.specs.Prelude.{Result, Ok, is_some}
 use Rattle.clap.specs.Kinds.{Kinds}
 use Rattle.clap.specs.Walk.{Row, Text, first_of}

@@ -1,24 +1,21 @@
 -- Which words spell which command.
-use Rattle.std.proofs.Common.{◌≡◌, ◌≢◌, ℕ, ◌<◌, ◌^◌, ◌==◌, true, false, cond, nat_eq, List, [], ◌∷◌, ◌++◌, length, drop, codes, refl, sym, ap, ◌∙◌, arith, inl, inr, Option, None, Some, is_some}
+use Rattle.std.proofs.Common.{◌≡◌, ℕ, ◌<◌, ◌^◌, ◌==◌, true, false, cond, nat_eq, List, [], ◌∷◌, ◌++◌, length, drop, codes, refl, sym, ap, ◌∙◌, arith, inl, inr, Option, None, Some, is_some}
 use Rattle.std.specs.Fmt.{decimal}
 use Rattle.std.specs.Str.{bytes_eq}
 use Rattle.std.specs.List.{starts_with}
 use Rattle.std.proofs.lemmas.Bool.{false≢true}
 use Rattle.std.proofs.lemmas.Slice.Eq.{bytes_eq-Decides}
-use Rattle.std.proofs.lemmas.List.{length-append, nil_from_length}
 use Rattle.std.proofs.lemmas.List.Splits.{length-slice_split}
 use denote.Ref.{Bor}
 use Rattle.sup_types.specs.Text.{IsWord}
-use Rattle.sup_types.specs.declared.reason.Reason.{Reason}
 use Rattle.sup_types.specs.declared.history.Operation.{Operation}
-use Rattle.sup_types.specs.declared.history.Operation.TheVariants as operation
 use Rattle.sup_format.specs.declared.read.command.Command.TheVariants as command
 use Rattle.sup_format.specs.declared.spelled.Verb.{Verb}
 use Rattle.sup_format.specs.declared.spelled.Verb.TheVariants as verb
 use Rattle.sup_format.specs.declared.spelled.Query.TheVariants as query
 use Rattle.sup_format.specs.declared.read.header.Parts.{Parts}
 use Rattle.sup_format.specs.Reading.Words.{words_of, words_left}
-use Rattle.sup_format.specs.Reading.Tokens.{verb_word, operation_verb, argument_words, reason_word, IsReason, IsOperation, HasNoArguments, HasNoValue}
+use Rattle.sup_format.specs.Reading.Tokens.{verb_word, operation_verb, argument_words, IsOperation, HasNoValue}
 use Rattle.sup_format.specs.Reading.Lines.{IsIdentifierWord, query_word, MeansNothing}
 use Rattle.sup_format.specs.Reading.Headers.{limit_words}
 

@@ -33,11 +33,6 @@ answer_word name.Running = codes "running"
 answer_word name.Ignore = codes "ignore"
 answer_word name.Failed = codes "failed"
 
-abbrev pub answer_name : Answer → AnswerName
-answer_name answer.Running = name.Running
-answer_name answer.Ignore = name.Ignore
-answer_name (answer.Failed code) = name.Failed
-
 -- an operation and its answer
 abbrev pub deed_words : Operation → Answer → List (List ℕ)
 deed_words operation a = verb_word (operation_verb operation) ∷ (argument_words operation ++ answer_words a)

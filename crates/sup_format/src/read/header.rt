@@ -43,7 +43,7 @@ impl Parts {
 
     /// Returns the place of the first number that no template has, or else that of the mark, and how many words it comes after the
     /// restart type.
-    pub fn misfit(self) -> (Place, usize) {
+    pub fn unfit(self) -> (Place, usize) {
         if self.intensity > 1000 {
             (Place::Intensity, 2)
         } else if !(1..=86_400).contains(&self.period) {

@@ -98,26 +98,29 @@ fn append_operation<A: Allocator>(
     ensures fits { IsOperation operation.now }
     ensures err { OnErr result (Grows text.old.items text.new.items) }
 {
-    let verb = Verb::of(operation);
     match operation {
         Operation::Start(argument) => append_spaced(
             text,
-            &[Field::spelled(verb), Field::Word(argument.bytes())],
+            &[Field::spelled(Verb::Start), Field::Word(argument.bytes())],
         ),
         Operation::Exit(number, reason) => {
             append_spaced(
                 text,
                 &[
-                    Field::spelled(verb),
+                    Field::spelled(Verb::Exit),
                     Field::Number(*number),
                     reason_field(reason),
                 ],
             )
         }
-        Operation::Retry(number) | Operation::Terminate(number) => {
-            append_spaced(text, &[Field::spelled(verb), Field::Number(*number)])
+        Operation::Retry(number) => {
+            append_spaced(text, &[Field::spelled(Verb::Retry), Field::Number(*number)])
         }
-        Operation::Stop => append_spaced(text, &[Field::spelled(verb)]),
+        Operation::Terminate(number) => append_spaced(
+            text,
+            &[Field::spelled(Verb::Terminate), Field::Number(*number)],
+        ),
+        Operation::Stop => append_spaced(text, &[Field::spelled(Verb::Stop)]),
     }
 }
 
@@ -139,12 +142,15 @@ fn append_answer<A: Allocator>(answer: Answer, text: &mut Vec<u8, A>) -> Result<
     ensures fits { IsAnswer answer }
     ensures err { OnErr result (Grows text.old.items text.new.items) }
 {
-    let name = AnswerName::of(answer);
     match answer {
+        Answer::Running => append_line(text, &[Field::spelled(AnswerName::Running)]),
+        Answer::Ignore => append_line(text, &[Field::spelled(AnswerName::Ignore)]),
         Answer::Failed(code) => append_line(
             text,
-            &[Field::spelled(name), Field::Number(u64::from(code))],
+            &[
+                Field::spelled(AnswerName::Failed),
+                Field::Number(u64::from(code)),
+            ],
         ),
-        Answer::Running | Answer::Ignore => append_line(text, &[Field::spelled(name)]),
     }
 }

@@ -48,18 +48,12 @@ pub fn replay<A: Allocator + Copy, R: Read, W: Write>(
     outcome
 }
 
-/// Returns the line of a history text that has the fault, if the fault is one of a line, and else the empty line.
+/// Returns the line of a history text in which it stopped, and the empty line if it did not.
 fn faulty_line(text: &[u8], outcome: Result<(), ScriptFault>) -> FaultyLine {
     let mut faulty = FaultyLine::default();
-    if let Err(
-        ScriptFault {
-            fault: Fault::BadTemplate | Fault::BadLine,
-            line: number,
-        },
-    ) = outcome
-    {
+    if let Err(stop) = outcome {
         for (place, line) in text.split(|byte| *byte == b'\n').enumerate() {
-            if place as u64 + 1 == number {
+            if place as u64 + 1 == stop.line {
                 faulty.keep(line);
             }
         }

@@ -30,9 +30,7 @@ pub struct Session<'s, 'w, A: Allocator, W, S> {
     pub supervisor: Option<Sup<A>>,
     /// The replies that wait, and their writer.
     pub outbox: Outbox<'w, A, W>,
-    /// The number of the next line.
     pub next: u64,
-    /// The line that has a fault, once there is one.
     pub faulty: FaultyLine,
 }
 

@@ -22,7 +22,7 @@ pub enum LineKind {
 
 /// Returns the first place at which a line of this kind is wrong, with the words from there on: it does not have what is expected
 /// there, or has a number or a mark that no template has. None if nothing is wrong with its words.
-pub fn find_misfit(kind: LineKind, line: &[u8]) -> Option<Cursor<'_>> {
+pub fn find_syntax_error(kind: LineKind, line: &[u8]) -> Option<Cursor<'_>> {
     let mut words = Cursor::new(line);
     let (parts, before) = match kind {
         LineKind::Header => (read_parts(&mut words), 1),
@@ -36,7 +36,7 @@ pub fn find_misfit(kind: LineKind, line: &[u8]) -> Option<Cursor<'_>> {
     if parts.template().is_ok() {
         return None;
     }
-    let (place, after) = parts.misfit();
+    let (place, after) = parts.unfit();
     let mut rest = Some(line);
     for _ in 0..after.saturating_add(before) {
         rest = next_word(rest?).1;
