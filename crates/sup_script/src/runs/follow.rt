@@ -1,0 +1,105 @@
+//! Following: the lines of a journal that another program writes, each with its reply.
+
+use std::alloc::Allocator;
+use std::fs::{File, Files, Metadata, OpenFile};
+use std::io::{Read, Seek, SeekFrom, Write};
+use std::os::unix::fs::MetadataExt;
+use std::{fs, io};
+use sup_core::Sup;
+use sup_format::{EntryReader, Fault, WatchedReader, WatchedWriter, first_line, write_reply};
+
+/// Shows what comes to the journal at a path, which another program writes.
+#[derive(Drop)]
+pub struct Follower<'p, F, A: Allocator> {
+    path: &'p str,
+    file: F,
+    /// Names the file, whatever its path is now.
+    node: (u64, u64),
+    shown: u64,
+    sup: Option<Sup<A>>,
+}
+
+/// Returns what names a file in the whole system.
+fn node(metadata: Metadata) -> (u64, u64) {
+    (metadata.dev(), metadata.ino())
+}
+
+impl<'p, F: Read + Seek + OpenFile + Drop, A: Allocator + Copy> Follower<'p, F, A> {
+    /// Opens the journal at this path. Nothing of it is shown yet. The error is what the system answered.
+    pub fn open<R: Files<File = F>>(files: &R, path: &'p str) -> io::Result<Follower<'p, F, A>> {
+        let file = File::open(files, path)?;
+        let node = node(file.metadata()?);
+        Ok(Follower {
+            path,
+            file,
+            node,
+            shown: 0,
+            sup: None,
+        })
+    }
+
+    /// Writes each whole line that has come since the last call, and the reply to it: `LINE -> REPLY`; the first line has none. Goes
+    /// on in the file that has taken the place of the one that was opened, once all of that is shown.
+    ///
+    /// # Errors
+    /// `WriteFault`: a part of a line is written. `ReadFault`, `OutOfMemory`, and `BadLine` or `BadTemplate` of a line: none of it is.
+    pub fn show_new<R: Files<File = F>, W: Write>(
+        &mut self,
+        files: &R,
+        alloc: A,
+        out: &mut WatchedWriter<W>,
+    ) -> Result<(), Fault> {
+        self.show_lines(alloc, out)?;
+        let is_same = match fs::metadata(files, self.path) {
+            Ok(metadata) => node(metadata) == self.node,
+            Err(_) => true,
+        };
+        if !is_same {
+            // Nobody writes to the old file any more.
+            self.show_lines(alloc, out)?;
+            match Follower::open(files, self.path) {
+                Ok(follower) => *self = follower,
+                Err(_) => return Err(Fault::ReadFault),
+            }
+            self.show_lines(alloc, out)?;
+        }
+        Ok(())
+    }
+
+    /// Writes the further whole lines of the file, with their replies. A torn line is read again the next time: it may be cut off.
+    fn show_lines<W: Write>(&mut self, alloc: A, out: &mut WatchedWriter<W>) -> Result<(), Fault> {
+        if self.file.seek(SeekFrom::Start(self.shown)).is_err() {
+            return Err(Fault::ReadFault);
+        }
+        let mut lines = EntryReader::new(alloc, WatchedReader::new(&mut self.file));
+        let mut text = Vec::new(alloc);
+        for _ in 0..u64::MAX {
+            if !lines.find_line()? {
+                break;
+            }
+            text.clear();
+            text.extend_from_slice(first_line(lines.ready()).0)?;
+            match &mut self.sup {
+                None if lines.line() == 1 => {
+                    self.sup = Some(Sup::new(alloc, lines.begin()?)?);
+                    text.extend_from_slice(b"\n")?;
+                }
+                Some(sup) if !sup.is_spent() => {
+                    if let Some(entry) = lines.next()? {
+                        text.extend_from_slice(b" -> ")?;
+                        write_reply(&sup.step(&entry), &mut text)?;
+                    }
+                }
+                _ => return Err(Fault::TooLong),
+            }
+            if out.send(text.as_slice()).is_err() {
+                return Err(Fault::WriteFault);
+            }
+        }
+        let torn = lines.torn().len() as u64;
+        self.shown = self
+            .shown
+            .saturating_add(lines.taken().saturating_sub(torn));
+        Ok(())
+    }
+}
