@@ -12,6 +12,9 @@ use sup_types::{AlwaysRunning, Kind, Restart, Template, Text};
 /// A journal in a file.
 type Kept<R> = FileJournal<<R as Files>::File>;
 
+/// The journal's file.
+const PATH: &str = "sessions.txt";
+
 /// Starts one session more.
 #[derive(Drop)]
 struct OneMore;
@@ -45,7 +48,7 @@ fn main(rt: HostRuntime) -> Result<()> {
     let (outcome, closed) = on_desk_in_file(
         &rt,
         rt.alloc(),
-        "sessions.txt",
+        PATH,
         Flush::EachUpdate,
         template,
         1,
@@ -54,7 +57,7 @@ fn main(rt: HostRuntime) -> Result<()> {
     )?;
     outcome?;
     match closed.fault {
-        Some(fault) => Err(fault.into()),
+        Some(fault) => Err(fault).context(PATH),
         None => Ok(()),
     }
 }

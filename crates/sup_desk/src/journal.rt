@@ -11,13 +11,13 @@ use thiserror::Error;
 #[derive(Clone, Copy, Debug, PartialEq, Eq, Error)]
 pub enum JournalFault {
     /// Its writer answered this error.
-    #[error("its writer answered an error")]
+    #[error("its writer answered an error: {0}")]
     Failed(ErrorKind),
     /// Its writer took nothing of bytes that were not empty.
     #[error("its writer took nothing")]
     TookNothing,
     /// Its writer took all of a record, and answered this error as it was flushed.
-    #[error("its writer could not flush what it took")]
+    #[error("its writer could not flush what it took: {0}")]
     NotFlushed(ErrorKind),
 }
 

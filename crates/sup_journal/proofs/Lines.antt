@@ -9,8 +9,8 @@ use Rattle.sup_format.specs.Reading.Texts.{IsFull, IsEndedPart}
 use Rattle.sup_format.specs.Reading.Words.{Lacks}
 use Rattle.sup_format.specs.LineLaws.{full-right}
 use Rattle.sup_format.specs.Writing.HistoryTexts.{SpellsFirstsOf}
-use Rattle.sup_journal.specs.declared.fault.End.{End}
-use Rattle.sup_journal.specs.declared.fault.End.TheVariants as end
+use Rattle.sup_desk.specs.declared.journal.JournalFault.{JournalFault}
+use Rattle.sup_desk.specs.declared.journal.JournalFault.TheVariants as end
 use Rattle.sup_journal.specs.Ends.{IsStopped}
 use Rattle.sup_journal.specs.Records.{IsRecorded, IsCut}
 
@@ -69,7 +69,7 @@ abbrev pub SpellFirsts : Type 0
 SpellFirsts = (text front rest : List ℕ) (template : Template) (entries more : List Entry) → SpellsAs text template entries
     → SpellsAs (text ++ (front ++ rest)) template (entries ++ more) → IsFull front → SpellsFirstsOf (text ++ front) rest template entries more
 
-pub whole_of_cut : SpellFirsts → (held contents : Option (List ℕ)) (ended : Option End) (template : Template) (recorded ready : List Entry) (lines : List ℕ) → (r : IsCut held contents ended template recorded ready) → IsEndedPart (r.text ++ r.part) lines
+pub whole_of_cut : SpellFirsts → (held contents : Option (List ℕ)) (ended : Option JournalFault) (template : Template) (recorded ready : List Entry) (lines : List ℕ) → (r : IsCut held contents ended template recorded ready) → IsEndedPart (r.text ++ r.part) lines
     → SpellsFirstsOf lines r.left template recorded ready
 whole_of_cut law held contents ended template recorded ready lines r p =
     let w = within r.text r.part lines p.rest p.parts r.spelled.spelled.ended p.unended in
@@ -85,14 +85,14 @@ whole_of_cut law held contents ended template recorded ready lines r p =
       spelled = subst (λ (l : List ℕ). SpellsAs l template (recorded ++ take firsts.count ready)) (sym w.1) firsts.spelled;
     }
 
-pub stopped_short : (held contents : Option (List ℕ)) (ended : End) (template : Template) (recorded ready : List Entry) → (r : IsCut held contents (Some ended) template recorded ready) → IsStopped ended → 0 < length r.left
-stopped_short held contents (end.Error kind) template recorded ready r stopped = r.is_left
+pub stopped_short : (held contents : Option (List ℕ)) (ended : JournalFault) (template : Template) (recorded ready : List Entry) → (r : IsCut held contents (Some ended) template recorded ready) → IsStopped ended → 0 < length r.left
+stopped_short held contents (end.Failed kind) template recorded ready r stopped = r.is_left
 stopped_short held contents end.TookNothing template recorded ready r stopped = r.is_left
 stopped_short held contents (end.NotFlushed kind) template recorded ready r stopped = absurd stopped
 
-pub all_of_flush : (held contents : Option (List ℕ)) (ended : End) (template : Template) (recorded ready : List Entry) → (r : IsCut held contents (Some ended) template recorded ready) → ¬ IsStopped ended
+pub all_of_flush : (held contents : Option (List ℕ)) (ended : JournalFault) (template : Template) (recorded ready : List Entry) → (r : IsCut held contents (Some ended) template recorded ready) → ¬ IsStopped ended
     → SpellsAs (r.text ++ r.part) template (recorded ++ ready)
-all_of_flush held contents (end.Error kind) template recorded ready r unstopped = absurd (unstopped tt)
+all_of_flush held contents (end.Failed kind) template recorded ready r unstopped = absurd (unstopped tt)
 all_of_flush held contents end.TookNothing template recorded ready r unstopped = absurd (unstopped tt)
 all_of_flush held contents (end.NotFlushed kind) template recorded ready r unstopped =
     subst (λ (l : List ℕ). SpellsAs (r.text ++ l) template (recorded ++ ready)) (ap (λ (l : List ℕ). r.part ++ l) r.is_left ∙ append-nil r.part) r.whole

@@ -20,8 +20,9 @@ use Rattle.sup_format.specs.StreamLaws.{streamed_ended, streamed_spelled, unread
 use Rattle.sup_format.specs.LineLaws.{full-right, lines-append, some_lines}
 use Rattle.sup_desk.specs.Recoveries.{StopsAt}
 use Rattle.sup_desk.specs.declared.recovery.RecoverFault.{RecoverFault}
-use Rattle.sup_journal.specs.declared.opening.OpenFault.{OpenFault}
-use Rattle.sup_journal.specs.declared.opening.OpenFault.TheVariants as opening
+use Rattle.sup_journal.specs.declared.fault.OpenFault.{OpenFault}
+use Rattle.sup_journal.specs.declared.fault.OpenFault.TheVariants as opening
+use Rattle.sup_journal.specs.Begun.{Leaves}
 use Rattle.sup_journal.specs.Openings.{BeginsWith, HasFirstLine, IsCauseOf, IsContinued, IsUnbegun, IsWrongIn, StopsIn}
 use Rattle.sup_journal.proofs.Firsts.{goes_on}
 use Rattle.sup_journal.proofs.Lines.{within}
@@ -184,3 +185,15 @@ wrong_line text template line handles failed f is p = (wrong.0, sound is, wrong.
 
   wrong : IsWrongIn text template line f
   wrong = wrong_of text template line failed f f refl (none is) p
+
+-- why a file that begins anew did not
+pub unbegun_cause : (fault : OpenFault) (old new : Option (List ℕ)) (text : List ℕ) (template : Template) (handles : ℕ) → Leaves fault old new template → IsUnbegun text template → IsCauseOf fault text template handles
+unbegun_cause opening.OutOfMemory old new text template handles left u = tt
+unbegun_cause (opening.Refused fault) old new text template handles left u = u
+unbegun_cause opening.InUse old new text template handles left u = absurd left
+unbegun_cause (opening.File cause) old new text template handles left u = absurd left
+unbegun_cause (opening.Cut cause) old new text template handles left u = absurd left
+unbegun_cause (opening.WrongLine wrong) old new text template handles left u = absurd left
+unbegun_cause (opening.OtherTemplate part there here) old new text template handles left u = absurd left
+unbegun_cause opening.NoJournal old new text template handles left u = absurd left
+unbegun_cause (opening.Desk fault) old new text template handles left u = absurd left

@@ -10,8 +10,8 @@ use Rattle.sup_types.specs.declared.template.Template.{Template}
 use Rattle.sup_types.specs.declared.history.Entry.{Entry}
 use Rattle.sup_format.specs.Reading.History.{SpellsAs}
 use Rattle.sup_format.specs.Writing.HistoryTexts.{SpellsOneMore}
-use Rattle.sup_journal.specs.declared.fault.End.{End}
-use Rattle.sup_journal.specs.declared.fault.End.TheVariants as end
+use Rattle.sup_desk.specs.declared.journal.JournalFault.{JournalFault}
+use Rattle.sup_desk.specs.declared.journal.JournalFault.TheVariants as end
 use Rattle.sup_journal.specs.Ends.{IsStopped, IsLeft}
 use Rattle.sup_journal.specs.Records.{IsRecorded, IsCut, HasText, TookPart, IsPut}
 
@@ -53,7 +53,7 @@ module _ (held old : Option (List ℕ)) (waiting : List ℕ) (template : Templat
     waits = nothing_waits (r.text ++ waiting) template (recorded ++ ready) r.waits;
   }
 
-  cut_off : (new : Option (List ℕ)) (e : End) → ((left : List ℕ) → 0 < length left → IsLeft (Some e) left) → TookPart old new waiting → IsCut held new (Some e) template recorded ready
+  cut_off : (new : Option (List ℕ)) (e : JournalFault) → ((left : List ℕ) → 0 < length left → IsLeft (Some e) left) → TookPart old new waiting → IsCut held new (Some e) template recorded ready
   cut_off new e leaves p = record {
     text = r.text;
     part = p.part;
@@ -64,8 +64,8 @@ module _ (held old : Option (List ℕ)) (waiting : List ℕ) (template : Templat
     whole = subst (λ (l : List ℕ). SpellsAs (r.text ++ l) template (recorded ++ ready)) p.parts r.waits;
   }
 
-  pub torn_off : (new : Option (List ℕ)) (e : End) → IsPut old new waiting (Err e) → IsCut held new (Some e) template recorded ready
-  torn_off new (end.Error kind) p = cut_off new (end.Error kind) (λ left some. some) (p.0 tt)
+  pub torn_off : (new : Option (List ℕ)) (e : JournalFault) → IsPut old new waiting (Err e) → IsCut held new (Some e) template recorded ready
+  torn_off new (end.Failed kind) p = cut_off new (end.Failed kind) (λ left some. some) (p.0 tt)
   torn_off new end.TookNothing p = cut_off new end.TookNothing (λ left some. some) (p.0 tt)
   torn_off new (end.NotFlushed kind) p = record {
     text = r.text;
@@ -112,10 +112,10 @@ took_part old mid new bytes taken short so_far kept = record {
 
 -- ---- one sending, and a flush
 
-pub put_cut : (old new : Option (List ℕ)) (bytes : List ℕ) (e : End) → IsStopped e × TookPart old new bytes → IsPut old new bytes (Err e)
+pub put_cut : (old new : Option (List ℕ)) (bytes : List ℕ) (e : JournalFault) → IsStopped e × TookPart old new bytes → IsPut old new bytes (Err e)
 put_cut old new bytes e p = (λ stopped. p.1, λ flushed. absurd (flushed p.0))
 
-pub put_unflushed : (old mid new : Option (List ℕ)) (bytes : List ℕ) (e : End) → Appends old mid bytes → Keeps mid new → ¬ IsStopped e → IsPut old new bytes (Err e)
+pub put_unflushed : (old mid new : Option (List ℕ)) (bytes : List ℕ) (e : JournalFault) → Appends old mid bytes → Keeps mid new → ¬ IsStopped e → IsPut old new bytes (Err e)
 put_unflushed old mid new bytes e took kept flushed = (λ stopped. absurd (flushed stopped), λ unstopped. Appends-then_kept old mid new bytes took kept)
 
 pub put_flushed : (old mid new : Option (List ℕ)) (bytes : List ℕ) → Appends old mid bytes → Keeps mid new → Appends old new bytes

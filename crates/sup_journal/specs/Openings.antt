@@ -12,8 +12,8 @@ use Rattle.sup_format.specs.Reading.Streams.{HasStreamCause, IsStreamed, Stream}
 use Rattle.sup_format.specs.Reading.Texts.{IsEndedPart, IsFull}
 use Rattle.sup_format.specs.Writing.HistoryTexts.{header_line}
 use Rattle.sup_desk.specs.Recoveries.{StopsAt}
-use Rattle.sup_journal.specs.declared.opening.OpenFault.{OpenFault}
-use Rattle.sup_journal.specs.declared.opening.OpenFault.TheVariants as opening
+use Rattle.sup_journal.specs.declared.fault.OpenFault.{OpenFault}
+use Rattle.sup_journal.specs.declared.fault.OpenFault.TheVariants as opening
 
 -- the text begins with the first line of this template
 abbrev pub HasFirstLine : List ℕ → Template → Type 0
@@ -37,14 +37,20 @@ abbrev pub BeginsWith : List ℕ → Template → List Entry → Type 0
 BeginsWith text template entries = HasFirstLine text template × ((whole : List ℕ) × IsEndedPart text whole
     × ((rest : List ℕ) × (read : Template) × (line : ℕ) × IsReadTo whole rest read entries line))
 
+-- the text begins neither with the first line of this template nor that line with it
+abbrev pub BeginsOtherwise : List ℕ → Template → Type 0
+BeginsOtherwise text template = ¬ HasFirstLine text template × ¬ StartsWith (header_line template) text
+
 -- the fault has its cause in the text that was read; memory may be wanting, and the reading fail, at any time
 abbrev pub IsCauseOf : OpenFault → List ℕ → Template → ℕ → Type 0
 IsCauseOf opening.OutOfMemory text template handles = Unit {0}
-IsCauseOf (opening.File kind) text template handles = Unit {0}
-IsCauseOf (opening.Cut kind) text template handles = WantsCut text template
+IsCauseOf opening.InUse text template handles = ⊥
+IsCauseOf (opening.File cause) text template handles = Unit {0}
+IsCauseOf (opening.Cut cause) text template handles = WantsCut text template
 IsCauseOf (opening.WrongLine wrong) text template handles = HasFirstLine text template
     × ¬ (wrong.fault ≡ line_fault.OutOfMemory) × ((whole : List ℕ) × IsEndedPart text whole × HistoryStops whole wrong.line wrong.fault)
-IsCauseOf opening.OtherTemplate text template handles = ¬ HasFirstLine text template × ¬ StartsWith (header_line template) text
+IsCauseOf (opening.OtherTemplate part there here) text template handles = BeginsOtherwise text template
+IsCauseOf opening.NoJournal text template handles = BeginsOtherwise text template
 IsCauseOf (opening.Refused fault) text template handles = IsUnbegun text template
 IsCauseOf (opening.Desk fault) text template handles = (before : List Entry) × (entry : Entry)
     × BeginsWith text template (before ++ entry ∷ []) × StopsAt fault template handles before entry

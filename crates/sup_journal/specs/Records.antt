@@ -4,7 +4,7 @@ use Rattle.std.specs.Io.KnownBytes.{Appends}
 use Rattle.sup_types.specs.declared.template.Template.{Template}
 use Rattle.sup_types.specs.declared.history.Entry.{Entry}
 use Rattle.sup_format.specs.Reading.History.{SpellsAs}
-use Rattle.sup_journal.specs.declared.fault.End.{End}
+use Rattle.sup_desk.specs.declared.journal.JournalFault.{JournalFault}
 use Rattle.sup_journal.specs.Ends.{IsStopped, IsLeft}
 
 -- behind what it held at first the writer took the text of the recorded history; with the bytes that wait, that is the text of
@@ -17,7 +17,7 @@ pub record IsRecorded (held contents : Option (List ℕ)) (waiting : List ℕ) (
 
 -- behind that text the writer took a first part of the lines of the ready entries: all of them where a flush failed, and not all
 -- where a write stopped
-pub record IsCut (held contents : Option (List ℕ)) (ended : Option End) (template : Template) (recorded ready : List Entry) : Type 0 where
+pub record IsCut (held contents : Option (List ℕ)) (ended : Option JournalFault) (template : Template) (recorded ready : List Entry) : Type 0 where
   pub text : List ℕ
   pub part : List ℕ
   pub left : List ℕ
@@ -41,11 +41,11 @@ pub record TookPart (old new : Option (List ℕ)) (bytes : List ℕ) : Type 0 wh
   pub some_left : 0 < length left
 
 -- it took all of them, or a write stopped
-abbrev pub IsSentOrCut : Option (List ℕ) → Option (List ℕ) → List ℕ → Result (Unit {0}) End → Type 0
+abbrev pub IsSentOrCut : Option (List ℕ) → Option (List ℕ) → List ℕ → Result (Unit {0}) JournalFault → Type 0
 IsSentOrCut old new bytes (Ok u) = Appends old new bytes
 IsSentOrCut old new bytes (Err e) = IsStopped e × TookPart old new bytes
 
 -- it took all of them, also where it then failed to flush, or a write stopped
-abbrev pub IsPut : Option (List ℕ) → Option (List ℕ) → List ℕ → Result (Unit {0}) End → Type 0
+abbrev pub IsPut : Option (List ℕ) → Option (List ℕ) → List ℕ → Result (Unit {0}) JournalFault → Type 0
 IsPut old new bytes (Ok u) = Appends old new bytes
 IsPut old new bytes (Err e) = (IsStopped e → TookPart old new bytes) × (¬ IsStopped e → Appends old new bytes)

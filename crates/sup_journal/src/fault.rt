@@ -1,31 +1,97 @@
-//! Why a journal was not begun, and why one ended.
+//! Why a journal was not begun or opened.
 
+ghost use Rattle.std.specs.Prelude.{◌≡◌};
+ghost use Rattle.sup_journal.specs.Faults.{open_fault_number};
+
+use std::io;
 use std::io::ErrorKind;
-use sup_desk::JournalFault;
+use sup_desk::{JournalFault, RecoverFault};
+use sup_format::HistoryFault;
+use sup_types::Text;
 use thiserror::Error;
 
-/// Says why a journal was not begun.
+/// Says why no journal was opened or begun. The whole lines of a file stay as they were;
+/// [`continue_journal`](crate::continue_journal) says what else does.
 #[derive(Clone, Copy, Debug, PartialEq, Eq, Error)]
-pub enum BeginFault {
-    /// There was no memory for the first line, and the writer took nothing.
+pub enum OpenFault {
     #[error("out of memory")]
     OutOfMemory,
-    /// The writer took a part of the first line, or nothing.
-    #[error("the journal's writer refused its first line")]
+    /// Another program has the journal's lock.
+    #[error("another program has the journal")]
+    InUse,
+    /// The file, its lock or its folder was not opened, read or stored.
+    #[error("the journal could not be opened or read: {0}")]
+    File(Cause),
+    /// The file's torn last line was not cut off.
+    #[error("the journal could not be cut: {0}")]
+    Cut(Cause),
+    /// A whole line of the file is wrong.
+    #[error("line {} of the journal's file is wrong", .0.line)]
+    WrongLine(HistoryFault),
+    /// The file's first line is for another template, or of another version: the first of its parts that differs, there and here.
+    #[error("{0} is {1} in the journal, {2} here: use its template, or begin a new history")]
+    OtherTemplate(Text, Text, Text),
+    /// The file's first line is none that a journal has.
+    #[error("the file is no journal")]
+    NoJournal,
+    /// The writer took a part of the first line of a new journal, or nothing.
+    #[error("the journal's writer refused its first line: {0}")]
     Refused(JournalFault),
+    /// The desk could not be made, or an entry could not be entered again.
+    #[error("{0}")]
+    Desk(RecoverFault),
 }
 
-impl BeginFault {
-    ghost use Rattle.std.specs.Prelude.{◌≡◌};
-    ghost use Rattle.sup_journal.specs.Faults.{begin_fault_number};
-
-    /// Returns the number of the fault: 1 or 13, in the order of the variants.
+impl OpenFault {
+    /// Returns the number of the fault: 1, 14 (thrice), that of the line's, 7 (twice), 13, or the desk's, in the variants' order.
     pub fn number(self) -> u8
-        ensures { result ≡ begin_fault_number self }
+        ensures { result ≡ open_fault_number self }
     {
         match self {
-            BeginFault::OutOfMemory => 1,
-            BeginFault::Refused(fault) => fault.number(),
+            OpenFault::OutOfMemory => 1,
+            OpenFault::InUse | OpenFault::File(_) | OpenFault::Cut(_) => 14,
+            OpenFault::WrongLine(fault) => fault.number(),
+            OpenFault::OtherTemplate(..) | OpenFault::NoJournal => 7,
+            OpenFault::Refused(fault) => fault.number(),
+            OpenFault::Desk(fault) => fault.number(),
+        }
+    }
+}
+
+impl From<RecoverFault> for OpenFault {
+    ghost use Rattle.sup_journal.specs.declared.fault.OpenFault.TheVariants as opening;
+
+    ghost from_gives = { λ fault f. f ≡ opening.Desk fault };
+
+    fn from(fault: RecoverFault) -> OpenFault {
+        OpenFault::Desk(fault)
+    }
+}
+
+impl From<io::Error> for OpenFault {
+    fn from(error: io::Error) -> OpenFault {
+        match error.kind() {
+            ErrorKind::OutOfMemory => OpenFault::OutOfMemory,
+            ErrorKind::WouldBlock => OpenFault::InUse,
+            _ => OpenFault::File(Cause::from(error)),
+        }
+    }
+}
+
+/// Says what the system answered: the number of its error, or the kind of one that has none. It shows the system's words.
+#[derive(Clone, Copy, Debug, PartialEq, Eq, Error)]
+pub enum Cause {
+    #[error("{}", io::Error::from_raw_os_error(*.0))]
+    System(i32),
+    #[error("{0}")]
+    Other(ErrorKind),
+}
+
+impl From<io::Error> for Cause {
+    fn from(error: io::Error) -> Cause {
+        match error.raw_os_error() {
+            Some(code) => Cause::System(code),
+            None => Cause::Other(error.kind()),
         }
     }
 }
@@ -34,32 +100,7 @@ impl BeginFault {
 #[derive(Debug, Drop, Error)]
 #[error("{fault}")]
 pub struct NotBegun<W> {
-    pub fault: BeginFault,
+    /// Either `OutOfMemory` or `Refused`.
+    pub fault: OpenFault,
     pub writer: W,
-}
-
-/// Says what ended a journal.
-#[derive(Clone, Copy, Debug, PartialEq, Eq)]
-pub enum End {
-    /// A write answered an error.
-    Error(ErrorKind),
-    TookNothing,
-    /// All was written, and the flush answered an error.
-    NotFlushed(ErrorKind),
-}
-
-impl End {
-    ghost use Rattle.std.specs.Prelude.{◌≡◌};
-    ghost use Rattle.sup_journal.specs.Ends.{fault_of};
-
-    /// Returns the fault that a record answers.
-    pub fn fault(self) -> JournalFault
-        ensures { result ≡ fault_of self }
-    {
-        match self {
-            End::Error(kind) => JournalFault::Failed(kind),
-            End::TookNothing => JournalFault::TookNothing,
-            End::NotFlushed(kind) => JournalFault::NotFlushed(kind),
-        }
-    }
 }

@@ -1,13 +1,8 @@
 //! When a journal flushes its writer.
 
-/// Says after which records a journal flushes its writer. A writer with a buffer may hold back what is not flushed.
-///
-/// What a power cut leaves of the recorded history:
-/// - A file alone: a flush does nothing, and what the operating system had already written to disk is there.
-/// - A `BufWriter` over a file: a flush hands the buffer to the operating system. After a crash of the program alone, what was flushed is
-///   in the file; after a power cut, what the operating system had already written to disk.
-/// - [`Synced`](crate::Synced) over a file: a flush waits until the file's bytes are stored, so what was flushed is there, as far as the
-///   operating system and the disk keep their word.
+/// Says after which records a journal flushes its writer. A flush of a file does nothing; that of a `BufWriter` hands its buffer to
+/// the operating system; that of [`Synced`](crate::Synced) waits until the file's bytes are stored, as far as the operating system and
+/// the disk keep their word. So after a power cut what was flushed to the last is there, and of the others what was stored by then.
 #[derive(Clone, Copy, Debug, Default, PartialEq, Eq)]
 pub enum Flush {
     /// The journal never flushes.

@@ -10,7 +10,7 @@ ghost use Rattle.sup_format.specs.Reading.History.{Spells, SpellsAs, template_pa
 ghost use Rattle.sup_format.specs.Reading.HistoryReading.{HistoryStops};
 ghost use Rattle.sup_format.specs.Reading.Texts.{IsEndedPart};
 ghost use Rattle.sup_format.specs.Writing.HistoryTexts.{SpellsFirstsOf};
-ghost use Rattle.sup_journal.specs.declared.fault.End.{End};
+ghost use Rattle.sup_desk.specs.declared.journal.JournalFault.{JournalFault};
 ghost use Rattle.sup_journal.specs.Ends.{IsStopped};
 ghost use Rattle.sup_journal.specs.Records.{IsRecorded, IsCut};
 
@@ -36,10 +36,10 @@ pub fn recorded_is_read()
 /// Shows that if a record broke off, the whole lines of what the journal wrote are the text of the recorded entries and of the
 /// first of the others: but not of all of them, unless all was written and a flush failed.
 pub fn whole_lines()
-    ensures firsts { (held contents : Option (List ℕ)) (ended : Option End) (template : Template) (recorded ready : List Entry) (lines : List ℕ)
+    ensures firsts { (held contents : Option (List ℕ)) (ended : Option JournalFault) (template : Template) (recorded ready : List Entry) (lines : List ℕ)
         → (it : IsCut held contents ended template recorded ready) → IsEndedPart (it.text ++ it.part) lines
         → SpellsFirstsOf lines it.left template recorded ready }
-    ensures not_all { (held contents : Option (List ℕ)) (ended : End) (template : Template) (recorded ready : List Entry)
+    ensures not_all { (held contents : Option (List ℕ)) (ended : JournalFault) (template : Template) (recorded ready : List Entry)
         → (it : IsCut held contents (Some ended) template recorded ready) → IsStopped ended → 0 < length it.left }
 {
     sup_format::laws::whole_lines();
@@ -47,7 +47,7 @@ pub fn whole_lines()
 
 /// Shows that if a record broke off by a flush, what the journal wrote is the text of the recorded entries and of all the others.
 pub fn flush_failed()
-    ensures { (held contents : Option (List ℕ)) (ended : End) (template : Template) (recorded ready : List Entry)
+    ensures { (held contents : Option (List ℕ)) (ended : JournalFault) (template : Template) (recorded ready : List Entry)
         → (it : IsCut held contents (Some ended) template recorded ready) → ¬ IsStopped ended
         → SpellsAs (it.text ++ it.part) template (recorded ++ ready) }
 {}

@@ -2,60 +2,83 @@
 ghost use Rattle.std.specs.Prelude.{◌≡◌, IfOk};
 ghost use Rattle.sup_desk.specs.Journals.{HasJust};
 
+use crate::fault::OpenFault;
+use crate::file::{LockFile, open_file};
 use crate::flushing::Flush;
-use crate::opening::{FileJournal, OpenFault, continue_journal, open_file};
+use crate::opening::{FileJournal, continue_journal};
 use crate::origin::Unknown;
 use crate::synced::Synced;
 use crate::text_journal::TextJournal;
 use std::alloc::Global;
-use std::fs::{Files, OpenFile};
+use std::fs::{Files, OpenFile, OpenOptions};
 use std::io::{Read, Write};
 use std::marker::Brand;
 use std::sync::Wait;
 use sup_desk::{Closed, Ground, Journal, JournaledProgram, Name, Recovered, Recovery};
 use sup_types::{Starter, Template};
+use thiserror::Error;
+
+/// Says why the journal in a file was not opened, and names the file. As an error it shows both.
+#[derive(Clone, Copy, Debug, PartialEq, Eq, Error)]
+#[error("{fault}: {path}")]
+pub struct NotOpened<'p> {
+    pub fault: OpenFault,
+    pub path: &'p str,
+}
 
 /// Makes a desk whose journal is the file at this path, runs the program on it and closes it. Returns the program's outcome, and
 /// the journal with a ticket for all of the history. The desk continues the history that the file has, and the file is made if
-/// there is none ([`open_journal`](crate::open_journal)). From then on each update is in the file before anyone sees it, flushed as
-/// `flush` says. The desk has 1 to 1,024 handles, including those of the history. Its caller writes no proof.
+/// there is none ([`open_journal`](crate::open_journal)). From then on each update is in the file before anyone sees it, flushed as `flush` says. The desk
+/// has 1 to 1,024 handles, including those of the history. Its caller writes no proof.
 ///
 /// # Errors
 /// Those of [`open_journal`](crate::open_journal), and `Desk` if no desk is made: then no file is. The program is not run then.
-pub fn on_desk_in_file<S, R, P>(
+pub fn on_desk_in_file<'p, S, R, P>(
     rt: &R,
     alloc: Global,
-    path: &str,
+    path: &'p str,
     flush: Flush,
     template: Template,
     handles: u64,
     starter: S,
     program: P,
-) -> Result<(P::Outcome, Closed<FileJournal<R::File>>), OpenFault>
+) -> Result<(P::Outcome, Closed<FileJournal<R::File>>), NotOpened<'p>>
 where
     S: Starter + Drop,
     R: Wait + Files,
+    R::File: LockFile,
     P: JournaledProgram<S, R, FileJournal<R::File>> + Drop,
     ensures { IfOk result (λ p. HasJust (⟦<TextJournal<Unknown, Synced<R::File>, Global> as Journal>⟧.has p.1.journal template)
         (⟦<TextJournal<Unknown, Synced<R::File>, Global> as Journal>⟧.is_torn p.1.journal template)
         ⟦<TextJournal<Unknown, Synced<R::File>, Global> as Journal>⟧.may_fail p.1.fault p.1.ticket.front) }
 {
-    let ground = Ground::new(alloc, rt, template, handles)?;
-    let file = match open_file(rt, path) {
+    let ground = match Ground::new(alloc, rt, template, handles) {
+        Ok(ground) => ground,
+        Err(fault) => {
+            let fault = OpenFault::Desk(fault.into());
+            return Err(NotOpened { fault, path });
+        }
+    };
+    let file = match open_file(rt, alloc, path, OpenOptions::new().create(true)) {
         Ok(file) => file,
         Err(fault) => {
             ground.close(rt);
-            return Err(fault);
+            return Err(NotOpened { fault, path });
         }
     };
-    run_named::<Brand, S, R, R::File, P>(rt, alloc, file, flush, template, ground, starter, program)
+    match run_named::<Brand, S, R, R::File, P>(
+        rt, alloc, file, flush, template, ground, starter, program,
+    ) {
+        Ok(ran) => Ok(ran),
+        Err(fault) => Err(NotOpened { fault, path }),
+    }
 }
 
 /// Runs the program on a desk of this ground, which N names, and whose journal is this file.
 fn run_named<N, S, R, F, P>(
     rt: &R,
     alloc: Global,
-    file: F,
+    file: Synced<F>,
     flush: Flush,
     template: Template,
     ground: Ground,

@@ -2,15 +2,15 @@
 
 use std::fs::OpenFile;
 use std::io;
-use std::io::Write;
+use std::io::{Read, Write};
 
 /// Writes to a file, and waits at a flush until the bytes of the file are stored (`sync_data`). A journal with `Flush::EachUpdate`
-/// in it has each update stored before anyone sees it.
-///
-/// The name of a new file is in its folder, which no flush stores: whoever makes the file does that.
+/// in it has each update stored before anyone sees it. No flush stores the file's name: [`open_file`](crate::open_file) does.
 #[derive(Debug, Drop)]
 pub struct Synced<F> {
     pub file: F,
+    /// Keeps other programs from the file (see `open_file`).
+    pub(crate) lock: Option<F>,
 }
 
 impl<F> Synced<F> {
@@ -20,7 +20,15 @@ impl<F> Synced<F> {
     pub fn new(file: F) -> Synced<F>
         ensures { result.file ≡ file }
     {
-        Synced { file }
+        Synced { file, lock: None }
+    }
+}
+
+impl<F: Read> Read for Synced<F> {
+    ghost remaining = { λ synced. F.Read.remaining synced.file };
+
+    fn read(&mut self, buffer: &mut [u8]) -> io::Result<usize> {
+        self.file.read(buffer)
     }
 }
 

@@ -3,33 +3,30 @@
 ghost use Rattle.std.specs.Prelude.{◌≡◌, List, [], None, IfOk, IfErr};
 ghost use Rattle.std.specs.Io.KnownBytes.{Keeps};
 ghost use Rattle.sup_journal.specs.Begun.{Leaves, LeavesText};
-ghost use Rattle.sup_journal.specs.Ends.{error_of};
 ghost use Rattle.sup_journal.specs.Records.{HasText};
 ghost use Rattle.sup_types.specs.declared.template.Template.{Template};
 ghost use Rattle.sup_types.specs.declared.history.Entry.{Entry};
 
-use crate::fault::{BeginFault, End, NotBegun};
+use crate::fault::{NotBegun, OpenFault};
 use crate::flushing::Flush;
 use crate::origin::Origin;
 use crate::send::{put, send};
 use std::alloc::Allocator;
-use std::io::{ErrorKind, Write};
+use std::io::Write;
 use std::marker::PhantomData;
 use sup_desk::{Journal, JournalFault};
 use sup_format::{append_entry, append_header, write_history};
 use sup_types::{Entry, OutOfMemory, Template};
 
-/// Writes the text of a history, in version 2, to its writer: after what that held, which the origin says.
-///
-/// It writes each batch as it is recorded. It never flushes its writer unless [`TextJournal::with_flush`] says when. The first
-/// error ends it.
+/// Writes the text of a history, in version 2, to its writer: after what that held, which the origin says. It writes each batch as it
+/// is recorded. It never flushes its writer unless [`TextJournal::with_flush`] says when. The first error ends it.
 #[derive(Drop)]
 pub struct TextJournal<O, W, A: Allocator> {
     writer: W,
     text: Vec<u8, A>,
     ready: usize,
     flush: Flush,
-    end: Option<End>,
+    end: Option<JournalFault>,
     origin: PhantomData<O>,
 }
 
@@ -47,15 +44,22 @@ impl<O: Origin, W: Write, A: Allocator> TextJournal<O, W, A> {
     {
         let mut text = Vec::new(alloc);
         if append_header(template, &mut text).is_err() {
-            let fault = BeginFault::OutOfMemory;
+            let fault = OpenFault::OutOfMemory;
             return Err(NotBegun { fault, writer });
         }
         if let Err(end) = send(&mut writer, text.as_slice()) {
-            let fault = BeginFault::Refused(end.fault());
+            let fault = OpenFault::Refused(end);
             return Err(NotBegun { fault, writer });
         }
         text.clear();
-        Ok(TextJournal::with_room(writer, text))
+        Ok(TextJournal {
+            writer,
+            text,
+            ready: 0,
+            flush: Flush::Never,
+            end: None,
+            origin: PhantomData,
+        })
     }
 
     /// Makes a journal that continues a recorded history: the writer takes the text of that history. After a refusal the writer
@@ -73,11 +77,11 @@ impl<O: Origin, W: Write, A: Allocator> TextJournal<O, W, A> {
         ensures err { IfErr result (λ e. LeavesText e.fault (W.contents writer) (W.contents e.writer) template.now entries.now) }
     {
         let Ok(before) = write_history(alloc, template, entries) else {
-            let fault = BeginFault::OutOfMemory;
+            let fault = OpenFault::OutOfMemory;
             return Err(NotBegun { fault, writer });
         };
         if let Err(end) = send(&mut writer, before.as_slice()) {
-            let fault = BeginFault::Refused(end.fault());
+            let fault = OpenFault::Refused(end);
             return Err(NotBegun { fault, writer });
         }
         Ok(TextJournal::reopen(alloc, writer))
@@ -90,18 +94,9 @@ impl<O: Origin, W: Write, A: Allocator> TextJournal<O, W, A> {
             → ⟦<TextJournal<O, W, A> as Journal>⟧.has result template entries [] }
         ensures writer { result.writer ≡ writer }
     {
-        TextJournal::with_room(writer, Vec::new(alloc))
-    }
-
-    /// Makes a journal that continues in this writer, with this list as room for the text of its records.
-    fn with_room(writer: W, text: Vec<u8, A>) -> TextJournal<O, W, A>
-        requires { text.items ≡ [] }
-        ensures has { (template : Template) (entries : List Entry) → HasText O.held (W.contents writer) template entries → ⟦<TextJournal<O, W, A> as Journal>⟧.has result template entries [] }
-        ensures writer { result.writer ≡ writer }
-    {
         TextJournal {
             writer,
-            text,
+            text: Vec::new(alloc),
             ready: 0,
             flush: Flush::Never,
             end: None,
@@ -119,16 +114,6 @@ impl<O: Origin, W: Write, A: Allocator> TextJournal<O, W, A> {
     {
         self.flush = flush;
         self
-    }
-
-    /// Returns the kind of the error that ended it, if an error did.
-    pub fn error(&self) -> Option<ErrorKind>
-        ensures { result ≡ error_of self.now.end }
-    {
-        match self.end {
-            Some(End::Error(kind) | End::NotFlushed(kind)) => Some(kind),
-            Some(End::TookNothing) | None => None,
-        }
     }
 
     /// Returns the writer. What is ready and not recorded is dropped.
@@ -166,7 +151,7 @@ impl<O: Origin, W: Write, A: Allocator> Journal for TextJournal<O, W, A> {
 
     fn record(&mut self) -> Result<(), JournalFault> {
         if let Some(end) = self.end {
-            return Err(end.fault());
+            return Err(end);
         }
         let flushes = self.flush.is_due(self.ready);
         match put(&mut self.writer, self.text.as_slice(), flushes) {
@@ -177,7 +162,7 @@ impl<O: Origin, W: Write, A: Allocator> Journal for TextJournal<O, W, A> {
             }
             Err(end) => {
                 self.end = Some(end);
-                Err(end.fault())
+                Err(end)
             }
         }
     }

@@ -6,10 +6,9 @@ ghost use Rattle.sup_load.specs.declared.fault.LoadFault.TheVariants.{Stopped};
 ghost use Rattle.sup_load.specs.declared.fault.StopFault.TheVariants as stop;
 
 use std::alloc::AllocError;
-use std::io::ErrorKind;
 use sup_crew::CrewFault;
 use sup_desk::{DeskFault, HandleFault, JournalFault, UpdateFault};
-use sup_journal::BeginFault;
+use sup_journal::OpenFault;
 use sup_types::BadTemplate;
 use thiserror::Error;
 
@@ -38,22 +37,8 @@ pub enum StopFault {
     #[error("the journal broke off: {0}")]
     Journal(JournalFault),
     /// The journal's file was there already, or could not be made.
-    #[error("{}", why_no_journal(*.0))]
-    NoJournal(ErrorKind),
-}
-
-/// Says why the file of a journal could not be made.
-fn why_no_journal(kind: ErrorKind) -> &'static str {
-    match kind {
-        ErrorKind::AlreadyExists => "the journal is there already",
-        ErrorKind::NotFound => "there is no such folder for the journal",
-        ErrorKind::NotADirectory => "the journal's folder is no folder",
-        ErrorKind::IsADirectory => "the journal is a folder",
-        ErrorKind::PermissionDenied => "there is no permission to make the journal",
-        ErrorKind::ReadOnlyFilesystem => "the journal's disk can't be written",
-        ErrorKind::StorageFull => "there is no space for the journal",
-        _ => "the journal could not be made",
-    }
+    #[error("{0}")]
+    NoJournal(OpenFault),
 }
 
 impl StopFault {
@@ -150,15 +135,12 @@ impl From<DeskFault> for StopFault {
     }
 }
 
-impl From<BeginFault> for StopFault {
-    ghost use Rattle.sup_journal.specs.Faults.{begin_fault_number};
-
-    ghost from_gives = { λ e f. stop_fault_number f ≡ begin_fault_number e };
-
-    fn from(fault: BeginFault) -> StopFault {
+impl From<OpenFault> for StopFault {
+    fn from(fault: OpenFault) -> StopFault {
         match fault {
-            BeginFault::OutOfMemory => StopFault::OutOfMemory,
-            BeginFault::Refused(fault) => StopFault::Journal(fault),
+            OpenFault::OutOfMemory => StopFault::OutOfMemory,
+            OpenFault::Refused(fault) => StopFault::Journal(fault),
+            fault => StopFault::NoJournal(fault),
         }
     }
 }

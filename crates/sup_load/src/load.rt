@@ -15,7 +15,7 @@ use crate::fault::{LoadFault, StopFault};
 use crate::progress::Progress;
 use itoa::Buffer;
 use std::alloc::{AllocError, Global};
-use std::fs::{File, Files};
+use std::fs::{Files, OpenOptions};
 use std::io::Write;
 use std::marker::Brand;
 use std::sync::Wait;
@@ -23,7 +23,7 @@ use std::thread;
 use std::thread::{JoinHandle, Threads};
 use sup_crew::{Body, Job, Plan, Reads, Report, read_turns, run_crew};
 use sup_desk::{Asker, Desk, Ground, Handle, Journal, Name, NoJournal};
-use sup_journal::{TextJournal, Unknown};
+use sup_journal::{LockFile, Synced, TextJournal, Unknown, open_file};
 use sup_log::Gone;
 use sup_script::{ScriptStarter, WatchedWriter};
 use sup_types::{Kind, Reason, Restart, Starter, Template, Text};
@@ -166,18 +166,15 @@ pub fn measure<R>(
 ) -> Result<Sums, StopFault>
 where
     R: Threads + Wait + Files + Eprint + Sync,
-    R::File: Send,
+    R::File: Send + LockFile,
     ensures { IfOk result (λ s. (template : ATemplate) × AreCounts template s) }
 {
     let template = template_of(&load)?;
     let Some(path) = journal else {
         return measure_with(rt, alloc, load, template, NoJournal, is_person);
     };
-    let file = match File::create_new(rt, path) {
-        Ok(file) => file,
-        Err(error) => return Err(StopFault::NoJournal(error.kind())),
-    };
-    match TextJournal::<Unknown, R::File, Global>::new(alloc, file, &template) {
+    let file = open_file(rt, alloc, path, OpenOptions::new().create_new(true))?;
+    match TextJournal::<Unknown, Synced<R::File>, Global>::new(alloc, file, &template) {
         Ok(journal) => measure_with(rt, alloc, load, template, journal, is_person),
         Err(not_begun) => Err(StopFault::from(not_begun.fault)),
     }

@@ -20,6 +20,7 @@ use std::random::RandomSource;
 use std::sync::Wait;
 use std::thread::Threads;
 use std::time::Clock;
+use sup_journal::LockFile;
 use sup_script::{Detail, Status, WatchedReader, WatchedWriter, answer_input};
 use sup_serve::{ServeFault, serve};
 use sup_words::{Load, Notices, Order, read_words, show};
@@ -65,7 +66,7 @@ pub fn run_words<T, S, R, W, E>(
 ) -> u8
 where
     T: Threads + Wait + Clock + RandomSource + AllocGlobal + Files + Eprint + Sync,
-    T::File: Send,
+    T::File: Send + LockFile,
     S: AsStr,
     R: Read,
     W: Write,
@@ -110,7 +111,7 @@ fn answer_words<T, S, R, W, E>(
 ) -> Status
 where
     T: Threads + Wait + Clock + RandomSource + AllocGlobal + Files + Eprint + Sync,
-    T::File: Send,
+    T::File: Send + LockFile,
     S: AsStr,
     R: Read,
     W: Write,
@@ -164,7 +165,7 @@ fn answer_load<T, W: Write, E: Write>(
 ) -> Status
 where
     T: Threads + Wait + Files + Eprint + Sync,
-    T::File: Send,
+    T::File: Send + LockFile,
     ensures loaded { IsLoadAnswered (W.contents out.old.writer) (W.contents out.new.writer) out.new.has_refused result }
     ensures cause { result ≡ Failed → out.new.has_refused ≡ true }
 {
@@ -195,7 +196,7 @@ fn answer_serve<T, R, W, E>(
 ) -> Status
 where
     T: Threads + Wait + Clock + RandomSource + AllocGlobal + Files + Sync,
-    T::File: Send,
+    T::File: Send + LockFile,
     R: Read,
     W: Write,
     E: Write,

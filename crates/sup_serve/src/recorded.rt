@@ -12,15 +12,15 @@ use std::sync::Wait;
 use std::thread::Threads;
 use std::time::Clock;
 use sup_desk::{Desk, Ground, Journal, Name, Recovered, Recovery};
-use sup_journal::{Flush, OpenFault, continue_journal};
+use sup_journal::{Flush, LockFile, Synced, continue_journal, open_file};
 use sup_live::{CrewReport, Moments, Nobody, Plan, Program, run_over};
 use sup_types::{AlwaysRunning, Seen, Template};
 
 /// How many handles the desk has: as many as there may be, since each server takes two more in the history.
 const HANDLES: u64 = 1024;
 
-/// Runs a server over a desk whose history is in the file at this path. Each update is on the disk before it is answered. Returns
-/// what the crew did, and how many sessions are left in the history.
+/// Runs a server over a desk whose history is in the file at this path, which no other server has. Each update is on the disk before it
+/// is answered. Returns what the crew did, and how many sessions are left in the history.
 pub fn serve_recorded<T, R>(
     rt: &R,
     path: &str,
@@ -32,25 +32,19 @@ pub fn serve_recorded<T, R>(
 where
     T: Program<Sessions> + Drop,
     R: Threads + Wait + Clock + RandomSource + AllocGlobal + Files + Sync,
-    R::File: Send,
+    R::File: Send + LockFile,
     requires { (1 ≤ plan.workers) × (plan.workers ≤ 64) }
 {
     let Ok(ground) = Ground::new(rt.alloc(), rt, template, HANDLES) else {
         return Err(ServeFault::OutOfMemory);
     };
-    // In append mode each write goes to the end, wherever the reading stopped.
-    let opened = OpenOptions::new()
-        .read(true)
-        .append(true)
-        .create(true)
-        .open(rt, path);
-    match opened {
+    match open_file(rt, rt.alloc(), path, OpenOptions::new().create(true)) {
         Ok(file) => serve_named::<Brand, T, R, R::File>(
             rt, file, ground, template, plan, sessions, server,
         ),
-        Err(error) => {
+        Err(fault) => {
             ground.close(rt);
-            Err(ServeFault::NoJournal(OpenFault::File(error.kind())))
+            Err(ServeFault::NoJournal(fault))
         }
     }
 }
@@ -58,7 +52,7 @@ where
 /// Runs the server over a desk of this ground, which `N` names, whose history is in this file.
 fn serve_named<N, T, R, F>(
     rt: &R,
-    file: F,
+    file: Synced<F>,
     ground: Ground,
     template: Template,
     plan: Plan,

@@ -15,6 +15,7 @@ use std::random::RandomSource;
 use std::sync::Wait;
 use std::thread::Threads;
 use std::time::Clock;
+use sup_journal::LockFile;
 use sup_live::{Plan, on_crew};
 use sup_script::{WatchedReader, WatchedWriter};
 use sup_types::{Kind, Restart, Template};
@@ -42,7 +43,7 @@ pub fn serve<R, I, W>(
 ) -> Result<(), ServeFault>
 where
     R: Threads + Wait + Clock + RandomSource + AllocGlobal + Files + Sync,
-    R::File: Send,
+    R::File: Send + LockFile,
     I: Read,
     W: Write,
     ensures ok { OnOk result (input.new.has_failed ≡ false) }
@@ -107,7 +108,7 @@ fn serve_lines<R, I, W>(
 ) -> Result<Account, ServeFault>
 where
     R: Threads + Wait + Clock + RandomSource + AllocGlobal + Files + Sync,
-    R::File: Send,
+    R::File: Send + LockFile,
     I: Read,
     W: Write,
 {

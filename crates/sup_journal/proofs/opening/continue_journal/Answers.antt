@@ -22,19 +22,19 @@ go_on-requires-clause-next g c = c.find_line.ensures.line ∙ ap (λ (s : Stream
 
 pub returns-in-Ok-true-clause-has : goal.returns-in-Ok-true-clause-has
 returns-in-Ok-true-clause-has g c =
-    let initial = g.F.Read.remaining c.args.file in
+    let initial = g.F.Read.remaining c.args.file.file in
     let fresh : IsUnread initial c.new-lines.result = rw (c.new-lines.ensures, c.new.ensures.reader) (unread_new initial c.new.result.has_failed) in
     c.go_on.ensures.has initial (c.find_line.ensures.unread initial fresh)
 
 pub returns-in-Ok-true-clause-entries : goal.returns-in-Ok-true-clause-entries
 returns-in-Ok-true-clause-entries g c =
-    let initial = g.F.Read.remaining c.args.file in
+    let initial = g.F.Read.remaining c.args.file.file in
     let fresh : IsUnread initial c.new-lines.result = rw (c.new-lines.ensures, c.new.ensures.reader) (unread_new initial c.new.result.has_failed) in
     c.go_on.ensures.entries initial (c.find_line.ensures.unread initial fresh)
 
 pub returns-in-Ok-false-clause-entries : goal.returns-in-Ok-false-clause-entries
 returns-in-Ok-false-clause-entries g c =
-    let initial = g.F.Read.remaining c.args.file in
+    let initial = g.F.Read.remaining c.args.file.file in
     let fresh : IsUnread initial c.new-lines.result = rw (c.new-lines.ensures, c.new.ensures.reader) (unread_new initial c.new.result.has_failed) in
     let found = rw c.in-Ok-false.field-0-test at c.in-Ok-false.ensures.found in
     subst (λ (h : List Entry). IsContinued initial c.args.template.now c.args.recovery.now.handles h c.begin.result) (sym c.requires.fresh)
@@ -42,11 +42,11 @@ returns-in-Ok-false-clause-entries g c =
 
 -- nothing was read
 pub returns-then-is_err-clause-entries : goal.returns-then-is_err-clause-entries
-returns-then-is_err-clause-entries g c = let initial = g.F.Read.remaining c.args.file in ([], initial, Consumes-nil initial, tt)
+returns-then-is_err-clause-entries g c = let initial = g.F.Read.remaining c.args.file.file in ([], initial, Consumes-nil initial, tt)
 
 pub returns-clause-entries : goal.returns-clause-entries
 returns-clause-entries g c =
-    let initial = g.F.Read.remaining c.args.file in
+    let initial = g.F.Read.remaining c.args.file.file in
     let fresh : IsUnread initial c.new-lines.result = rw (c.new-lines.ensures, c.new.ensures.reader) (unread_new initial c.new.result.has_failed) in
     let u = c.find_line.ensures.unread initial fresh in
     (u.given, c.find_line.new.self.left, u.took, c.fault_of.ensures u.given c.args.template.now c.args.recovery.now.handles (inr c.in-Err.ensures.found.1))

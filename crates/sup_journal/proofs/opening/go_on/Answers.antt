@@ -13,6 +13,11 @@ returns-then-not-starts_with-clause-entries g c = λ initial u.
     let lacks = begins_otherwise c.ready.result.now c.args.first.now c.starts_with.result c.starts_with.ensures.value c.if-not-starts_with.true in
     (u.given, c.args.lines.left, u.took, other_ready initial c.args.lines c.args.template.now u c.requires.spelled c.requires.ready (rw (c.ready.ensures, c.requires.first) at lacks))
 
+pub returns-in_default-clause-entries : goal.returns-in_default-clause-entries
+returns-in_default-clause-entries g c = λ initial u.
+    let lacks = begins_otherwise c.ready.result.now c.args.first.now c.starts_with.result c.starts_with.ensures.value c.if-not-starts_with.true in
+    (u.given, c.args.lines.left, u.took, other_ready initial c.args.lines c.args.template.now u c.requires.spelled c.requires.ready (rw (c.ready.ensures, c.requires.first) at lacks))
+
 pub returns-after-torn-gt0-clause-has : goal.returns-after-torn-gt0-clause-has
 returns-after-torn-gt0-clause-has g c = λ initial u.
     let header = header_line c.args.template.now in

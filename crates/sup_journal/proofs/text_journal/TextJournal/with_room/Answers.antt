@@ -1,6 +1,0 @@
-use Rattle.std.proofs.Common.{refl}
-use Rattle.sup_journal.proofs.Recording.{reopened}
-use Rattle.sup_journal.proofs.text_journal.TextJournal.with_room.Goals as goal
-
-pub returns-clause-has : goal.returns-clause-has
-returns-clause-has g c = λ template entries holds. (refl, rw c.requires (reopened _ _ _ _ holds))
