@@ -10,8 +10,7 @@ use sup_format::HistoryFault;
 use sup_types::Text;
 use thiserror::Error;
 
-/// Says why no journal was opened or begun. The whole lines of a file stay as they were;
-/// [`continue_journal`](crate::continue_journal) says what else does.
+/// Says why no journal was opened or begun. The whole lines of a file stay as they were.
 #[derive(Clone, Copy, Debug, PartialEq, Eq, Error)]
 pub enum OpenFault {
     #[error("out of memory")]
@@ -96,11 +95,10 @@ impl From<io::Error> for Cause {
     }
 }
 
-/// Says why a journal was not begun, and gives its writer back. As an error it shows its fault.
+/// Says why a journal was not begun (`OutOfMemory` or `Refused`), and gives its writer back. As an error it shows its fault.
 #[derive(Debug, Drop, Error)]
 #[error("{fault}")]
 pub struct NotBegun<W> {
-    /// Either `OutOfMemory` or `Refused`.
     pub fault: OpenFault,
     pub writer: W,
 }

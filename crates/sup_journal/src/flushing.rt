@@ -1,8 +1,7 @@
 //! When a journal flushes its writer.
 
-/// Says after which records a journal flushes its writer. A flush of a file does nothing; that of a `BufWriter` hands its buffer to
-/// the operating system; that of [`Synced`](crate::Synced) waits until the file's bytes are stored, as far as the operating system and
-/// the disk keep their word. So after a power cut what was flushed to the last is there, and of the others what was stored by then.
+/// Says after which records a journal flushes its writer. A flush of a file does nothing, that of a `BufWriter` hands its buffer to the
+/// operating system, and that of [`Synced`](crate::Synced) waits until the file's bytes are stored.
 #[derive(Clone, Copy, Debug, Default, PartialEq, Eq)]
 pub enum Flush {
     /// The journal never flushes.

@@ -18,31 +18,39 @@ use sup_desk::{Closed, Ground, Journal, JournaledProgram, Name, Recovered, Recov
 use sup_types::{Starter, Template};
 use thiserror::Error;
 
-/// Says why the journal in a file was not opened, and names the file. As an error it shows both.
-#[derive(Clone, Copy, Debug, PartialEq, Eq, Error)]
+/// Says why the journal in a file was not opened, and names the file, if there was memory for that. As an error it shows both.
+#[derive(Debug, Drop, PartialEq, Eq, Error)]
 #[error("{fault}: {path}")]
-pub struct NotOpened<'p> {
+pub struct NotOpened {
     pub fault: OpenFault,
-    pub path: &'p str,
+    pub path: String,
+}
+
+impl NotOpened {
+    /// Returns this fault of the journal at this path.
+    pub fn at(alloc: Global, path: &str, fault: OpenFault) -> NotOpened {
+        let path = String::from_str(alloc, path).unwrap_or(String::new(alloc));
+        NotOpened { fault, path }
+    }
 }
 
 /// Makes a desk whose journal is the file at this path, runs the program on it and closes it. Returns the program's outcome, and
 /// the journal with a ticket for all of the history. The desk continues the history that the file has, and the file is made if
-/// there is none ([`open_journal`](crate::open_journal)). From then on each update is in the file before anyone sees it, flushed as `flush` says. The desk
+/// there is none (`open_journal`). From then on each update is in the file before anyone sees it, flushed as `flush` says. The desk
 /// has 1 to 1,024 handles, including those of the history. Its caller writes no proof.
 ///
 /// # Errors
-/// Those of [`open_journal`](crate::open_journal), and `Desk` if no desk is made: then no file is. The program is not run then.
-pub fn on_desk_in_file<'p, S, R, P>(
+/// Those of `open_journal`, and `Desk` if no desk is made: then no file is. The program is not run then.
+pub fn on_desk_in_file<S, R, P>(
     rt: &R,
     alloc: Global,
-    path: &'p str,
+    path: &str,
     flush: Flush,
     template: Template,
     handles: u64,
     starter: S,
     program: P,
-) -> Result<(P::Outcome, Closed<FileJournal<R::File>>), NotOpened<'p>>
+) -> Result<(P::Outcome, Closed<FileJournal<R::File>>), NotOpened>
 where
     S: Starter + Drop,
     R: Wait + Files,
@@ -54,23 +62,20 @@ where
 {
     let ground = match Ground::new(alloc, rt, template, handles) {
         Ok(ground) => ground,
-        Err(fault) => {
-            let fault = OpenFault::Desk(fault.into());
-            return Err(NotOpened { fault, path });
-        }
+        Err(fault) => return Err(NotOpened::at(alloc, path, OpenFault::Desk(fault.into()))),
     };
     let file = match open_file(rt, alloc, path, OpenOptions::new().create(true)) {
         Ok(file) => file,
         Err(fault) => {
             ground.close(rt);
-            return Err(NotOpened { fault, path });
+            return Err(NotOpened::at(alloc, path, fault));
         }
     };
     match run_named::<Brand, S, R, R::File, P>(
         rt, alloc, file, flush, template, ground, starter, program,
     ) {
         Ok(ran) => Ok(ran),
-        Err(fault) => Err(NotOpened { fault, path }),
+        Err(fault) => Err(NotOpened::at(alloc, path, fault)),
     }
 }
 

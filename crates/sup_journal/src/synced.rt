@@ -9,7 +9,6 @@ use std::io::{Read, Write};
 #[derive(Debug, Drop)]
 pub struct Synced<F> {
     pub file: F,
-    /// Keeps other programs from the file (see `open_file`).
     pub(crate) lock: Option<F>,
 }
 
