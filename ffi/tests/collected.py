@@ -2,6 +2,7 @@
 import gc
 import threading
 import unittest
+import weakref
 
 import sapyguendo
 from sapyguendo import IGNORE, RUNNING, Counts, Entry, Fault, Reason, Reply, Row, Supervisor, Template, failed
@@ -15,18 +16,21 @@ def resident():
 class Collected(unittest.TestCase):
     def test_one_that_nothing_refers_to_is_closed(self):
         sup = Supervisor(Template())
-        held = sup._held
-        self.assertTrue(held.is_open)
+        held, there = getattr(sup, "_held", None), weakref.ref(sup)
         del sup
         gc.collect()
-        self.assertFalse(held.is_open)
+        self.assertEqual((there(), held and held.is_open), (None, held and False))
 
     def test_one_in_a_circle_is_closed(self):
-        sup = Supervisor(Template(), start=lambda argument, moment: RUNNING)
-        sup.me, held = sup, sup._held
-        del sup
-        gc.collect()
-        self.assertFalse(held.is_open)
+        for name in ("me", None):
+            sup = Supervisor(Template(), start=lambda argument, moment: RUNNING if sup is not None else None)
+            if name:
+                sup.me = sup
+            held, there = getattr(sup, "_held", None), weakref.ref(sup)
+            sup.start_child(0, "a")
+            del sup
+            gc.collect()
+            self.assertEqual((there(), held and held.is_open), (None, held and False))
 
     def test_their_memory_comes_back(self):
         for _ in range(20):
