@@ -8,19 +8,12 @@
     Reply(kind='restarted', number=1, next=2, code=0)
 
 `Supervisor` decides, and its caller begins and ends the children. `TaskSupervisor` does all of it with asyncio's tasks, and
-`ThreadSupervisor` with threads. docs/PYTHON.md has more examples.
-
-Threads may share a supervisor: each call of the library is made with the interpreter's lock held. An interpreter without that lock
-can't import this module. If SAPYGUENDO_LIB is set, ctypes looks for the library in that folder. SAPYGUENDO_CTYPES=1 has ctypes call
-it even if the extension module is there.
+`ThreadSupervisor` with threads. Threads may share each, if the interpreter has its lock. docs/PYTHON.md has more examples.
 """
-from .path import version
-from .ready import Child, GaveUp, NotStarted
-from .rules import Supervisor
-from .tasks import TaskSupervisor
-from .threads import ThreadSupervisor
 from .words import AUTOS, FAULTS, IGNORE, KINDS, MOST_ENTRIES, MOST_LINE, OPERATIONS, REASONS, REPLIES, RESTARTS, RUNNING, STATUSES
-from .words import Answer, Counts, Entry, Fault, Reason, Reply, Row, Template, failed
+from .words import Answer, Counts, Entry, Fault, Reason, Reply, Row, Template, failed, version
+from .ready import Child, GaveUp, NotStarted, TaskSupervisor, ThreadSupervisor
+from .rules import Supervisor
 
 __all__ = ["Answer", "Child", "Counts", "Entry", "Fault", "GaveUp", "NotStarted", "Reason", "Reply", "Row", "Supervisor"]
 __all__ += ["TaskSupervisor", "Template", "ThreadSupervisor", "failed", "version"]

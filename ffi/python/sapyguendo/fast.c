@@ -101,7 +101,7 @@ static bool is_entry(PyObject *value, struct sup_entry *e) {
     PyObject *part[8];
     for (int i = 0; i < 8; i++) part[i] = PyTuple_GetItem(value, i);
     return is_word(part[0], operations, "operation", &e->operation) && is_number(part[1], "moment", &e->moment)
-        && is_number(part[2], "number", &e->number) && (part[3] == Py_None ? is_text(part[4], "text", &e->text) : is_reason(part[3], e))
+        && is_number(part[2], "number", &e->number) && (e->operation == SUP_EXIT ? is_reason(part[3], e) : is_text(part[4], "text", &e->text))
         && is_answer(part[5], e) && is_number(part[6], "handle", &e->handle) && is_number(part[7], "serial", &e->serial);
 }
 

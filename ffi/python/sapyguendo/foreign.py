@@ -10,11 +10,54 @@ from ctypes import POINTER, byref, c_bool, c_char, c_size_t, c_uint32, c_uint64,
 from typing import Any, List, Optional, Tuple
 
 from .words import IGNORE, MOST_LINE, OPERATIONS, REASONS, REPLIES, STATUSES, Answer, Entry, Fault, Reason, Reply, Row, Starter
-from .words import number, place, refuse
+from .words import place, refuse, whole
 
-_STALE = 16
 if not getattr(sys, "_is_gil_enabled", lambda: True)():
     raise ImportError("sapyguendo needs an interpreter with its lock (PYTHON_GIL=1)")
+
+
+def _struct(name: str, **fields: Any) -> Any:
+    return type(name, (ctypes.Structure,), {"_fields_": list(fields.items())})
+
+
+_STALE = 16
+_Sup = _struct("_Sup", at=c_void_p, is_open=c_bool)
+_Text = _struct("_Text", len=c_uint64, bytes=c_char * 40)
+_Entry = _struct("_Entry", handle=c_uint64, serial=c_uint64, moment=c_uint64, number=c_uint64, operation=c_uint32, reason=c_uint32,
+                 answer=c_uint32, code=c_uint32, text=_Text)
+_Reply = _struct("_Reply", kind=c_uint32, code=c_uint32, number=c_uint64, next=c_uint64)
+_Counts = _struct("_Counts", specs=c_uint64, active=c_uint64, supervisors=c_uint64, workers=c_uint64, stamp=c_uint64, is_down=c_bool)
+_Row = _struct("_Row", number=c_uint64, status=c_uint32, arg=_Text)
+_CALLS = {
+    "sup_version": [],
+    "sup_open": [POINTER(_Sup), ctypes.c_char_p, c_size_t, c_uint64],
+    "sup_close": [POINTER(_Sup)],
+    "sup_asks": [POINTER(_Sup), POINTER(_Entry), POINTER(_Text)],
+    "sup_step": [POINTER(_Sup), POINTER(_Entry), POINTER(_Reply)],
+    "sup_step_at": [POINTER(_Sup), POINTER(_Entry), c_uint64, POINTER(c_uint64), POINTER(_Reply)],
+    "sup_count": [POINTER(_Sup), POINTER(_Counts)],
+    "sup_child": [POINTER(_Sup), c_uint64, POINTER(_Row)],
+    "sup_row": [POINTER(_Sup), c_uint64, POINTER(_Row)],
+    "sup_left": [POINTER(_Sup), c_uint64, POINTER(_Row)],
+    "sup_write_entry": [POINTER(_Entry), c_void_p, c_size_t, POINTER(c_uint64)],
+    "sup_read_entry": [ctypes.c_char_p, c_size_t, POINTER(_Entry), POINTER(c_uint64)],
+}
+
+
+def _library() -> ctypes.CDLL:
+    """The library in the folder that SAPYGUENDO_LIB names, in the module's own folder, or where the system's loader looks."""
+    named, own = os.environ.get("SAPYGUENDO_LIB"), os.path.join(os.path.dirname(__file__), "libsapyguendo.so.0")
+    try:
+        library = ctypes.PyDLL(os.path.join(named, "libsapyguendo.so.0") if named else own if os.path.exists(own) else "libsapyguendo.so.0")
+    except OSError as error:
+        raise ImportError(f"{error}: set SAPYGUENDO_LIB to the folder of libsapyguendo.so.0 (ffi/install makes it)") from None
+    for name, types in _CALLS.items():
+        call = getattr(library, name)
+        call.argtypes, call.restype = types, c_uint32
+    return library
+
+
+_LIBRARY = _library()
 
 
 class Core:
@@ -22,8 +65,11 @@ class Core:
 
     def _open(self, line: bytes, entries: int, start: Starter) -> None:
         self._held, self._start = _Sup(), start
-        _check(_LIBRARY.sup_open(byref(self._held), line, len(line), entries))
+        self._call("sup_open", line, len(line), entries)
         self._end = weakref.finalize(self, _LIBRARY.sup_close, byref(self._held))
+
+    def _call(self, name: str, *given: Any, of: Any = None) -> None:
+        _check(getattr(_LIBRARY, name)(byref(self._held), *given), of)
 
     def close(self) -> None:
         """Gives the memory back. Every later call but this one is refused."""
@@ -31,38 +77,47 @@ class Core:
 
     def start_child(self, moment: int, argument: str, /) -> Reply:
         """Enters the start of a child with this argument at a moment in seconds."""
-        return self._enters(_made(0, moment, 0, 0, argument, "text"))
+        return self.update(Entry("start", moment, text=argument))[0]
 
     def exit(self, moment: int, number: int, reason: Reason, /) -> Reply:
         """Enters that the child with this number ended by itself."""
-        if not isinstance(reason, Reason):
-            raise Fault(9, "reason")
-        return self._enters(_made(1, moment, number, place(reason.kind, REASONS, "reason"), reason.text, "reason"))
+        return self.update(Entry("exit", moment, number, reason))[0]
 
     def retry(self, moment: int, number: int, /) -> Reply:
         """Enters that the restart of the child with this number is to be tried again."""
-        return self._enters(_made(2, moment, number))
+        return self.update(Entry("retry", moment, number))[0]
 
     def terminate_child(self, moment: int, number: int, /) -> Reply:
         """Enters the termination of the child with this number, which is listed no more."""
-        return self._enters(_made(3, moment, number))
+        return self.update(Entry("terminate", moment, number))[0]
 
     def stop(self, moment: int, /) -> Reply:
         """Enters that the supervisor stops, and all children end."""
-        return self._enters(_made(4, moment))
+        return self.update(Entry("stop", moment))[0]
 
     def update(self, entry: Entry, /) -> Tuple[Reply, Entry]:
         """Enters an operation, with what the start function answers, and returns the reply and the entry. The start function is
         asked at most once."""
-        c = _spelled(entry)
-        reply = self._enters(c)
-        return reply, entry._replace(answer=Answer(c.answer, c.code), serial=c.serial)
+        c, reply, begun = _spelled(entry), _Reply(), None
+        while True:
+            c.serial = self._count()[4]
+            argument = self._asked(c)
+            if argument is not None and begun is None:
+                begun = self._start(argument, c.moment)
+                if not isinstance(begun, Answer):
+                    refuse(self._start, begun)
+            answer = IGNORE if argument is None or begun is None else begun
+            c.answer, c.code = whole(answer.kind, "answer", 32), whole(answer.code, "code", 32)
+            fault = _LIBRARY.sup_step_at(byref(self._held), byref(c), c.serial, byref(c_uint64()), byref(reply))
+            if fault != _STALE:
+                _check(fault, c)
+                return _reply(reply), entry._replace(answer=answer, serial=c.serial)
 
     def step(self, entry: Entry, /) -> Reply:
         """Enters an entry as it is, with its answer: so a history is run again."""
         c, reply = _spelled(entry), _Reply()
-        _check(_LIBRARY.sup_step(byref(self._held), byref(c), byref(reply)), c)
-        return reply.told()
+        self._call("sup_step", byref(c), byref(reply), of=c)
+        return _reply(reply)
 
     def asks(self, entry: Entry, /) -> Optional[str]:
         """Returns the argument that the start function would be asked about, or None."""
@@ -71,44 +126,30 @@ class Core:
     def child(self, number: int, /) -> Optional[Row]:
         """Returns the listed child with this number, or None if there is none or the supervisor is down."""
         row = _Row()
-        _check(_LIBRARY.sup_child(byref(self._held), _whole(number, 64, "number"), byref(row)))
-        return row.told() if row.status in (1, 2) else None
+        self._call("sup_child", whole(number, "number"), byref(row))
+        return _row(row) if row.status in (1, 2) else None
 
     def _count(self) -> Tuple[int, int, int, int, int, bool]:
         c = _Counts()
-        _check(_LIBRARY.sup_count(byref(self._held), byref(c)))
+        self._call("sup_count", byref(c))
         return c.specs, c.active, c.supervisors, c.workers, c.stamp, c.is_down
 
     def _rows(self, index: int, most: int, left: bool) -> Optional[List[Row]]:
         """At most so many of the rows from this index on, or of those that are left. None if the supervisor is down."""
-        call, rows, row = _LIBRARY.sup_left if left else _LIBRARY.sup_row, [], _Row()
+        rows, row = [], _Row()
         for at in range(index, index + most):
-            _check(call(byref(self._held), at, byref(row)))
+            self._call("sup_left" if left else "sup_row", at, byref(row))
             if row.status == 3:
                 return None
             if row.status == 0:
                 break
-            rows.append(row.told())
+            rows.append(_row(row))
         return rows
 
-    def _asked(self, c: _Entry) -> Optional[str]:
+    def _asked(self, c: Any) -> Optional[str]:
         asked = _Text()
-        _check(_LIBRARY.sup_asks(byref(self._held), byref(c), byref(asked)), c)
-        return asked.told() if asked.len else None
-
-    def _enters(self, c: _Entry) -> Reply:
-        begun, reply, counts = None, _Reply(), _Counts()
-        while True:
-            _check(_LIBRARY.sup_count(byref(self._held), byref(counts)))
-            argument = self._asked(c)
-            if argument is not None and begun is None:
-                begun = _answered(self._start, argument, c.moment)
-            c.answer, c.code = IGNORE if argument is None or begun is None else begun
-            c.serial = counts.stamp
-            fault = _LIBRARY.sup_step_at(byref(self._held), byref(c), c.serial, byref(c_uint64()), byref(reply))
-            if fault != _STALE:
-                _check(fault, c)
-                return reply.told()
+        self._call("sup_asks", byref(c), byref(asked), of=c)
+        return _told(asked) if asked.len else None
 
 
 def write_entry(entry: Entry) -> str:
@@ -121,10 +162,9 @@ def read_entry(line: str) -> Entry:
     given, c = _bytes(line, "line"), _Entry()
     if _LIBRARY.sup_read_entry(given, len(given), byref(c), byref(c_uint64())):
         raise Fault(9, "line")
-    operation, text = OPERATIONS[c.operation], c.text.told()
-    reason = Reason(REASONS[c.reason], text) if operation == "exit" else None
-    argument = text if operation == "start" else ""
-    return Entry(operation, c.moment, c.number, reason, argument, Answer(c.answer, c.code), c.handle, c.serial)
+    reason = Reason(REASONS[c.reason], _told(c.text)) if c.operation == 1 else None
+    argument = _told(c.text) if c.operation == 0 else ""
+    return Entry(OPERATIONS[c.operation], c.moment, c.number, reason, argument, Answer(c.answer, c.code), c.handle, c.serial)
 
 
 def version() -> int:
@@ -132,82 +172,23 @@ def version() -> int:
     return int(_LIBRARY.sup_version())
 
 
-class _Sup(ctypes.Structure):
-    _fields_ = [("at", c_void_p), ("is_open", c_bool)]
-
-
-class _Text(ctypes.Structure):
-    _fields_ = [("len", c_uint64), ("bytes", c_char * 40)]
-
-    def told(self) -> str:
-        return self.bytes[: self.len].decode("ascii")
-
-
-class _Entry(ctypes.Structure):
-    _fields_ = [(it, c_uint64) for it in ("handle", "serial", "moment", "number")]
-    _fields_ += [(it, c_uint32) for it in ("operation", "reason", "answer", "code")] + [("text", _Text)]
-
-
-class _Reply(ctypes.Structure):
-    _fields_ = [("kind", c_uint32), ("code", c_uint32), ("number", c_uint64), ("next", c_uint64)]
-
-    def told(self) -> Reply:
-        return Reply(REPLIES[self.kind], self.number, self.next, self.code)
-
-
-class _Counts(ctypes.Structure):
-    _fields_ = [(it, c_uint64) for it in ("specs", "active", "supervisors", "workers", "stamp")] + [("is_down", c_bool)]
-
-
-class _Row(ctypes.Structure):
-    _fields_ = [("number", c_uint64), ("status", c_uint32), ("arg", _Text)]
-
-    def told(self) -> Row:
-        return Row(self.number, STATUSES[self.status - 1], self.arg.told())
-
-
-_CALLS = {
-    "sup_version": [],
-    "sup_open": [POINTER(_Sup), ctypes.c_char_p, c_size_t, c_uint64],
-    "sup_close": [POINTER(_Sup)],
-    "sup_asks": [POINTER(_Sup), POINTER(_Entry), POINTER(_Text)],
-    "sup_step": [POINTER(_Sup), POINTER(_Entry), POINTER(_Reply)],
-    "sup_step_at": [POINTER(_Sup), POINTER(_Entry), c_uint64, POINTER(c_uint64), POINTER(_Reply)],
-    "sup_count": [POINTER(_Sup), POINTER(_Counts)],
-    "sup_child": [POINTER(_Sup), c_uint64, POINTER(_Row)],
-    "sup_row": [POINTER(_Sup), c_uint64, POINTER(_Row)],
-    "sup_left": [POINTER(_Sup), c_uint64, POINTER(_Row)],
-    "sup_token": [POINTER(_Sup), c_uint64, POINTER(c_uint64)],
-    "sup_write_entry": [POINTER(_Entry), c_void_p, c_size_t, POINTER(c_uint64)],
-    "sup_read_entry": [ctypes.c_char_p, c_size_t, POINTER(_Entry), POINTER(c_uint64)],
-}
-
-
-def _library() -> ctypes.CDLL:
-    """The library in the folder that SAPYGUENDO_LIB names, in the module's own folder, or where the system's loader looks."""
-    named, own = os.environ.get("SAPYGUENDO_LIB"), os.path.join(os.path.dirname(__file__), "libsapyguendo.so.0")
-    file = os.path.join(named, "libsapyguendo.so.0") if named else own if os.path.exists(own) else "libsapyguendo.so.0"
-    try:
-        library = ctypes.PyDLL(file)
-    except OSError as error:
-        raise ImportError(f"{error}: set SAPYGUENDO_LIB to the folder of libsapyguendo.so.0 (ffi/install makes it)") from None
-    for name, types in _CALLS.items():
-        call = getattr(library, name)
-        call.argtypes, call.restype = types, c_uint32
-    return library
-
-
-_LIBRARY = _library()
-
-
-def _check(fault: int, c: Optional[_Entry] = None) -> None:
+def _check(fault: int, c: Any = None) -> None:
     """Refuses a fault. If the library refused an entry whose words and numbers are in range, its text or its answer was wrong."""
     if fault:
-        raise Fault(fault, ("answer" if c.answer > 2 else {0: "text", 1: "reason"}.get(c.operation, "")) if c and fault == 9 else "")
+        field = "" if c is None or fault != 9 else "answer" if c.answer > 2 else {0: "text", 1: "reason"}.get(c.operation, "")
+        raise Fault(fault, field)
 
 
-def _whole(value: Any, size: int, field: str) -> int:
-    return number(value, 1 << size, field)
+def _told(text: Any) -> str:
+    return str(text.bytes[: text.len], "ascii")
+
+
+def _reply(reply: Any) -> Reply:
+    return Reply(REPLIES[reply.kind], reply.number, reply.next, reply.code)
+
+
+def _row(row: Any) -> Row:
+    return Row(row.number, STATUSES[row.status - 1], _told(row.arg))
 
 
 def _bytes(text: Any, field: str) -> bytes:
@@ -217,26 +198,16 @@ def _bytes(text: Any, field: str) -> bytes:
         raise Fault(9, field) from None
 
 
-def _made(operation: int, moment: Any, number: Any = 0, reason: int = 0, text: Any = "", field: str = "text") -> _Entry:
-    given = _bytes(text, field)
-    return _Entry(0, 0, _whole(moment, 64, "moment"), _whole(number, 64, "number"), operation, reason, 0, 0, (len(given), given[:40]))
-
-
-def _spelled(e: Any) -> _Entry:
+def _spelled(e: Any) -> Any:
     if not isinstance(e, Entry):
         raise TypeError(f"{e!r} is no Entry")
-    if e.reason is not None and not isinstance(e.reason, Reason) or not isinstance(e.answer, Answer):
-        raise Fault(9, "answer" if isinstance(e.reason, (Reason, type(None))) else "reason")
-    kind, text, field = ("normal", e.text, "text") if e.reason is None else (*e.reason, "reason")
-    c = _made(place(e.operation, OPERATIONS, "operation"), e.moment, e.number, place(kind, REASONS, "reason"), text, field)
-    c.handle, c.serial = _whole(e.handle, 64, "handle"), _whole(e.serial, 64, "serial")
-    c.answer, c.code = _whole(e.answer.kind, 32, "answer"), _whole(e.answer.code, 32, "code")
-    return c
-
-
-def _answered(start: Starter, argument: str, moment: int) -> Answer:
-    """What a start function answers. One that answers something else is wrong, and nothing is entered."""
-    answer = start(argument, moment)
-    if not isinstance(answer, Answer):
-        refuse(start, answer)
-    return Answer(_whole(answer.kind, 32, "answer"), _whole(answer.code, 32, "code"))
+    is_exit = e.operation == "exit"
+    for part, kind, field in ((e.reason, Reason, "reason"), (e.answer, Answer, "answer")):
+        if not isinstance(part, kind) and (is_exit or kind is Answer):
+            raise Fault(9, field)
+    text, field = (e.reason.text, "reason") if is_exit and e.reason else (e.text, "text")
+    reason = place(e.reason.kind, REASONS, "reason") if is_exit and e.reason else 0
+    numbers = [whole(getattr(e, it), it) for it in ("handle", "serial", "moment", "number")]
+    answer = whole(e.answer.kind, "answer", 32), whole(e.answer.code, "code", 32)
+    given = _bytes(text, field)
+    return _Entry(*numbers, place(e.operation, OPERATIONS, "operation"), reason, *answer, (len(given), given[:40]))

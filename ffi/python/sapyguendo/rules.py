@@ -6,23 +6,20 @@ import os
 import threading
 from typing import Any, Iterator, List, Optional, Tuple
 
-from .path import Core
-from .words import RUNNING, Counts, Entry, Fault, Reply, Row, Starter, Template
+from .words import RUNNING, Core, Counts, Entry, Fault, Reply, Row, Starter, Template
 
 _PIECE = 1000  # rows that are listed at once, before other threads have a turn
 
 
-class _Listing:
-    """Whose turn it is to list rows, which takes many calls. A thread may come in again, and a fork begins with a turn of its own."""
-
-    turn = threading.RLock()
-
-    @classmethod
-    def renew(cls) -> None:
-        cls.turn = threading.RLock()
+_turn = threading.RLock()  # (whose turn it is to list rows, which takes many calls; a thread may come in again)
 
 
-os.register_at_fork(after_in_child=_Listing.renew)
+def _renew() -> None:
+    global _turn
+    _turn = threading.RLock()
+
+
+os.register_at_fork(after_in_child=_renew)
 
 
 class Supervisor(Core):
@@ -90,7 +87,7 @@ class Supervisor(Core):
     def which(self) -> Optional[List[Row]]:
         """Returns the listed children in ascending order of number, or None if the supervisor is down. They are those of one moment.
         Other threads may use the supervisor meanwhile; only one that lists them as well waits."""
-        with _Listing.turn:
+        with _turn:
             while True:
                 mine = self._listing = object()
                 rows: List[Row] = []

@@ -1,10 +1,11 @@
-"""What is entered and what is replied, as plain tuples, and the exception of a call that was refused."""
+"""What is entered and what is replied, as plain tuples; the exception of a call that was refused; and what calls the library."""
 from __future__ import annotations
 
 import asyncio
 import inspect
+import os
 import re
-from typing import Any, Callable, Iterator, NamedTuple, NoReturn, Optional, Sequence, Tuple
+from typing import TYPE_CHECKING, Any, Callable, Iterator, NamedTuple, NoReturn, Optional, Sequence, Tuple
 
 MOST_ENTRIES = 1 << 62
 MOST_LINE = 160
@@ -16,8 +17,8 @@ REASONS = ("normal", "shutdown", "shutdown_with", "other")
 REPLIES = ("started", "undefined", "start_failed", "full", "removed", "shut_down", "restarted", "restarting", "ignored", "stray")
 REPLIES += ("not_found", "ended", "stopped", "gave_up", "down")
 STATUSES = ("running", "restarting")
-FAULTS = {1: "out of memory", 2: "the history is full", 7: "no template has these parts", 9: "it spells no entry"}
-FAULTS.update({12: "the line is too long", 15: "the supervisor is closed"})
+FAULTS = {1: "out of memory", 2: "the history is full", 7: "no template has these parts", 9: "it spells no entry",
+          12: "the line is too long", 15: "the supervisor is closed"}
 VERSION = 100
 _MOST = {"intensity": (0, 1000), "period": (1, 86400), "max": (1, 65536), "entries": (1, MOST_ENTRIES)}
 _NUMBERS = " (0|[1-9][0-9]*)" * 3
@@ -55,7 +56,8 @@ class Template(NamedTuple):
         for field, known in (("restart", RESTARTS), ("kind", KINDS), ("auto_shutdown", AUTOS)):
             place(getattr(self, field), known, field, 7)
         for field, (least, most) in _MOST.items():
-            number(getattr(self, field), most + 1, field, 7, least)
+            if type(getattr(self, field)) is not int or not least <= getattr(self, field) <= most:
+                raise Fault(7, field)
         if self.significant and (self.restart == "permanent" or self.auto_shutdown == "never"):
             raise Fault(7, "significant")
         mark = "significant" if self.significant else "plain"
@@ -101,7 +103,10 @@ class Reason(NamedTuple):
             return Reason("normal")
         if isinstance(error, asyncio.CancelledError):
             return Reason("shutdown_with", "cancelled")
-        message = ": ".join(filter(None, (type(error).__name__, _message(error))))
+        try:
+            message = f"{type(error).__name__}: {error}" if str(error) else type(error).__name__
+        except Exception:
+            message = type(error).__name__
         word = re.sub("[^!-~]", "_", message[:40])
         return Reason("other", word if word not in ("normal", "shutdown") and not word.startswith("shutdown:") else f"crash:{word}"[:40])
 
@@ -137,23 +142,17 @@ class Entry(NamedTuple):
 
     def line(self) -> str:
         """Returns the entry as a line of a history text, with its line feed."""
-        from .path import write_entry
-
         return write_entry(self)
 
     @staticmethod
     def read(text: str) -> Tuple[Entry, str]:
         """Returns the entry of the first line of a text, and the text after that line. For many entries use `read_all`."""
-        from .path import read_entry
-
         end = text.find("\n") + 1
         return read_entry(text[:end]), text[end:]
 
     @staticmethod
     def read_all(text: str) -> Iterator[Entry]:
         """Returns the entries of a text's lines one by one, in a time that grows with the text's length alone."""
-        from .path import read_entry
-
         at = 0
         while at < len(text):
             end = text.find("\n", at) + 1 or len(text)
@@ -187,10 +186,10 @@ class Row(NamedTuple):
     arg: str
 
 
-def number(value: Any, end: int, field: str, fault: int = 9, least: int = 0) -> int:
+def whole(value: Any, field: str, bits: int = 64) -> int:
     """A number that the library can be given: ctypes would cut off what is too large."""
-    if type(value) is not int or not least <= value < end:
-        raise Fault(fault, field)
+    if type(value) is not int or not 0 <= value < 1 << bits:
+        raise Fault(9, field)
     return value
 
 
@@ -207,11 +206,14 @@ def refuse(start: Any, answer: Any) -> NoReturn:
     raise TypeError(f"the start function {start!r} must answer RUNNING, IGNORE or failed(code), and not {answer!r}")
 
 
-def _message(error: BaseException) -> str:
-    try:
-        return str(error)
-    except Exception:
-        return ""
-
-
+# What calls the library, and needs what is above: the extension module where it was built, and else ctypes.
 FOR_EXTENSION = (Fault, Entry, Reason, Answer, Reply, Row, RUNNING, IGNORE, refuse, OPERATIONS, REASONS, REPLIES, STATUSES)
+if TYPE_CHECKING or os.environ.get("SAPYGUENDO_CTYPES"):
+    from .foreign import Core, read_entry, version, write_entry
+else:
+    try:
+        from ._fast import Core, read_entry, version, write_entry
+    except ModuleNotFoundError:
+        from .foreign import Core, read_entry, version, write_entry
+if version() != VERSION:
+    raise ImportError(f"the library that {Core.__module__} found is of version {version()}, and the module of {VERSION}")
