@@ -46,10 +46,6 @@ def build_wheel(wheel_directory, config_settings=None, metadata_directory=None):
     return f"{name}-{tag}.whl"
 
 
-def build_sdist(sdist_directory, config_settings=None):
-    raise NotImplementedError("the sources of the library are those of the whole repository")
-
-
 def extension(folder):
     """The extension module, if it can be built."""
     compiler, headers = os.environ.get("CC") or shutil.which("cc") or shutil.which("gcc"), sysconfig.get_paths()["include"]

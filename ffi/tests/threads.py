@@ -94,7 +94,7 @@ class Threads(unittest.TestCase):
                 raise RuntimeError("can't start new thread")
             real(thread)
 
-        with mock.patch("sapyguendo.threads.Stoppable.start", start):
+        with mock.patch("threading.Thread.start", start):
             with ThreadSupervisor(Template(intensity=10), self.body, retry_after=0.05, history=self.lines.append) as sup:
                 child = sup.start("c")
                 self.until(lambda: len(begun) == 4 and child.run)
@@ -102,7 +102,7 @@ class Threads(unittest.TestCase):
         self.assertEqual(self.replayed()[1], ["started", "restarting", "restarting", "restarted", "stopped"])
 
     def test_a_start_without_a_thread_begins_no_child(self):
-        with mock.patch("sapyguendo.threads.Stoppable.start", side_effect=RuntimeError), ThreadSupervisor(Template(), self.body) as sup:
+        with mock.patch("threading.Thread.start", side_effect=RuntimeError), ThreadSupervisor(Template(), self.body) as sup:
             with self.assertRaises(NotStarted) as it:
                 sup.start("p")
             self.assertEqual((it.exception.reply.kind, type(it.exception.__cause__), len(sup)), ("start_failed", RuntimeError, 0))
@@ -117,7 +117,7 @@ class Threads(unittest.TestCase):
             real(thread)
 
         began = time.monotonic()
-        with mock.patch("sapyguendo.threads.Stoppable.start", start), ThreadSupervisor(Template(intensity=10), self.body, retry_after=1000) as sup:
+        with mock.patch("threading.Thread.start", start), ThreadSupervisor(Template(intensity=10), self.body, retry_after=1000) as sup:
             child = sup.start("c")
             self.until(lambda: len(begun) == 2 and child.run is None)
         self.assertLess(time.monotonic() - began, SECONDS)

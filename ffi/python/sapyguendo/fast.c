@@ -1,10 +1,8 @@
 /* The rules of one supervisor for Python, over libsapyguendo and the limited API of CPython 3.9: what foreign.py does by ctypes.
  *
  * The interpreter's lock is held all the time but while the start function runs, so no thread comes into a call of the library. */
-#define PY_SSIZE_T_CLEAN
 #define Py_LIMITED_API 0x03090000
 #include <Python.h>
-
 #include "sapyguendo.h"
 
 typedef struct {
@@ -15,17 +13,14 @@ typedef struct {
 } Core;
 
 /* What makes a named tuple without its own `__new__`: its arguments are kept for the next one of as many parts. */
-enum { MOST_PARTS = 8 };
 static newfunc tuple_new;
-static PyObject *spares[MOST_PARTS + 1];
+static PyObject *spares[9];
 
 /* Taken from words.py. The last four are tuples of words. */
 static PyObject *fault_type, *entry_type, *reason_type, *answer_type, *reply_type, *row_type, *running, *ignore, *refuse;
 static PyObject *operations, *reasons, *replies, *statuses;
 
 static struct sup *sup_of(PyObject *self) { return &((Core *)self)->sup; }
-
-/* ---- what is given */
 
 /* Raises a fault. Each call that is refused returns NULL or false. */
 static void *fails(uint32_t fault, const char *field) {
@@ -67,10 +62,8 @@ static bool is_word(PyObject *value, PyObject *words, const char *field, uint32_
 
 static bool is_text(PyObject *value, const char *field, struct sup_text *to) {
     PyObject *bytes = PyUnicode_Check(value) ? PyUnicode_AsASCIIString(value) : NULL;
-    if (!bytes) {
-        PyErr_Clear();
-        return fails(SUP_BAD_LINE, field);
-    }
+    PyErr_Clear();
+    if (!bytes) return fails(SUP_BAD_LINE, field);
     to->len = (uint64_t)PyBytes_Size(bytes);
     memcpy(to->bytes, PyBytes_AsString(bytes), to->len < sizeof to->bytes ? (size_t)to->len : sizeof to->bytes);
     Py_DECREF(bytes);
@@ -79,8 +72,7 @@ static bool is_text(PyObject *value, const char *field, struct sup_text *to) {
 
 /* A named tuple of this type. One of a subclass may have another size. */
 static bool is_tuple(PyObject *value, PyObject *type, Py_ssize_t size) {
-    bool is_one = (PyObject *)Py_TYPE(value) == type || (PyTuple_Check(value) && PyObject_IsInstance(value, type) == 1);
-    return is_one && PyTuple_Size(value) == size;
+    return ((PyObject *)Py_TYPE(value) == type || (PyTuple_Check(value) && PyObject_IsInstance(value, type) == 1)) && PyTuple_Size(value) == size;
 }
 
 static bool is_reason(PyObject *value, struct sup_entry *e) {
@@ -98,14 +90,12 @@ static bool is_answer(PyObject *value, struct sup_entry *e) {
 static bool is_entry(PyObject *value, struct sup_entry *e) {
     memset(e, 0, sizeof *e);
     if (!is_tuple(value, entry_type, 8)) return !PyErr_Occurred() && PyErr_Format(PyExc_TypeError, "%R is no Entry", value);
-    PyObject *part[8];
-    for (int i = 0; i < 8; i++) part[i] = PyTuple_GetItem(value, i);
-    return is_word(part[0], operations, "operation", &e->operation) && is_number(part[1], "moment", &e->moment)
-        && is_number(part[2], "number", &e->number) && (e->operation == SUP_EXIT ? is_reason(part[3], e) : is_text(part[4], "text", &e->text))
-        && is_answer(part[5], e) && is_number(part[6], "handle", &e->handle) && is_number(part[7], "serial", &e->serial);
+    if (!is_word(PyTuple_GetItem(value, 0), operations, "operation", &e->operation)) return false;
+    if (!(e->operation == SUP_EXIT ? is_reason(PyTuple_GetItem(value, 3), e) : is_text(PyTuple_GetItem(value, 4), "text", &e->text))) return false;
+    return is_number(PyTuple_GetItem(value, 1), "moment", &e->moment) && is_number(PyTuple_GetItem(value, 2), "number", &e->number)
+        && is_answer(PyTuple_GetItem(value, 5), e) && is_number(PyTuple_GetItem(value, 6), "handle", &e->handle)
+        && is_number(PyTuple_GetItem(value, 7), "serial", &e->serial);
 }
-
-/* ---- what is told */
 
 static PyObject *kept(PyObject *it) {
     Py_INCREF(it);
@@ -148,8 +138,6 @@ static PyObject *told_answer(const struct sup_entry *e) {
     if (!e->code && e->answer <= SUP_IGNORE) return kept(e->answer == SUP_RUNNING ? running : ignore);
     return made(answer_type, 2, (PyObject *[]){told_number(e->answer), told_number(e->code)});
 }
-
-/* ---- the calls */
 
 /* Asks the start function about an argument at a moment, and writes its answer into the entry. */
 static bool begins(Core *self, const struct sup_text *asked, PyObject *moment, struct sup_entry *e) {
@@ -196,13 +184,11 @@ static PyObject *operated(PyObject *self, PyObject *const *given, Py_ssize_t cou
     return enters((Core *)self, &e, given[0]);
 }
 
-#define OPERATION(name, operation, wanted) \
-    static PyObject *name(PyObject *self, PyObject *const *given, Py_ssize_t count) { return operated(self, given, count, operation, wanted); }
-OPERATION(start_child, SUP_START, 2)
-OPERATION(exit_child, SUP_EXIT, 3)
-OPERATION(retry, SUP_RETRY, 2)
-OPERATION(terminate_child, SUP_TERMINATE, 2)
-OPERATION(stop, SUP_STOP, 1)
+static PyObject *start_child(PyObject *self, PyObject *const *given, Py_ssize_t count) { return operated(self, given, count, SUP_START, 2); }
+static PyObject *exit_child(PyObject *self, PyObject *const *given, Py_ssize_t count) { return operated(self, given, count, SUP_EXIT, 3); }
+static PyObject *retry(PyObject *self, PyObject *const *given, Py_ssize_t count) { return operated(self, given, count, SUP_RETRY, 2); }
+static PyObject *terminate_child(PyObject *self, PyObject *const *given, Py_ssize_t count) { return operated(self, given, count, SUP_TERMINATE, 2); }
+static PyObject *stop(PyObject *self, PyObject *const *given, Py_ssize_t count) { return operated(self, given, count, SUP_STOP, 1); }
 
 static PyObject *update(PyObject *self, PyObject *entry) {
     struct sup_entry e;
@@ -241,12 +227,11 @@ static PyObject *child(PyObject *self, PyObject *given) {
 static PyObject *rows(PyObject *self, PyObject *args) {
     unsigned long long index, most;
     int left;
-    struct sup_row row;
-    uint32_t fault = 0;
     if (!PyArg_ParseTuple(args, "KKp:_rows", &index, &most, &left)) return NULL;
     PyObject *list = PyList_New(0);
     for (uint64_t end = index + most; list && index < end; index++) {
-        fault = left ? sup_left(sup_of(self), index, &row) : sup_row(sup_of(self), index, &row);
+        struct sup_row row;
+        uint32_t fault = left ? sup_left(sup_of(self), index, &row) : sup_row(sup_of(self), index, &row);
         if (!fault && row.status == SUP_NOT_LISTED) break;
         PyObject *it = fault ? fails(fault, "") : row.status == SUP_ROW_DOWN ? NULL : told_row(&row);
         if (!it || PyList_Append(list, it)) Py_CLEAR(list);
@@ -258,21 +243,18 @@ static PyObject *rows(PyObject *self, PyObject *args) {
 static PyObject *count(PyObject *self, PyObject *Py_UNUSED(none)) {
     struct sup_counts c;
     uint32_t fault = sup_count(sup_of(self), &c);
-    PyObject *down = c.is_down ? Py_True : Py_False;
     return fault ? fails(fault, "") : Py_BuildValue("NNNNNO", told_number(c.specs), told_number(c.active), told_number(c.supervisors),
-        told_number(c.workers), told_number(c.stamp), down);
+        told_number(c.workers), told_number(c.stamp), c.is_down ? Py_True : Py_False);
 }
 
 static PyObject *open_one(PyObject *self, PyObject *args) {
-    Core *core = (Core *)self;
     const char *line;
-    Py_ssize_t size;
     unsigned long long entries;
-    PyObject *start, *before = core->start;
-    if (!PyArg_ParseTuple(args, "y#KO:_open", &line, &size, &entries, &start)) return NULL;
-    uint32_t fault = sup_open(&core->sup, (const uint8_t *)line, (size_t)size, entries);
+    PyObject *start, *before = ((Core *)self)->start;
+    if (!PyArg_ParseTuple(args, "yKO:_open", &line, &entries, &start)) return NULL;
+    uint32_t fault = sup_open(sup_of(self), (const uint8_t *)line, strlen(line), entries);
     if (fault) return fails(fault, "");
-    core->start = kept(start), core->stamp = 0;
+    ((Core *)self)->start = kept(start), ((Core *)self)->stamp = 0;
     Py_XDECREF(before);
     return kept(Py_None);
 }
@@ -288,7 +270,6 @@ static int traverse(PyObject *self, visitproc visit, void *arg) {
     return 0;
 }
 
-/* (nothing asks for the start function of one that is closed) */
 static int clear(PyObject *self) {
     sup_close(sup_of(self));
     Py_CLEAR(((Core *)self)->start);
@@ -302,8 +283,6 @@ static void dealloc(PyObject *self) {
     ((freefunc)PyType_GetSlot(type, Py_tp_free))(self);
     Py_DECREF(type);
 }
-
-/* ---- entries as lines */
 
 static PyObject *write_entry(PyObject *Py_UNUSED(module), PyObject *entry) {
     struct sup_entry e;
@@ -329,13 +308,8 @@ static PyObject *read_entry(PyObject *Py_UNUSED(module), PyObject *line) {
 
 static PyObject *version(PyObject *Py_UNUSED(module), PyObject *Py_UNUSED(none)) { return told_number(sup_version()); }
 
-/* ---- the module */
-
-/* (the limited API has this kind of call from 3.10 on, and 3.9, which changes no more, has the same) */
-#ifndef METH_FASTCALL
-#define METH_FASTCALL 0x0080
-#endif
-#define FAST(call) ((PyCFunction)(void (*)(void))call), METH_FASTCALL
+/* (0x0080 is METH_FASTCALL, which the limited API has from 3.10 on; 3.9, which changes no more, has the same) */
+#define FAST(call) ((PyCFunction)(void (*)(void))call), 0x0080
 static PyMethodDef methods[] = {
     {"start_child", FAST(start_child), "Enters the start of a child with this argument at a moment in seconds."},
     {"exit", FAST(exit_child), "Enters that the child with this number ended by itself."},

@@ -6,7 +6,7 @@ import ctypes
 import os
 import sys
 import weakref
-from ctypes import POINTER, byref, c_bool, c_char, c_size_t, c_uint32, c_uint64, c_void_p
+from ctypes import byref, c_bool, c_char, c_size_t, c_uint32, c_uint64, c_void_p
 from typing import Any, List, Optional, Tuple
 
 from .words import IGNORE, MOST_LINE, OPERATIONS, REASONS, REPLIES, STATUSES, Answer, Entry, Fault, Reason, Reply, Row, Starter
@@ -28,33 +28,15 @@ _Entry = _struct("_Entry", handle=c_uint64, serial=c_uint64, moment=c_uint64, nu
 _Reply = _struct("_Reply", kind=c_uint32, code=c_uint32, number=c_uint64, next=c_uint64)
 _Counts = _struct("_Counts", specs=c_uint64, active=c_uint64, supervisors=c_uint64, workers=c_uint64, stamp=c_uint64, is_down=c_bool)
 _Row = _struct("_Row", number=c_uint64, status=c_uint32, arg=_Text)
-_CALLS = {
-    "sup_version": [],
-    "sup_open": [POINTER(_Sup), ctypes.c_char_p, c_size_t, c_uint64],
-    "sup_close": [POINTER(_Sup)],
-    "sup_asks": [POINTER(_Sup), POINTER(_Entry), POINTER(_Text)],
-    "sup_step": [POINTER(_Sup), POINTER(_Entry), POINTER(_Reply)],
-    "sup_step_at": [POINTER(_Sup), POINTER(_Entry), c_uint64, POINTER(c_uint64), POINTER(_Reply)],
-    "sup_count": [POINTER(_Sup), POINTER(_Counts)],
-    "sup_child": [POINTER(_Sup), c_uint64, POINTER(_Row)],
-    "sup_row": [POINTER(_Sup), c_uint64, POINTER(_Row)],
-    "sup_left": [POINTER(_Sup), c_uint64, POINTER(_Row)],
-    "sup_write_entry": [POINTER(_Entry), c_void_p, c_size_t, POINTER(c_uint64)],
-    "sup_read_entry": [ctypes.c_char_p, c_size_t, POINTER(_Entry), POINTER(c_uint64)],
-}
 
 
-def _library() -> ctypes.CDLL:
+def _library() -> Any:
     """The library in the folder that SAPYGUENDO_LIB names, in the module's own folder, or where the system's loader looks."""
-    named, own = os.environ.get("SAPYGUENDO_LIB"), os.path.join(os.path.dirname(__file__), "libsapyguendo.so.0")
+    named, own = os.environ.get("SAPYGUENDO_LIB"), f"{os.path.dirname(__file__)}/libsapyguendo.so.0"
     try:
-        library = ctypes.PyDLL(os.path.join(named, "libsapyguendo.so.0") if named else own if os.path.exists(own) else "libsapyguendo.so.0")
+        return ctypes.PyDLL(f"{named}/libsapyguendo.so.0" if named else own if os.path.exists(own) else "libsapyguendo.so.0")
     except OSError as error:
         raise ImportError(f"{error}: set SAPYGUENDO_LIB to the folder of libsapyguendo.so.0 (ffi/install makes it)") from None
-    for name, types in _CALLS.items():
-        call = getattr(library, name)
-        call.argtypes, call.restype = types, c_uint32
-    return library
 
 
 _LIBRARY = _library()
@@ -65,7 +47,7 @@ class Core:
 
     def _open(self, line: bytes, entries: int, start: Starter) -> None:
         self._held, self._start = _Sup(), start
-        self._call("sup_open", line, len(line), entries)
+        self._call("sup_open", line, c_size_t(len(line)), c_uint64(entries))
         self._end = weakref.finalize(self, _LIBRARY.sup_close, byref(self._held))
 
     def _call(self, name: str, *given: Any, of: Any = None) -> None:
@@ -108,7 +90,7 @@ class Core:
                     refuse(self._start, begun)
             answer = IGNORE if argument is None or begun is None else begun
             c.answer, c.code = whole(answer.kind, "answer", 32), whole(answer.code, "code", 32)
-            fault = _LIBRARY.sup_step_at(byref(self._held), byref(c), c.serial, byref(c_uint64()), byref(reply))
+            fault = _LIBRARY.sup_step_at(byref(self._held), byref(c), c_uint64(c.serial), byref(c_uint64()), byref(reply))
             if fault != _STALE:
                 _check(fault, c)
                 return _reply(reply), entry._replace(answer=answer, serial=c.serial)
@@ -126,7 +108,7 @@ class Core:
     def child(self, number: int, /) -> Optional[Row]:
         """Returns the listed child with this number, or None if there is none or the supervisor is down."""
         row = _Row()
-        self._call("sup_child", whole(number, "number"), byref(row))
+        self._call("sup_child", c_uint64(whole(number, "number")), byref(row))
         return _row(row) if row.status in (1, 2) else None
 
     def _count(self) -> Tuple[int, int, int, int, int, bool]:
@@ -138,7 +120,7 @@ class Core:
         """At most so many of the rows from this index on, or of those that are left. None if the supervisor is down."""
         rows, row = [], _Row()
         for at in range(index, index + most):
-            self._call("sup_left" if left else "sup_row", at, byref(row))
+            self._call("sup_left" if left else "sup_row", c_uint64(at), byref(row))
             if row.status == 3:
                 return None
             if row.status == 0:
@@ -154,13 +136,13 @@ class Core:
 
 def write_entry(entry: Entry) -> str:
     c, room, size = _spelled(entry), ctypes.create_string_buffer(MOST_LINE), c_uint64()
-    _check(_LIBRARY.sup_write_entry(byref(c), room, MOST_LINE, byref(size)), c)
+    _check(_LIBRARY.sup_write_entry(byref(c), room, c_size_t(MOST_LINE), byref(size)), c)
     return room.raw[: size.value].decode("ascii")
 
 
 def read_entry(line: str) -> Entry:
     given, c = _bytes(line, "line"), _Entry()
-    if _LIBRARY.sup_read_entry(given, len(given), byref(c), byref(c_uint64())):
+    if _LIBRARY.sup_read_entry(given, c_size_t(len(given)), byref(c), byref(c_uint64())):
         raise Fault(9, "line")
     reason = Reason(REASONS[c.reason], _told(c.text)) if c.operation == 1 else None
     argument = _told(c.text) if c.operation == 0 else ""

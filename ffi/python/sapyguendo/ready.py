@@ -44,12 +44,11 @@ class Child:
     """A child. `number` is that under which it is listed now, and `run` the task or thread that runs it, or None while it waits for another
     try and after its end. `error` is what ended it last."""
 
-    run: Any = None
-    begun: Any = None
-    error: Optional[BaseException] = None
-
     def __init__(self, argument: str, call: Callable[..., Any]) -> None:
         self.number, self.argument, self.call, self.context = 0, argument, call, contextvars.copy_context()
+        self.run: Any = None
+        self.begun: Any = None
+        self.error: Optional[BaseException] = None
 
     def __repr__(self) -> str:
         return f"<Child {self.number} {self.argument}: {self.run!r}>"
@@ -65,7 +64,7 @@ class Ready:
     _wake: Callable[[], None]
 
     def __init__(self, template: Template, body: Callable[..., Any], *, retry_after: float = 1.0, timeout: Optional[float] = 5.0,
-                 history: Optional[Callable[[str], Any]] = None, clock: Callable[[], float] = time.monotonic) -> None:
+                 history: Callable[[str], Any] = str, clock: Callable[[], float] = time.monotonic) -> None:
         self._body, self._retry_after, self._timeout, self._history, self._clock = body, retry_after, timeout, history, clock
         self._rules, self._from = Supervisor(template, self._asked), clock()
         self._children: Dict[int, Child] = {}
@@ -73,8 +72,7 @@ class Ready:
         self._asking: List[Child] = []
         self._cause: Optional[BaseException] = None
         self._is_over = False
-        if history is not None:
-            history(template.line())
+        history(template.line())
 
     def __len__(self) -> int:
         return len(self._children)
@@ -120,18 +118,17 @@ class Ready:
         self._asking.append(child)
         try:
             reply, entry = self._rules.update(entry)
-        except Fault as fault:
-            if operation in ("start", "terminate"):
+            self._follow(child, reply, reason)
+            self._history(entry.line())
+        except Exception as error:
+            if reply.kind == "refused" and operation in ("start", "terminate"):
                 raise
-            self._go_down(fault)
+            self._go_down(error)
         finally:
             self._asking.pop()
-            self._follow(child, reply, reason)
-        if self._history is not None and reply.kind != "refused":
-            try:
-                self._history(entry.line())
-            except Exception as error:
-                self._go_down(error)
+            begun, child.begun = child.begun, None
+            if begun is not None:
+                self._ask(begun)  # (the rules have no child for it)
         return reply
 
     def _asked(self, argument: str, moment: int) -> Answer:
@@ -149,10 +146,9 @@ class Ready:
         return RUNNING
 
     def _follow(self, child: Child, reply: Reply, reason: Optional[Reason]) -> None:
-        begun, child.begun = child.begun, None
         if reply.kind in ("started", "restarted"):
             self._children.pop(child.number, None)
-            child.number, child.run, begun = reply.next or reply.number, begun, None
+            child.number, child.run, child.begun = reply.next or reply.number, child.begun, None
             self._children[child.number] = child
         elif reply.kind == "restarting":
             self._later(child)
@@ -164,8 +160,6 @@ class Ready:
             self._go_down(gave_up)
         elif reply.kind in ("stopped", "shut_down"):
             self._go_down(None)
-        if begun is not None:
-            self._ask(begun)
         self._wake()
 
     def _ended(self, child: Child, run: Any, error: Optional[BaseException]) -> None:
@@ -209,11 +203,10 @@ class Ready:
 class TaskSupervisor(Ready):
     """A supervisor whose children are tasks of asyncio, each of which awaits `body(argument, ..)`. It is used by `async with`.
 
-    A task that raises has crashed, and is begun again by the rules, with the same arguments and in the context of its start. If `body` raises
-    before there is a coroutine, or answers failed(code), the start failed: a restart is tried again after `retry_after` seconds. At the end
-    of the block all children are cancelled. One that ignores it for `timeout` seconds is cancelled again, then logged and left alone. If
-    the supervisor gives up, the block is cancelled, and ends with GaveUp from the last crash. `history` is called with each line of the
-    history text."""
+    A task that raises has crashed, and is begun again by the rules. If `body` raises before there is a coroutine, the start failed: a
+    restart is tried again after `retry_after` seconds. At the end of the block all children are cancelled. One that ignores it for `timeout`
+    seconds is cancelled again, then logged and left alone. If the supervisor gives up, the block is cancelled, and ends with GaveUp from
+    the last crash. `history` is called with each line of the history text."""
 
     _parent: Optional[asyncio.Task[Any]] = None
     _is_leaving = _has_cancelled = False
@@ -297,10 +290,6 @@ class TaskSupervisor(Ready):
             self._has_cancelled = self._parent.cancel()
 
 
-class _Thread(threading.Thread):
-    stop: threading.Event
-
-
 class ThreadSupervisor(Ready):
     """A supervisor whose children are threads, each of which runs `body(argument, stop, ..)` and ends soon after the event `stop` is set. It
     is used by `with`, from any thread, and does for threads what a TaskSupervisor does for tasks. A start fails if there is no thread. If the
@@ -309,12 +298,9 @@ class ThreadSupervisor(Ready):
     def __init__(self, template: Template, body: Callable[..., Any], **options: Any) -> None:
         if inspect.iscoroutinefunction(body):
             raise TypeError(f"{body!r} is async: a TaskSupervisor begins it")
-        self._renew()
+        self._changed = threading.Condition()  # (whoever has it may take it again)
         super().__init__(template, body, **options)
         _THREADED.add(self)
-
-    def _renew(self) -> None:
-        self._changed, self._over = threading.Condition(threading.RLock()), threading.Event()
 
     def __enter__(self) -> ThreadSupervisor:
         return self
@@ -339,8 +325,8 @@ class ThreadSupervisor(Ready):
                 raise self._cause
             return is_idle
 
-    def _begin(self, child: Child) -> _Thread:
-        thread = _Thread(target=child.context.copy().run, args=(self._main, child), name=child.argument)
+    def _begin(self, child: Child) -> Any:
+        thread: Any = threading.Thread(target=child.context.copy().run, args=(self._main, child), name=child.argument)
         thread.stop = threading.Event()
         thread.start()
         return thread
@@ -350,19 +336,18 @@ class ThreadSupervisor(Ready):
         error: Optional[BaseException] = None
         try:
             child.call(thread.stop)
-        except SystemExit:
-            pass  # (so a thread ends by itself)
         except BaseException as it:
-            error = it
+            error = None if isinstance(it, SystemExit) else it  # (so a thread ends by itself)
         with self._changed:
             self._ended(child, thread, error)
-        # (the thread of a child that is to be tried again waits for it)
-        while self._children.get(child.number) is child and child.run is None and not self._over.wait(self._retry_after):
-            with self._changed:
+            # (the thread of a child that is to be tried again waits for it)
+            while self._waits(child) and not self._changed.wait_for(lambda: not self._waits(child), self._retry_after):
                 self._retry(child)
-        with self._changed:
             self._alive.discard(thread)
             self._wake()
+
+    def _waits(self, child: Child) -> bool:
+        return self._children.get(child.number) is child and child.run is None
 
     def _enter(self, operation: str, child: Child, reason: Optional[Reason] = None) -> Reply:
         with self._changed:
@@ -371,15 +356,11 @@ class ThreadSupervisor(Ready):
     def _later(self, child: Child) -> None:
         pass
 
-    def _ask(self, run: _Thread) -> None:
+    def _ask(self, run: Any) -> None:
         run.stop.set()
 
     def _wake(self) -> None:
         self._changed.notify_all()
-
-    def _go_down(self, cause: Optional[BaseException]) -> None:
-        self._over.set()
-        super()._go_down(cause)
 
 
 _THREADED: weakref.WeakSet[ThreadSupervisor] = weakref.WeakSet()
@@ -388,8 +369,7 @@ _THREADED: weakref.WeakSet[ThreadSupervisor] = weakref.WeakSet()
 def _after_fork() -> None:
     """Leaves a fork without children: their threads are not in it, and one of them may have held the lock."""
     for it in list(_THREADED):
-        it._renew()
-        it._is_over, it._alive, it._children = True, set(), {}
+        it._changed, it._is_over, it._alive, it._children = threading.Condition(), True, set(), {}
 
 
 os.register_at_fork(after_in_child=_after_fork)

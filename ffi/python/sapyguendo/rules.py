@@ -9,26 +9,15 @@ from typing import Any, Iterator, List, Optional, Tuple
 from .words import RUNNING, Core, Counts, Entry, Fault, Reply, Row, Starter, Template
 
 _PIECE = 1000  # rows that are listed at once, before other threads have a turn
-
-
-_turn = threading.RLock()  # (whose turn it is to list rows, which takes many calls; a thread may come in again)
-
-
-def _renew() -> None:
-    global _turn
-    _turn = threading.RLock()
-
-
-os.register_at_fork(after_in_child=_renew)
+# Whose turn it is to list rows, which takes many calls: a thread may come in again, and a fork begins with a turn of its own.
+_turn = [threading.RLock()]
+os.register_at_fork(after_in_child=lambda: _turn.__setitem__(0, threading.RLock()))
 
 
 class Supervisor(Core):
-    """A supervisor. `start` starts a child with an argument at a moment in seconds, if the rules ask for it, and answers RUNNING,
-    IGNORE or failed(code). It may use the supervisor. If others have entered something meanwhile, the rules are asked again: what it
-    has begun is kept if the reply is 'started' or 'restarted', and else the caller's to end.
-
-    It is closed by `close`, at the end of a `with`, or when nothing refers to it any more. Its length is the number of listed
-    children, whose rows it iterates over, and a number is in it if that child is listed. When it is down there are none."""
+    """A supervisor. `start` starts a child with an argument at a moment in seconds, if the rules ask for it, and answers RUNNING, IGNORE or
+    failed(code). It may use the supervisor. If others have entered something meanwhile, the rules are asked again: what it has begun is
+    kept if the reply is 'started' or 'restarted', and else the caller's to end. It iterates over the rows of the listed children."""
 
     def __init__(self, template: Template, start: Starter = lambda argument, moment: RUNNING) -> None:
         if inspect.iscoroutinefunction(start):
@@ -87,8 +76,8 @@ class Supervisor(Core):
     def which(self) -> Optional[List[Row]]:
         """Returns the listed children in ascending order of number, or None if the supervisor is down. They are those of one moment.
         Other threads may use the supervisor meanwhile; only one that lists them as well waits."""
-        with _turn:
-            while True:
+        with _turn[0]:
+            while True:  # (again, if a signal handler or a garbage collection came between two rows, and listed them anew)
                 mine = self._listing = object()
                 rows: List[Row] = []
                 while mine is self._listing:
@@ -99,7 +88,6 @@ class Supervisor(Core):
                         rows += some
                         if len(some) < _PIECE:
                             return rows
-                # (a signal handler or a garbage collection came between two rows, and listed them anew)
 
     def left(self) -> List[Row]:
         """Returns the children that were listed before the entry that took the supervisor down: the caller ends those that run. There

@@ -21,9 +21,8 @@ FAULTS = {1: "out of memory", 2: "the history is full", 7: "no template has thes
           12: "the line is too long", 15: "the supervisor is closed"}
 VERSION = 100
 _MOST = {"intensity": (0, 1000), "period": (1, 86400), "max": (1, 65536), "entries": (1, MOST_ENTRIES)}
-_NUMBERS = " (0|[1-9][0-9]*)" * 3
-_WORDS = "({}) ({})".format("|".join(RESTARTS), "|".join(KINDS))
-_FIRST = re.compile(f"history ([12]) {_WORDS}{_NUMBERS}(?: (plain|significant) ({'|'.join(AUTOS)}))?\n")
+_WORDS = "({}) ({})".format("|".join(RESTARTS), "|".join(KINDS)) + " (0|[1-9][0-9]*)" * 3
+_FIRST = re.compile(f"history ([12]) {_WORDS}(?: (plain|significant) ({'|'.join(AUTOS)}))?\n")
 
 
 class Fault(Exception):
@@ -153,11 +152,7 @@ class Entry(NamedTuple):
     @staticmethod
     def read_all(text: str) -> Iterator[Entry]:
         """Returns the entries of a text's lines one by one, in a time that grows with the text's length alone."""
-        at = 0
-        while at < len(text):
-            end = text.find("\n", at) + 1 or len(text)
-            yield read_entry(text[at:end])
-            at = end
+        return map(read_entry, text.splitlines(True))
 
 
 class Reply(NamedTuple):
