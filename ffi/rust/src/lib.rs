@@ -56,6 +56,7 @@ impl Drop for Rules {
 
 impl Rules {
     fn open(template: &Template) -> Result<Rules, Fault> {
+        assert_eq!(version(), raw::VERSION, "libsapyguendo.a is not of this crate's version");
         let mut closed = raw::zeros::<raw::Sup>();
         let mut room = [0; raw::MOST_LINE];
         let mut left = &mut room[..];
