@@ -96,7 +96,7 @@ class Collected(unittest.TestCase):
         self.assertEqual(entry.line(), "1 2 5 exit 3 shutdown:bye failed 4\n")
         self.assertEqual(Entry.read(entry.line() + "rest"), (entry, "rest"))
         self.assertEqual(Template("transient").line(), "history 2 transient worker 1 5 65536 plain never\n")
-        self.assertEqual(sapyguendo.version(), 100)
+        self.assertEqual(sapyguendo.version(), sapyguendo.words.VERSION)
 
 
 class Answered(unittest.TestCase):
