@@ -34,7 +34,7 @@ extern "C" {
 #endif
 
 /* The version of this header: 100 is 0.1.0. `sup_version` returns that of the library. */
-#define SUP_VERSION 100
+#define SUP_VERSION 200
 
 /* What a call answers. */
 enum sup_fault {

@@ -48,12 +48,12 @@ const BAD_HANDLE: u32 = 15;
 
 const STALE: u32 = 16;
 
-/// Returns the version, of 0.1.0 as 100.
+/// Returns the version, of 0.2.0 as 200.
 #[unsafe(no_mangle)]
 pub extern "C" fn sup_version() -> u32
-    ensures { result ≡ 100 }
+    ensures { result ≡ 200 }
 {
-    100
+    200
 }
 
 /// Opens a supervisor of the template that the first line of a history text gives, with at most this many entries.

@@ -3,7 +3,7 @@
 pub(crate) const ABOUT: &str =
     "A dynamic supervisor (simple_one_for_one, by the rules of Erlang/OTP 26) at the command line";
 
-pub(crate) const VERSION: &str = "0.1.0";
+pub(crate) const VERSION: &str = "0.2.0";
 
 pub(crate) const SCRIPT: &str =
     "Reads a script, in a file or on standard input, and writes its replies on standard output";

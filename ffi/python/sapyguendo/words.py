@@ -19,7 +19,7 @@ REPLIES += ("not_found", "ended", "stopped", "gave_up", "down")
 STATUSES = ("running", "restarting")
 FAULTS = {1: "out of memory", 2: "the history is full", 7: "no template has these parts", 9: "it spells no entry",
           12: "the line is too long", 15: "the supervisor is closed"}
-VERSION = 100
+VERSION = 200
 _MOST = {"intensity": (0, 1000), "period": (1, 86400), "max": (1, 65536), "entries": (1, MOST_ENTRIES)}
 _WORDS = "({}) ({})".format("|".join(RESTARTS), "|".join(KINDS)) + " (0|[1-9][0-9]*)" * 3
 _FIRST = re.compile(f"history ([12]) {_WORDS}(?: (plain|significant) ({'|'.join(AUTOS)}))?\n")

@@ -4,7 +4,7 @@ use std::ffi::c_void;
 pub const DONE: u32 = 0;
 pub const STALE: u32 = 16;
 pub const MOST_LINE: usize = 160;
-pub const VERSION: u32 = 100;
+pub const VERSION: u32 = 200;
 
 /// A struct of the library.
 pub trait Struct: Sized {}
