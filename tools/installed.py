@@ -1,5 +1,5 @@
 """Checks of ffi/install and ffi/release for tools/ffi: what is installed and removed, pkg-config, CMake, the Debian package, and a release that
-is used where there are neither the repository nor the toolchain."""
+is used without the repository and the toolchain."""
 import filecmp
 import glob
 import os
@@ -39,7 +39,7 @@ for SAPYGUENDO_CTYPES in "" 1; do export SAPYGUENDO_CTYPES; answers python3 -B e
 [ -z "$CARGO" ] || answers cargo run --quiet --manifest-path rust/Cargo.toml --example script "$ROOM/history"
 ./install --uninstall ~/.local
 """
-CHECKS = 9 + bool(shutil.which("pkg-config")) + bool(shutil.which("cmake")) + bool(shutil.which("dpkg-deb")) + bool(shutil.which("cargo"))
+CHECKS = 10 + bool(shutil.which("pkg-config")) + bool(shutil.which("cmake")) + bool(shutil.which("dpkg-deb")) + bool(shutil.which("cargo"))
 
 
 def ran(words, given=b"", **more):
@@ -58,6 +58,7 @@ def listed(folder):
 def try_installs(tally, room, library):
     """All of it, with what was installed in a folder."""
     first, again = f"{room}/release", f"{room}/again"
+    tally.check("the version in all places", why(ran([f"{TOP}/tools/version"])))
     if not tally.check("ffi/release", why(ran([f"{FFI}/release", first, library]))):
         return
     ran([f"{FFI}/release", again, library])

@@ -73,7 +73,7 @@ class Containers(unittest.TestCase):
             self.assertEqual((len(rows), rows[0].number, rows[-1].number), (65536, 1, 65536))
             return max(gaps)
 
-        self.assertLess(min(longest() for _ in range(3)), 0.1)
+        self.assertLess(min(longest() for _ in range(3)), 0.25)
 
 
 class Words(unittest.TestCase):

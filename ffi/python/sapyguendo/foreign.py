@@ -1,4 +1,4 @@
-"""The calls of libsapyguendo by ctypes: what the extension module does where none was built. Each is made with the interpreter's lock
+"""The calls of libsapyguendo by ctypes, if no extension module was built. Each is made with the interpreter's lock
 held, so that neither a thread, a signal handler, a garbage collection nor a fork comes into it."""
 from __future__ import annotations
 
@@ -117,7 +117,7 @@ class Core:
         return c.specs, c.active, c.supervisors, c.workers, c.stamp, c.is_down
 
     def _rows(self, index: int, most: int, left: bool) -> Optional[List[Row]]:
-        """At most so many of the rows from this index on, or of those that are left. None if the supervisor is down."""
+        """The rows from this index on, or those of `left`, at most `most` of them. None if the supervisor is down."""
         rows, row = [], _Row()
         for at in range(index, index + most):
             self._call("sup_left" if left else "sup_row", c_uint64(at), byref(row))

@@ -317,7 +317,7 @@ class ThreadSupervisor(Ready):
             return self._add(argument, lambda stop: self._body(argument, stop, *args, **named))
 
     def join(self, timeout: Optional[float] = None) -> bool:
-        """Waits until there are no children and their threads have ended, for so many seconds at most, and returns whether that is so.
+        """Waits until there are no children and their threads have ended, for `timeout` seconds at most, and returns whether that is so.
         Raises what took the supervisor down, such as GaveUp."""
         with self._changed:
             is_idle = self._changed.wait_for(lambda: not self._children and not self._alive, timeout)
