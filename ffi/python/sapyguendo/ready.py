@@ -201,12 +201,11 @@ class Ready:
 
 
 class TaskSupervisor(Ready):
-    """A supervisor whose children are tasks of asyncio, each of which awaits `body(argument, ..)`. It is used by `async with`.
-
-    A task that raises has crashed, and is begun again by the rules. If `body` raises before there is a coroutine, the start failed: a
-    restart is tried again after `retry_after` seconds. At the end of the block all children are cancelled. One that ignores it for `timeout`
-    seconds is cancelled again, then logged and left alone. If the supervisor gives up, the block is cancelled, and ends with GaveUp from
-    the last crash. `history` is called with each line of the history text."""
+    """A supervisor whose children are tasks of asyncio, each of which awaits `body(argument, ..)`. It is used by `async with`, at whose end
+    all are cancelled. A task that raises has crashed, and is begun again by the rules. If `body` raises before there is a coroutine, the start
+    failed: a restart is tried again after `retry_after` seconds. One that ignores its cancellation for `timeout` seconds is cancelled again,
+    then logged and left alone. If the supervisor gives up, the block is cancelled, and ends with GaveUp from the last crash. `history` is
+    called with each line of the history text."""
 
     _parent: Optional[asyncio.Task[Any]] = None
     _is_leaving = _has_cancelled = False
@@ -220,6 +219,7 @@ class TaskSupervisor(Ready):
     async def __aexit__(self, kind: Optional[Type[BaseException]], error: Optional[BaseException], trace: Any) -> None:
         self._is_leaving = True
         if kind is GeneratorExit or self._loop.is_closed() or self._process != os.getpid():
+            self._is_over, self._children = True, {}
             return self._rules.close()  # (nothing can be awaited here)
         if self._has_cancelled:
             getattr(self._parent, "uncancel", int)()
