@@ -57,10 +57,9 @@ class Child:
 class Ready:
     """What both kinds of supervisors share: children by number, and what is done after each reply."""
 
-    # What each kind does in its way: begin a child, ask one to end, have `_retry` called later, wake those that wait for the end of all.
+    # What each kind does in its way: begin a child, ask one to end, and wake those that wait for the end of all.
     _begin: Callable[[Child], Any]
     _ask: Callable[[Any], None]
-    _later: Callable[[Child], None]
     _wake: Callable[[], None]
 
     def __init__(self, template: Template, body: Callable[..., Any], *, retry_after: float = 1.0, timeout: Optional[float] = 5.0,
@@ -177,6 +176,9 @@ class Ready:
         if self._children.get(child.number) is child:
             self._enter("retry", child)
 
+    def _later(self, child: Child) -> None:
+        """Has `_retry` called later, unless the thread that ran the child does so."""
+
     def _go_down(self, cause: Optional[BaseException]) -> None:
         self._is_over, self._cause = True, self._cause or cause
         children, self._children = self.children(), {}
@@ -282,7 +284,7 @@ class TaskSupervisor(Ready):
             run.cancel()
 
     def _wake(self) -> None:
-        self._is_idle.clear() if self._children or self._alive else self._is_idle.set()
+        (self._is_idle.clear if self._children or self._alive else self._is_idle.set)()
 
     def _go_down(self, cause: Optional[BaseException]) -> None:
         super()._go_down(cause)
@@ -352,9 +354,6 @@ class ThreadSupervisor(Ready):
     def _enter(self, operation: str, child: Child, reason: Optional[Reason] = None) -> Reply:
         with self._changed:
             return super()._enter(operation, child, reason)
-
-    def _later(self, child: Child) -> None:
-        pass
 
     def _ask(self, run: Any) -> None:
         run.stop.set()

@@ -30,7 +30,8 @@ class Supervisor(Core):
         """Returns a supervisor after the history of this text, and the reply to each of its entries, as `supload replay` answers them.
         A fault names the line."""
         end = text.find("\n") + 1
-        supervisor, replies = cls(Template.read(text[:end]), start), []
+        supervisor = cls(Template.read(text[:end]), start)
+        replies: List[Reply] = []
         try:
             for entry in Entry.read_all(text[end:]):
                 replies.append(supervisor.step(entry))
