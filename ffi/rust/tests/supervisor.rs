@@ -174,5 +174,5 @@ fn one_that_is_dropped_gives_its_memory_back() {
 
 #[test]
 fn the_version_is_the_library_s() {
-    assert_eq!(version(), 100);
+    assert_eq!(version(), 200);
 }
