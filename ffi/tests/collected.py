@@ -41,6 +41,46 @@ class Collected(unittest.TestCase):
         gc.collect()
         self.assertLess(resident(), before + 20_000_000)
 
+    def test_no_call_keeps_memory(self):
+        def raises(argument, moment):
+            raise ValueError
+
+        def refused(call, error):
+            def refuses():
+                with self.assertRaises(error):
+                    call()
+
+            return refuses
+
+        sup, moments = Supervisor(Template(intensity=1000, period=1, max=20)), iter(range(1 << 30))
+        numbers = [sup.start_child(0, f"session-{it}").number for it in range(10)]
+        crash, line = Reason.other("crash"), Entry("exit", 1 << 60, 1 << 60, Reason.other("x" * 40), answer=failed(1 << 30)).line()
+        others = [Supervisor(Template(max=5), it) for it in (lambda *_: failed(1 << 20), raises, lambda *_: 0)]
+        calls = [
+            lambda: numbers.append(sup.exit(next(moments) // 500, numbers.pop(0), crash).next),
+            lambda: numbers.append(sup.update(Entry("exit", next(moments) // 500, numbers.pop(0), crash, handle=7))[0].next),
+            lambda: sup.step(Entry("retry", 0, 1 << 50)),
+            lambda: (sup.which(), sup.child(numbers[0]), sup.counts(), sup.asks(Entry("start", 0, text="a"))),
+            lambda: Entry.read(line)[0].line(),
+            lambda: Supervisor(Template(max=3)).close(),
+            lambda: others[0].start_child(0, "a"),
+            refused(lambda: others[1].start_child(0, "a"), ValueError),
+            refused(lambda: others[2].start_child(0, "a"), TypeError),
+            refused(lambda: sup.exit(0, 1, None), Fault),
+            refused(lambda: sup.start_child(0, "a b"), Fault),
+            refused(lambda: Entry.read("x"), Fault),
+            refused(lambda: sup.update(None), TypeError),
+        ]
+        for call in calls:
+            for _ in range(500):
+                call()
+            gc.collect()
+            before = resident()
+            for _ in range(10_000):
+                call()
+            gc.collect()
+            self.assertLess(resident(), before + 400_000)
+
     def test_one_that_was_closed_refuses_each_call(self):
         with Supervisor(Template()) as sup:
             sup.start_child(0, "a")

@@ -8,8 +8,9 @@ import pickle
 import signal
 import sys
 import unittest
+import weakref
 
-from sapyguendo import IGNORE, GaveUp, NotStarted, Reason, Supervisor, TaskSupervisor, Template, failed
+from sapyguendo import IGNORE, Fault, GaveUp, NotStarted, Reason, Supervisor, TaskSupervisor, Template, failed
 
 for name in ("sapyguendo", "asyncio"):  # (what is to be logged is asserted)
     logging.getLogger(name).addHandler(logging.NullHandler())
@@ -311,6 +312,14 @@ class Tasks(unittest.IsolatedAsyncioTestCase):
         self.assertEqual(sorted(set(seen)), [("of-a", "a"), ("of-b", "b")])
         self.assertGreaterEqual(len(seen), 4)
 
+        def begins(argument):
+            session.set("changed by the body")
+            return body(argument)
+
+        async with TaskSupervisor(Template("transient", intensity=5), begins) as sup:
+            await sup.start("of-c")
+            self.assertEqual(session.get(), "c")
+
     async def test_a_body_that_ignores_cancellation(self):
         async def ignores(argument, most):
             for _ in range(most):
@@ -376,14 +385,20 @@ class Tasks(unittest.IsolatedAsyncioTestCase):
             self.assertEqual(len(self.runs), 1)
 
     async def test_a_full_history_takes_it_down(self):
-        from sapyguendo import Fault
-
         with self.assertRaises(Fault) as it:
             async with TaskSupervisor(Template(entries=2), self.body) as sup:
                 await sup.start("p")
                 await sup.start("e")
                 await asyncio.sleep(1000)
         self.assertEqual((it.exception.number, self.cancelled), (2, 1))
+
+    async def test_a_history_without_room_for_the_stop(self):
+        with self.assertRaises(Fault):
+            async with TaskSupervisor(Template(entries=1), self.body) as sup:
+                await sup.start("p")
+                await asyncio.sleep(0)
+        await asyncio.sleep(0)
+        self.assertEqual(self.cancelled, 1)
 
     async def test_a_history_that_can_not_be_written_takes_it_down(self):
         def writes(line):
@@ -497,13 +512,30 @@ class Closed(unittest.TestCase):
             sup.start("p").send(None)
         before, sys.unraisablehook = sys.unraisablehook, said.append
         try:
-            sup.stop()
-            self.assertTrue(sup.is_down())
-            del task
+            there = weakref.ref(sup)
+            del task, sup
             gc.collect()
         finally:
             sys.unraisablehook = before
-        self.assertEqual((said, len(sup)), ([], 0))
+        self.assertEqual(([str(it.exc_value) for it in said], there()), ([], None))
+
+    def test_a_block_that_is_closed_with_its_loop(self):
+        async def program():
+            async with TaskSupervisor(Template(), lambda argument: asyncio.sleep(1000)) as sup:
+                await sup.start("p")
+                supervisors.append(sup)
+                await sup.join()
+
+        supervisors, loop = [], asyncio.new_event_loop()
+        block = program()
+        task = loop.create_task(block)
+        loop.run_until_complete(asyncio.sleep(0.01))
+        loop.close()
+        block.close()
+        (sup,) = supervisors
+        self.assertEqual((sup.is_down(), list(sup)), (True, []))
+        sup.stop()
+        del task
 
 
 if __name__ == "__main__":
