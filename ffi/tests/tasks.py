@@ -210,6 +210,25 @@ class Tasks(unittest.IsolatedAsyncioTestCase):
             await asyncio.wait_for(block(), 0.05)
         self.assertEqual(self.cancelled, 2)
 
+    async def test_a_cancellation_while_the_children_end_is_not_lost(self):
+        async def slow(argument):
+            try:
+                await asyncio.sleep(1000)
+            finally:
+                await asyncio.sleep(0.05)
+                self.cancelled += 1
+
+        async def block():
+            async with TaskSupervisor(Template(), slow) as sup:
+                await sup.start("p")
+                await asyncio.sleep(0)
+
+        task = asyncio.create_task(block())
+        await asyncio.sleep(0.02)
+        task.cancel()
+        await asyncio.wait([task])
+        self.assertEqual((task.cancelled(), self.cancelled), (True, 1))
+
     @unittest.skipIf(sys.version_info < (3, 11), "before asyncio.timeout and TaskGroup")
     async def test_in_a_timeout_and_in_a_task_group(self):
         with self.assertRaises(TimeoutError):
