@@ -70,6 +70,7 @@ class Tasks(unittest.IsolatedAsyncioTestCase):
             self.assertEqual([it.number for it in supervisor], [it.number for it in sup])
             self.assertEqual((replies.count("restarted"), replies.count("removed"), replies.count("full")), (100, 50, 1))
         self.assertEqual((self.cancelled, len(sup), sup.is_down()), (950, 0, True))
+        self.assertIn("closed", repr(sup._rules))
         self.assertEqual(self.replayed()[1][-1], "stopped")
 
     async def test_it_gives_up_from_the_last_crash(self):
@@ -156,7 +157,7 @@ class Tasks(unittest.IsolatedAsyncioTestCase):
             return self.body("c")
 
         self.crashes = 1
-        async with TaskSupervisor(Template(intensity=1000), body, retry_after=0.02) as sup:
+        async with TaskSupervisor(Template(intensity=1000), body, retry_after=0.02, history=self.lines.append) as sup:
             child = await sup.start("x")
             await self.until(lambda: len(begun) >= 2)
             self.assertIsNone(child.run)
@@ -164,7 +165,7 @@ class Tasks(unittest.IsolatedAsyncioTestCase):
             self.assertTrue(sup.terminate(child.number))
             await sup.join()
             await asyncio.sleep(0.1)
-        self.assertEqual(len(begun), count)
+        self.assertEqual((len(begun), self.replayed()[1][-2:]), (count, ["ended", "stopped"]))
 
     async def test_a_start_that_fails_or_is_ignored_begins_no_child(self):
         def body(argument):
@@ -431,6 +432,29 @@ class Tasks(unittest.IsolatedAsyncioTestCase):
                 await sup.start("p")
                 await sup.start("p")
                 await asyncio.sleep(1000)
+
+    async def test_the_first_cause_is_told(self):
+        def writes(line):
+            if "exit" in line:
+                raise OSError
+
+        with self.assertRaises(GaveUp):
+            self.crashes = 1
+            async with TaskSupervisor(Template(intensity=0), self.body, history=writes) as sup:
+                await sup.start("c")
+                await asyncio.sleep(1000)
+
+    async def test_moments_are_the_clock_s_whole_seconds(self):
+        now = [1000.75]
+        async with TaskSupervisor(Template(intensity=1), self.body, history=self.lines.append, clock=lambda: now[0]) as sup:
+            for moment in (0, 10.5, 20.25):
+                now[0] = 1000.75 + moment
+                self.crashes = 1
+                runs = len(self.runs)
+                await sup.start("c")
+                await self.until(lambda: len(self.runs) == runs + 2)
+        self.assertEqual([line.split()[2] for line in self.lines[1:]], ["0", "0", "10", "10", "20", "20", "20"])
+        self.assertEqual(self.replayed()[1].count("restarted"), 3)
 
     async def test_a_significant_child_ends_all(self):
         template = Template("transient", significant=True, auto_shutdown="any")

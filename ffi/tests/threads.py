@@ -85,6 +85,19 @@ class Threads(unittest.TestCase):
             sup.start("p")
             self.assertFalse(sup.join(0.01))
 
+    def test_it_joins_those_that_were_asked_to_end(self):
+        ended = []
+
+        def slow(argument, stop):
+            stop.wait()
+            time.sleep(0.1)
+            ended.append(argument)
+
+        with ThreadSupervisor(Template(), slow) as sup:
+            sup.terminate(sup.start("x").number)
+            self.assertEqual((len(sup), sup.join(0.01)), (0, False))
+            self.assertEqual((sup.join(SECONDS), ended), (True, ["x"]))
+
     def test_a_restart_without_a_thread_is_tried_again_after_a_delay(self):
         self.crashes, begun, real = 1, [], threading.Thread.start
 

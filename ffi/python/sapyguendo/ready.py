@@ -112,8 +112,7 @@ class Ready:
 
     def _enter(self, operation: str, child: Child, reason: Optional[Reason] = None) -> Reply:
         """Enters an operation of a child, and does what the reply asks for. If an end can't be entered, the supervisor goes down."""
-        text = child.argument if operation == "start" else ""
-        entry, reply = Entry(operation, int(self._clock() - self._from), child.number, reason, text), Reply("refused")
+        entry, reply = Entry(operation, int(self._clock() - self._from), child.number, reason, child.argument), Reply("refused")
         self._asking.append(child)
         try:
             reply, entry = self._rules.update(entry)
