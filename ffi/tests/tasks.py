@@ -418,8 +418,7 @@ class Tasks(unittest.IsolatedAsyncioTestCase):
             async with TaskSupervisor(Template(entries=1), self.body) as sup:
                 await sup.start("p")
                 await asyncio.sleep(0)
-        await asyncio.sleep(0)
-        self.assertEqual(self.cancelled, 1)
+        self.assertEqual((self.cancelled, getattr(asyncio.current_task(), "cancelling", int)()), (1, 0))
 
     async def test_a_history_that_can_not_be_written_takes_it_down(self):
         def writes(line):
