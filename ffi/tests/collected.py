@@ -22,15 +22,28 @@ class Collected(unittest.TestCase):
         self.assertEqual((there(), held and held.is_open), (None, held and False))
 
     def test_one_in_a_circle_is_closed(self):
-        for name in ("me", None):
-            sup = Supervisor(Template(), start=lambda argument, moment: RUNNING if sup is not None else None)
-            if name:
-                sup.me = sup
-            held, there = getattr(sup, "_held", None), weakref.ref(sup)
+        for holder in ("sup", "start", "none"):
+            def start(argument, moment):
+                return RUNNING
+
+            sup = Supervisor(Template(), start)
+            if holder != "none":
+                (sup if holder == "sup" else start).me = sup
+            held, there = getattr(sup, "_held", None), (weakref.ref(sup), weakref.ref(start))
             sup.start_child(0, "a")
-            del sup
+            del sup, start
             gc.collect()
-            self.assertEqual((there(), held and held.is_open), (None, held and False))
+            self.assertEqual(([it() for it in there], held and held.is_open), ([None, None], held and False))
+
+    def test_a_reply_is_right_while_all_objects_are_held(self):
+        sup = Supervisor(Template())
+        gc.disable()
+        self.addCleanup(gc.enable)
+        replies = []
+        for name in "abc":
+            replies.append(sup.start_child(0, name))
+            held = gc.get_objects()
+        self.assertEqual(([it.number for it in replies], len(held) > 0), ([1, 2, 3], True))
 
     def test_their_memory_comes_back(self):
         for _ in range(20):
@@ -85,10 +98,10 @@ class Collected(unittest.TestCase):
         with Supervisor(Template()) as sup:
             sup.start_child(0, "a")
         sup.close()
-        for call in (sup.counts, sup.which, sup.stamp, lambda: sup.child(1), lambda: sup.stop(0)):
+        for call in (sup.counts, sup.which, sup.left, sup.stamp, lambda: sup.child(1), lambda: sup.stop(0), lambda: sup.start_child(0, "a")):
             with self.assertRaises(Fault) as it:
                 call()
-            self.assertEqual(it.exception.number, 15)
+            self.assertEqual((it.exception.number, it.exception.field), (15, ""))
 
     def test_threads_take_turns(self):
         with Supervisor(Template("temporary")) as sup:

@@ -16,8 +16,9 @@ class Refused(unittest.TestCase):
     def test_a_number_of_a_child_is_not_cut_off(self):
         sup = Supervisor(Template())
         sup.start_child(0, "a")
-        for number in (2**64 + 1, -(2**64) + 1, -1, 1.0, "1"):
+        for number in (2**64 + 1, -(2**64) + 1, -1, 1.0, "1", True, None):
             self.refuses(lambda: sup.child(number), 9, "number")
+            self.refuses(lambda: sup.terminate_child(0, number), 9, "number")
         self.assertEqual(sup.child(1).arg, "a")
 
     def test_a_text_is_not_changed(self):
