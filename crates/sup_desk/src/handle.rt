@@ -252,6 +252,13 @@ impl<'d, N: Name, D> HandleOf<'d, N, D> {
         self.caller.number()
     }
 
+    /// Returns how many updates it made.
+    pub fn calls(&self) -> u64
+        ensures { result ≡ length self.now.calls }
+    {
+        self.caller.token.count()
+    }
+
     /// Returns the handle without its desk, and the desk.
     pub fn unbind(self) -> (DetachedHandle<N>, &'d D)
         ensures { result.0 ≡ self.entry }
