@@ -1,21 +1,30 @@
--- The children that clients started, as the clients are let go one by one.
-use Rattle.std.proofs.Common.{◌≡◌, List, [], ◌∷◌, ◌++◌, ap, sym, ◌∙◌, append-nil, append_assoc}
+-- The children that clients started, as the clients leave one by one.
+use Rattle.std.proofs.Common.{◌≡◌, ℕ, ◌+◌, ◌≤◌, List, [], ◌∷◌, ◌++◌, ap, arith}
 use Rattle.std.specs.Prelude.{All}
 use Rattle.std.proofs.lemmas.List.Elements.{All-nil, All-cons, All-head, All-tail}
 use mathlib.Core.List.{IsPrefix}
 use Rattle.sup_types.specs.declared.template.Template.{Template}
 use Rattle.sup_types.specs.declared.history.Entry.{Entry}
-use Rattle.sup_desk.specs.Knowledge.{Knowledge, entries_of}
-use Rattle.sup_ledger.specs.declared.child.Child.{Child}
-use Rattle.sup_yard.specs.Starts.{HasStarted, replies_to, child_started}
-use Rattle.sup_live.specs.Accounts.{AreStartedBy, started_by}
+use Rattle.sup_desk.specs.Knowledge.{entries_of}
+use Rattle.sup_exits.specs.declared.exit.Child.{Child}
+use Rattle.sup_exits.specs.Holdings.{weigh}
+use Rattle.sup_exits.specs.WeighLaws.{weigh-append}
+use Rattle.sup_live.specs.Callers.{Used}
+use Rattle.sup_live.specs.Starts.{HasStarted, replies_since, child_started}
+use Rattle.sup_live.specs.Accounts.{AreStartedAmong, started_by}
 
-started_by-append : (template : Template) (front : List Entry) (cs : List Knowledge) (c : Knowledge)
-    → started_by template front (cs ++ c ∷ []) ≡ started_by template front cs ++ replies_to child_started template front c.number
-started_by-append template front [] c = append-nil (replies_to child_started template front c.number)
-started_by-append template front (d ∷ cs) c =
-    let theirs = replies_to child_started template front d.number in
-    ap (λ l. theirs ++ l) (started_by-append template front cs c) ∙ sym (append_assoc theirs (started_by template front cs) (replies_to child_started template front c.number))
+-- what one client did is among what it and the others did
+started_by-weigh : (h : Child → ℕ) (template : Template) (front : List Entry) (cs : List Used) (c : Used)
+    → weigh h (started_by template front (cs ++ c ∷ [])) ≡ weigh h (started_by template front cs) + weigh h (replies_since child_started template c.since front c.knows.number)
+started_by-weigh h template front [] c =
+    let own = replies_since child_started template c.since front c.knows.number in
+    let a = weigh-append h own [] in omega (arith, a)
+started_by-weigh h template front (d ∷ cs) c =
+    let theirs = replies_since child_started template d.since front d.knows.number in
+    let r = started_by-weigh h template front cs c in
+    let a = weigh-append h theirs (started_by template front (cs ++ c ∷ [])) in
+    let b = weigh-append h theirs (started_by template front cs) in
+    omega (arith, r, a, b)
 
 module _ {X : Type 0} (P : X → Type 0) where
   all_left : (xs : List X) (x : X) → All P (xs ++ x ∷ []) → All P xs
@@ -27,9 +36,24 @@ module _ {X : Type 0} (P : X → Type 0) where
   last_holds (y ∷ ys) x h = last_holds ys x (All-tail P y (ys ++ x ∷ []) h)
 
 -- one client more
-pub one_client_more : (template : Template) (cs : List Knowledge) (c : Knowledge) (children own : List Child)
-    → AreStartedBy template cs children → HasStarted template c own → AreStartedBy template (cs ++ c ∷ []) (children ++ own)
-one_client_more template cs c children own started by front seen =
-    let P = λ (k : Knowledge). IsPrefix k.front front × (entries_of front k.number ≡ k.calls) in
+pub one_client_more : (template : Template) (cs : List Used) (c : Used) (children own : List Child)
+    → AreStartedAmong template cs children → HasStarted template c.since c.knows own → AreStartedAmong template (cs ++ c ∷ []) (children ++ own)
+one_client_more template cs c children own started by front seen h =
+    let P = λ (k : Used). IsPrefix k.knows.front front × (entries_of front k.knows.number ≡ k.knows.calls) in
     let last = last_holds P cs c seen in
-    ap (λ l. l ++ own) (started front (all_left P cs c seen)) ∙ ap (λ l. started_by template front cs ++ l) (by front last.0 last.1) ∙ sym (started_by-append template front cs c)
+    let theirs = started front (all_left P cs c seen) h in
+    let mine = ap (weigh h) (by front last.0 last.1) in
+    let all = started_by-weigh h template front cs c in
+    let a = weigh-append h children own in
+    omega (arith, theirs, mine, all, a)
+
+-- children more, of a client that was lost
+pub one_lost : (template : Template) (cs : List Used) (children own : List Child) → AreStartedAmong template cs children → AreStartedAmong template cs (children ++ own)
+one_lost template cs children own started front seen h =
+    let theirs = started front seen h in
+    let a = weigh-append h children own in
+    omega (arith, theirs, a)
+
+-- no client
+pub no_client : (template : Template) (children : List Child) → AreStartedAmong template [] children
+no_client template children front seen h = omega arith

@@ -1,2 +1,6 @@
 pub mod Added
 pub mod Joining
+pub mod Listing
+pub mod Ending
+pub mod Telling
+pub mod Led

@@ -1,4 +1,11 @@
 pub mod Accounts
+pub mod Callers
 pub mod Clients
+pub mod Ends
 pub mod Faults
+pub mod Leads
+pub mod ReplyLaws
+pub mod Restarts
+pub mod Starts
+pub mod Totals
 pub mod Wholes

@@ -8,15 +8,16 @@ ghost use Rattle.sup_desk.specs.Asking.{IsAnswered};
 ghost use Rattle.sup_desk.specs.Knowledge.{IsUpdated, entries_of};
 ghost use Rattle.sup_desk.specs.declared.journal.JournalFault.{JournalFault as Fault};
 ghost use Rattle.sup_desk.specs.Results.{IsUpdateResult};
-ghost use Rattle.sup_yard.specs.Starts.{given_back, started_as};
+ghost use Rattle.sup_live.specs.Starts.{given_back, started_as};
 ghost use Rattle.sup_live.specs.Clients.{HasAsked};
 
+use crate::behaviour::Behaviour;
+use crate::mailbox::{ChildRef, Gone};
 use crate::started::{NotStarted, Started};
 use std::time::Duration;
 use sup_desk::{Asker, Done, HandleFault, Name, QueryFault, UpdateFault};
 use sup_log::{NoPlace, Ticket, View};
 use sup_types::{Counts, Operation, Row, Seen, Template, Text};
-use sup_yard::{Behaviour, ChildRef, Gone};
 
 /// A client of a live crew whose children do what `B` says. It starts children, sends to them, ends them and asks about them, and it
 /// stays in its thread. Its updates are entered at moments that the crew's clock gives, and wait for the desk's lock. Its queries take no
@@ -46,11 +47,11 @@ pub trait LiveClient<B: Behaviour>: Drop {
     /// How the journal may fail.
     ghost may_fail: { JournalFault → Type 0 };
 
-    /// Which moments the crew's clock may give, in seconds. Each update is entered at one.
-    ghost may_give: { ℕ → Bool };
-
     /// What it knows: its number, its front, and the updates that it made.
     ghost knows: { Self → Knowledge };
+
+    /// How many updates its handle had made before the client was made.
+    ghost since: { Self → ℕ };
 
     /// The name of the crew's desk, which its askers have.
     type Name: Name;
@@ -71,7 +72,7 @@ pub trait LiveClient<B: Behaviour>: Drop {
     /// Starts a child with this argument, which owns this. At `Started` it runs, and is sent to by its address. Room for its exit
     /// is made first. What it was to own comes back if no child was made.
     fn start_child(&mut self, arg: Text, own: B::Own) -> Result<Started<B>, NotStarted<B::Own>>
-        ensures ok { IfOk result (λ d. (moment : ℕ) × (may_give moment ≡ true) × IsUpdated may_answer template press (knows self.old) (Operation.Start arg) moment (record { number = (knows self.new).number; editions = d.ticket.editions; front = d.ticket.front; calls = (knows self.new).calls }) d.reply d.ticket) }
+        ensures ok { IfOk result (λ d. (moment : ℕ) × IsUpdated may_answer template press (knows self.old) (Operation.Start arg) moment (record { number = (knows self.new).number; editions = d.ticket.editions; front = d.ticket.front; calls = (knows self.new).calls }) d.reply d.ticket) }
         ensures seen { IfOk result (λ d. IsPrefix d.ticket.front (knows self.new).front) }
         ensures child { IfOk result (λ d. IfSome d.child (λ address. started_as d.reply ≡ address.number ∷ [])) }
         ensures own { MatchResult result (λ d. d.own ≡ given_back own d.reply) (λ e. e.own ≡ own) }
@@ -85,7 +86,7 @@ pub trait LiveClient<B: Behaviour>: Drop {
     /// Ends the child with this number. At `Ended` it is asked to end, and is let go when its grace is over. Its exit is entered
     /// later, and changes nothing.
     fn terminate_child(&mut self, number: u64) -> Result<Done, UpdateFault>
-        ensures result { (moment : ℕ) × (may_give moment ≡ true) × IsUpdateResult may_answer template press (knows self.old) (Operation.Terminate number) moment (knows self.new) result }
+        ensures result { (moment : ℕ) × IsUpdateResult may_answer template press (knows self.old) (Operation.Terminate number) moment (knows self.new) result }
         ensures journal { IfErr result (λ e. (f : Fault) → e ≡ UpdateFault.Journal f → may_fail f) };
 
     /// Ends the child as [`LiveClient::terminate_child`] does, and at `Ended` returns once the child is gone, as OTP's does. Until
@@ -93,12 +94,12 @@ pub trait LiveClient<B: Behaviour>: Drop {
     /// the crew closes. It does not wait for a child that another thread has yet to make, which is asked to end as soon as it
     /// is there. A child has no client, so none can wait for its own end. One whose `poll` waits for this thread would.
     fn terminate_child_and_wait(&mut self, number: u64) -> Result<Done, UpdateFault>
-        ensures result { (moment : ℕ) × (may_give moment ≡ true) × IsUpdateResult may_answer template press (knows self.old) (Operation.Terminate number) moment (knows self.new) result }
+        ensures result { (moment : ℕ) × IsUpdateResult may_answer template press (knows self.old) (Operation.Terminate number) moment (knows self.new) result }
         ensures journal { IfErr result (λ e. (f : Fault) → e ≡ UpdateFault.Journal f → may_fail f) };
 
     /// Ends all children, and the supervisor. They are asked to end.
     fn stop(&mut self) -> Result<Done, UpdateFault>
-        ensures result { (moment : ℕ) × (may_give moment ≡ true) × IsUpdateResult may_answer template press (knows self.old) Operation.Stop moment (knows self.new) result }
+        ensures result { (moment : ℕ) × IsUpdateResult may_answer template press (knows self.old) Operation.Stop moment (knows self.new) result }
         ensures journal { IfErr result (λ e. (f : Fault) → e ≡ UpdateFault.Journal f → may_fail f) };
 
     /// Sends to the child with this number. The message comes back if no such child is alive, if it was asked to end, or if memory
@@ -179,11 +180,11 @@ pub trait LiveClient<B: Behaviour>: Drop {
     fn asker(&self) -> Result<Asker<Self::Name>, NoPlace>
         ensures { (Self.Name.press ≡ press) × (Self.Name.template ≡ template) };
 
-    /// Returns another client of the crew, which has made no update.
+    /// Returns another client of the crew, which has made no update: its handle is one that an earlier run left, if there is any.
     fn another(&self) -> Result<Self, HandleFault>
     where
         Self: Sized,
-        ensures { IfOk result (λ other. (knows other).calls ≡ []) };
+        ensures { IfOk result (λ other. since other ≡ length (knows other).calls) };
 
     /// Lets the children that are listed when the crew closes stay listed: the supervisor is not stopped, they are asked to end, and
     /// their exits are among those that were not entered. A later crew over the same history runs them again.

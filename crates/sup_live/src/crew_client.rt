@@ -1,29 +1,48 @@
 //! The client of a crew: a handle of its desk, with the right to run children.
-ghost use Rattle.std.specs.Prelude.{◌≡◌, []};
+ghost use Rattle.std.specs.Prelude.{◌≡◌, length, IfOk};
 
+use crate::alive::Alive;
+use crate::behaviour::Behaviour;
 use crate::client::LiveClient;
-use crate::left::Returned;
+use crate::host::Host;
+use crate::left::{Caller, Returned};
+use crate::mailbox::ChildRef;
 use crate::started::{NotStarted, Started};
+use crate::yard::Yard;
 use futures::Future;
 use std::marker::Model;
 use std::sync::Wait;
 use std::time::{Clock, Duration, Instant};
 use sup_desk::{Asker, Desk, Done, HandleFault, HandleOf, Journal, Name, QueryFault, UpdateFault};
-use sup_ledger::Witness;
+use sup_exits::{Account, Office};
 use sup_log::{NoPlace, Ticket, View};
 use sup_types::{Counts, Reply, Row, Seen, Starter, Template, Text};
-use sup_yard::{Alive, Behaviour, ChildRef, Host, Office, Yard};
 
 /// A client of a crew. It does not give its handle out while it is one: an exit that was entered past the crew would be a second
 /// one. When it is let go, its handle is returned.
-pub(crate) struct Client<'t, 'o, 'h, 'd, N: Name, D, I: Office, B: Behaviour, P: Host, F: Future> {
-    returned: &'o Returned<N, I>,
+pub(crate) struct Client<'t, 'o, 'h, 'd, N: Name, D, B: Behaviour, P: Host, F: Future> {
+    returned: &'o Returned<N, P>,
     desk: &'d D,
     handle: HandleOf<'d, N, D>,
-    yard: &'t Yard<'h, I, B, P, F>,
-    /// Shows the children that it started.
-    witness: Witness,
+    yard: &'t Yard<'h, B, P, F>,
+    /// The account of the children that it starts.
+    account: Account,
+    /// How many updates the handle had made before.
+    since: u64,
 }
+
+/// A client of a crew over a desk of this kind.
+pub(crate) type DeskClient<'t, 'o, 'h, 'd, N, S, Q, J, B, P> = Client<
+    't,
+    'o,
+    'h,
+    'd,
+    N,
+    Desk<N, S, Q, J>,
+    B,
+    P,
+    Alive<'h, B, P>,
+>;
 
 /// Returns how much of this time is left since the start.
 fn left_of<R: Clock>(rt: &R, start: Option<Instant>, limit: Duration) -> Duration {
@@ -36,65 +55,75 @@ fn left_of<R: Clock>(rt: &R, start: Option<Instant>, limit: Duration) -> Duratio
     }
 }
 
-impl<'t, 'o, 'h, 'd, N: Name, D, I: Office, B: Behaviour, P: Host, F: Future> Model
-    for Client<'t, 'o, 'h, 'd, N, D, I, B, P, F> {
-    ghost use Rattle.std.specs.Prelude.{◌≡◌};
-    ghost use Rattle.sup_desk.specs.Knowledge.{Knowledge};
-    ghost use Rattle.sup_yard.specs.Starts.{HasStarted};
+impl<'t, 'o, 'h, 'd, N: Name, D, B: Behaviour, P: Host, F: Future> Model
+    for Client<'t, 'o, 'h, 'd, N, D, B, P, F> {
+    ghost use Rattle.std.specs.Prelude.{◌≡◌, ◌≤◌, [], length};
+    ghost use Rattle.sup_live.specs.Callers.{Used};
+    ghost use Rattle.sup_live.specs.Starts.{HasStarted};
 
-    ghost Value = { Knowledge };
+    ghost Value = { Used };
 
-    ghost view = { λ c. c.handle };
+    ghost view = { λ c. record { knows = c.handle; since = c.since } };
 
-    ghost invariant = { λ c. (c.witness.ledger ≡ I.ledger) × HasStarted N.template c.handle c.witness.shown };
+    ghost invariant = { λ c. (c.account.ledger ≡ P.ledger) × (c.account.parts ≡ 1) × (c.account.paid ≡ []) × (c.since ≤ length c.handle.calls) × HasStarted N.template c.since c.handle c.account.made };
 }
 
-impl<'t, 'o, 'h, 'd, N: Name, D, I: Office, B: Behaviour, P: Host, F: Future> Client<
+impl<
     't,
     'o,
     'h,
     'd,
-    N,
-    D,
-    I,
-    B,
-    P,
-    F,
-> {
-    /// Makes a client by this handle of the desk, to the children of the yard. No client has the handle, which has made no call.
-    pub(crate) fn new(
-        desk: &'d D,
-        handle: HandleOf<'d, N, D>,
-        yard: &'t Yard<'h, I, B, P, F>,
-        returned: &'o Returned<N, I>,
-    ) -> Client<'t, 'o, 'h, 'd, N, D, I, B, P, F>
-        requires { handle.calls ≡ [] }
-        ensures { result ≡ handle.entry }
+    N: Name,
+    S: Starter + Drop,
+    Q: Wait + Drop,
+    J: Journal + Drop,
+    B: Behaviour,
+    P: Host,
+    F: Future,
+> Client<'t, 'o, 'h, 'd, N, Desk<N, S, Q, J>, B, P, F> {
+    /// Makes a client to the children of the yard, by a handle of an earlier run that none has used yet or, if there is none, by a new one.
+    pub(crate) fn open(
+        desk: &'d Desk<N, S, Q, J>,
+        yard: &'t Yard<'h, B, P, F>,
+        returned: &'o Returned<N, P>,
+    ) -> Result<Self, HandleFault>
+        ensures { IfOk result (λ client. client.since ≡ length client.knows.calls) }
     {
-        Client {
+        let hub = yard.hub;
+        let spare = returned.lock(&hub.rt).spare.pop();
+        let handle = match spare {
+            Some(spare) => desk.bind(spare),
+            None => desk.handle(&hub.rt)?,
+        };
+        let Some(account) = returned.lock(&hub.rt).split(&hub.ledger) else {
+            return Err(HandleFault::NoHandle);
+        };
+        let since = handle.calls();
+        Ok(Client {
             returned,
             desk,
             handle,
             yard,
-            witness: yard.hub.ledger.witness(),
-        }
+            account,
+            since,
+        })
     }
 }
 
-impl<'t, 'o, 'h, 'd, N: Name, D, I: Office, B: Behaviour, P: Host, F: Future> Drop
-    for Client<'t, 'o, 'h, 'd, N, D, I, B, P, F> {
+impl<'t, 'o, 'h, 'd, N: Name, D, B: Behaviour, P: Host, F: Future> Drop
+    for Client<'t, 'o, 'h, 'd, N, D, B, P, F> {
     fn drop(self) {
         let Client {
             returned,
             desk: _,
             handle,
             yard,
-            witness,
+            account,
+            since,
         } = self;
-        let hub = yard.hub;
-        returned
-            .lock(&hub.rt)
-            .add(&hub.ledger, handle.unbind().0, witness);
+        let (hub, handle) = (yard.hub, handle.unbind().0);
+        let caller = Caller { handle, since };
+        returned.lock(&hub.rt).add(&hub.ledger, caller, account);
     }
 }
 
@@ -107,10 +136,9 @@ impl<
     S: Starter + Drop,
     Q: Wait + Drop,
     J: Journal + Drop,
-    I: Office,
     B: Behaviour,
     P: Host,
-> LiveClient<B> for Client<'t, 'o, 'h, 'd, N, Desk<N, S, Q, J>, I, B, P, Alive<'h, I, B, P>> {
+> LiveClient<B> for Client<'t, 'o, 'h, 'd, N, Desk<N, S, Q, J>, B, P, Alive<'h, B, P>> {
     ghost press = { N.press };
 
     ghost template = { N.template };
@@ -119,9 +147,9 @@ impl<
 
     ghost may_fail = { J.may_fail };
 
-    ghost may_give = { I.may_give };
+    ghost knows = { λ c. c.knows };
 
-    ghost knows = { λ c. c };
+    ghost since = { λ c. c.since };
 
     type Name = N;
 
@@ -142,11 +170,11 @@ impl<
         let moment = self.yard.now();
         match self.handle.start_child(&hub.rt, moment.seconds(), arg) {
             Ok(Done { reply, ticket }) => {
-                let (handle, witness) = (&mut self.handle, &mut self.witness);
+                let (handle, account) = (&mut self.handle, &mut self.account);
                 let (child, own) = self
                     .yard
-                    .begin_started(handle, witness, moment, arg, own, place, &reply);
-                hub.news.tell();
+                    .begin_started(handle, account, moment, arg, own, place, &reply);
+                hub.tell_change();
                 Ok(Started {
                     reply,
                     ticket,
@@ -168,7 +196,7 @@ impl<
             .terminate_child(&hub.rt, moment.seconds(), number)?;
         if let Reply::Ended = done.reply {
             hub.end(number, moment);
-            hub.news.tell();
+            hub.tell_change();
         }
         Ok(done)
     }
@@ -187,7 +215,7 @@ impl<
         let (hub, moment) = (self.yard.hub, self.yard.now());
         let done = self.handle.stop(&hub.rt, moment.seconds())?;
         hub.end_all(moment);
-        hub.news.tell();
+        hub.tell_change();
         Ok(done)
     }
 
@@ -199,7 +227,7 @@ impl<
         self.yard.hub.address(number)
     }
 
-    #[tactic(auto, using(sup_yard::specs::ReplyLaws::seen_more))]
+    #[tactic(auto, using(crate::specs::ReplyLaws::seen_more))]
     fn count_children(&mut self) -> Result<Seen<Counts>, sup_log::Gone> {
         self.handle.count_children()
     }
@@ -209,37 +237,37 @@ impl<
         seen: Seen<Counts>,
         limit: Duration,
     ) -> Result<Seen<Counts>, sup_log::Gone> {
-        let (rt, news) = (&self.yard.hub.rt, &self.yard.hub.news);
+        let (rt, changed) = (&self.yard.hub.rt, &self.yard.hub.changed);
         let start = Instant::now(rt).ok();
         for _ in rt.forever() {
-            // Read before the counts: a change after them is then a later one.
-            let version = news.version();
+            // Read before the counts, so that a change after them ends the sleep.
+            let noted = changed.notifications();
             let now = self.count_children()?;
             let left = left_of(rt, start, limit);
             if now != seen || now == Seen::Down || left.is_zero() {
                 return Ok(now);
             }
-            news.await_after(rt, version, left);
+            changed.sleep(rt, noted, left);
         }
         unreachable!()
     }
 
-    #[tactic(auto, using(sup_yard::specs::ReplyLaws::seen_more))]
+    #[tactic(auto, using(crate::specs::ReplyLaws::seen_more))]
     fn child(&mut self, number: u64) -> Result<Seen<Option<Row>>, sup_log::Gone> {
         self.handle.child(number)
     }
 
-    #[tactic(auto, using(sup_yard::specs::ReplyLaws::seen_more))]
+    #[tactic(auto, using(crate::specs::ReplyLaws::seen_more))]
     fn which_children(&mut self) -> Result<Seen<Vec<Row>>, QueryFault> {
         self.handle.which_children()
     }
 
-    #[tactic(auto, using(sup_yard::specs::ReplyLaws::seen_more))]
+    #[tactic(auto, using(crate::specs::ReplyLaws::seen_more))]
     fn inspect<T, G: FnOnce(&View) -> T>(&mut self, f: G) -> Result<Seen<T>, sup_log::Gone> {
         self.handle.inspect(f)
     }
 
-    #[tactic(auto, using(sup_yard::specs::ReplyLaws::seen_more))]
+    #[tactic(auto, using(crate::specs::ReplyLaws::seen_more))]
     fn learn(&mut self, ticket: &Ticket) -> Result<(), sup_log::Gone> {
         self.handle.learn(ticket)
     }
@@ -249,8 +277,7 @@ impl<
     }
 
     fn another(&self) -> Result<Self, HandleFault> {
-        let handle = self.desk.handle(&self.yard.hub.rt)?;
-        Ok(Client::new(self.desk, handle, self.yard, self.returned))
+        Client::open(self.desk, self.yard, self.returned)
     }
 
     fn keep_children(&self) {

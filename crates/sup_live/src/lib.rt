@@ -24,24 +24,37 @@
 //! [`CrewReport::adds_up`] is whether no exit is owed.
 #![tactic(auto)]
 
+mod alive;
+mod behaviour;
+mod builder;
 mod client;
+mod clock;
 mod crew_client;
+mod driver;
+mod host;
+mod hub;
+mod lead;
 mod left;
-mod own_desk;
+mod mailbox;
 mod peers;
 mod plan;
+mod registry;
 mod report;
-mod resume;
+mod restarts;
 mod run;
 mod started;
 mod threads;
+mod yard;
 
+pub use crate::behaviour::{Behaviour, End};
+pub use crate::clock::{Moment, Moments, Timer};
+pub use crate::mailbox::{ChildRef, Gone, Mailbox};
+pub use crate::restarts::Tally;
+pub use builder::Crew;
 pub use client::{LiveClient, Nobody, Program};
-pub use own_desk::{on_crew, on_crew_with, on_journaled_crew};
 pub use peers::NotRun;
 pub use plan::{LiveFault, Plan};
 pub use report::CrewReport;
 pub use run::run_over;
 pub use started::{NotStarted, Started};
-pub use sup_driver::Tally;
-pub use sup_yard::{Behaviour, ChildRef, End, Exit, Gone, Mailbox, Moment, Moments, Timer};
+pub use sup_exits::Exit;

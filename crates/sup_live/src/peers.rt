@@ -1,15 +1,17 @@
 //! Peers: programs in threads of their own, with a client each.
 ghost use Rattle.std.specs.Prelude.{◌≡◌, ◌≤◌, [], IfOk, vec_len, vec_capacity};
 
+use crate::behaviour::Behaviour;
 use crate::client::Program;
-use crate::crew_client::Client;
+use crate::crew_client::{Client, DeskClient};
+use crate::host::Host;
 use crate::left::Returned;
+use crate::yard::Crew;
 use std::alloc::{AllocError, Global};
 use std::sync::Wait;
 use std::thread::{JoinHandle, Scope};
-use sup_desk::{Desk, Handle, HandleFault, Journal, Name};
+use sup_desk::{Desk, HandleFault, Journal, Name};
 use sup_types::Starter;
-use sup_yard::{Behaviour, Crew, Host, Office};
 use thiserror::Error;
 
 /// Why a peer did not run.
@@ -18,17 +20,14 @@ pub enum NotRun {
     /// No handle could be made for its client.
     #[error("no handle could be made for its client: {0}")]
     NoHandle(HandleFault),
-    /// No thread could be started for it. It has made no handle.
+    /// No thread could be started for it.
     #[error("no thread could be started for it")]
     NoThread,
 }
 
-/// Runs a program by a client of this handle, which has made no call, and returns what came of it.
-pub(crate) fn run_by_client<'d, N, S, Q, J, I, B, P, T>(
-    desk: &'d Desk<N, S, Q, J>,
-    handle: Handle<'d, N, S, Q, J>,
-    yard: &Crew<'_, I, B, P>,
-    returned: &Returned<N, I>,
+/// Runs a program by this client, which then leaves, and returns what came of it.
+pub(crate) fn run_by<'t, 'o, 'h, 'd, N, S, Q, J, B, P, T>(
+    client: DeskClient<'t, 'o, 'h, 'd, N, S, Q, J, B, P>,
     program: T,
 ) -> T::Outcome
 where
@@ -36,41 +35,16 @@ where
     S: Starter + Drop,
     Q: Wait + Drop,
     J: Journal + Drop,
-    I: Office,
     B: Behaviour,
     P: Host,
     T: Program<B>,
-    requires { handle.calls ≡ [] }
 {
-    let mut client = Client::new(desk, handle, yard, returned);
+    let mut client = client;
     program.run(&mut client)
 }
 
-/// Runs a peer by a client of its own.
-fn attend<N, S, Q, J, I, B, P, U>(
-    desk: &Desk<N, S, Q, J>,
-    yard: &Crew<'_, I, B, P>,
-    returned: &Returned<N, I>,
-    peer: U,
-) -> Result<U::Outcome, NotRun>
-where
-    N: Name,
-    S: Starter + Drop,
-    Q: Wait + Drop,
-    J: Journal + Drop,
-    I: Office,
-    B: Behaviour,
-    P: Host,
-    U: Program<B> + Drop,
-{
-    match desk.handle(&yard.hub.rt) {
-        Ok(handle) => Ok(run_by_client(desk, handle, yard, returned, peer)),
-        Err(fault) => Err(NotRun::NoHandle(fault)),
-    }
-}
-
-/// The threads of the peers, in their order. In the place of one that could not be started there is none.
-pub(crate) type PeerThreads<T> = Vec<Option<JoinHandle<Result<T, NotRun>>>>;
+/// The threads of the peers, in their order, or why one does not run.
+pub(crate) type PeerThreads<T> = Vec<Result<JoinHandle<T>, NotRun>>;
 
 /// Makes room for the threads of this many peers, and for what comes of them.
 pub(crate) fn room_for<T: Drop>(
@@ -84,12 +58,12 @@ pub(crate) fn room_for<T: Drop>(
     Ok((threads, Vec::with_capacity(alloc, peers)?))
 }
 
-/// Starts a thread for each peer, and lists them where there is room for them.
-pub(crate) fn start_peers<'s, 'h: 's, 'd: 's, E, N, S, Q, J, I, B, P, U>(
+/// Starts a thread for each peer, by a client of its own, and lists them where there is room for them.
+pub(crate) fn start_peers<'s, 'h: 's, 'd: 's, E, N, S, Q, J, B, P, U>(
     scope: &Scope<'s, E>,
     desk: &'d Desk<N, S, Q, J>,
-    yard: &'s Crew<'h, I, B, P>,
-    returned: &'s Returned<N, I>,
+    yard: &'s Crew<'h, B, P>,
+    returned: &'s Returned<N, P>,
     peers: Vec<U>,
     room: PeerThreads<U::Outcome>,
 ) -> PeerThreads<U::Outcome>
@@ -98,7 +72,6 @@ where
     S: Starter + Drop + Send + Sync + 's,
     Q: Wait + Drop + Send + Sync + 's,
     J: Journal + Drop + Send + 's,
-    I: Office + Send + Sync + 's,
     B: Behaviour + Sync + 's,
     B::Message: Send + 's,
     B::Own: Send + 's,
@@ -111,8 +84,14 @@ where
 {
     let mut threads = room;
     for peer in peers {
-        let begun = scope.spawn(move || attend(desk, yard, returned, peer));
-        threads.push_reserved(begun.ok());
+        let begun = match Client::open(desk, yard, returned) {
+            Ok(client) => {
+                let running = move || run_by(client, peer);
+                scope.spawn(running).map_err(|_| NotRun::NoThread)
+            }
+            Err(fault) => Err(NotRun::NoHandle(fault)),
+        };
+        threads.push_reserved(begun);
     }
     threads
 }
@@ -128,11 +107,7 @@ pub(crate) fn join_peers<P: Host, T: Drop>(
 {
     let mut outcomes = room;
     for thread in threads {
-        let outcome = match thread {
-            Some(thread) => thread.join(rt),
-            None => Err(NotRun::NoThread),
-        };
-        outcomes.push_reserved(outcome);
+        outcomes.push_reserved(thread.map(|thread| thread.join(rt)));
     }
     outcomes
 }

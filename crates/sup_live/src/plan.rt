@@ -2,6 +2,7 @@
 use std::alloc::AllocError;
 use std::time::Duration;
 use sup_desk::{DeskFault, HandleFault, RecoverFault};
+use sup_journal::OpenFault;
 use sup_types::OutOfMemory;
 use thiserror::Error;
 
@@ -18,23 +19,26 @@ pub struct Plan {
     /// For how many more clients and askers a desk of the crew's own has places, beside the program's client and those of the peers.
     /// Each place costs each update a little.
     pub places: u64,
+    /// Whether the children that are listed when the crew closes stay listed.
+    pub keeps: bool,
 }
 
 impl Plan {
     ghost use Rattle.std.specs.Prelude.{◌≡◌};
     ghost use Rattle.std.specs.Duration.{as_nanos};
 
-    /// Makes a plan with this many workers: 1 to 64. A restart that failed is tried again after a second. A child may run for five
+    /// Makes a plan with this many workers: 1 to 64. A restart that failed is tried again at once, as OTP does. A child may run for five
     /// seconds after it was asked to end, as by OTP's default. There are no more places.
     pub fn new(workers: usize) -> Plan
         ensures counts { (result.workers ≡ workers) × (result.places ≡ 0) }
-        ensures times { (as_nanos result.retry_after ≡ 1000000000) × (as_nanos result.grace ≡ 5000000000) }
+        ensures times { (as_nanos result.retry_after ≡ 0) × (as_nanos result.grace ≡ 5000000000) }
     {
         Plan {
             workers,
-            retry_after: Duration::from_secs(1),
+            retry_after: Duration::ZERO,
             grace: Duration::from_secs(5),
             places: 0,
+            keeps: false,
         }
     }
 }
@@ -60,6 +64,9 @@ pub enum LiveFault {
     /// The desk could not continue from the history that was given.
     #[error("the crew could not continue from the history: {0}")]
     History(RecoverFault),
+    /// The file of the journal could not be continued.
+    #[error("{0}")]
+    Journal(OpenFault),
 }
 
 impl LiveFault {
@@ -76,6 +83,7 @@ impl LiveFault {
             Self::NoPlace => 6,
             Self::BadWorkers => 7,
             Self::History(fault) => fault.number(),
+            Self::Journal(fault) => fault.number(),
         }
     }
 }
@@ -115,6 +123,15 @@ impl From<RecoverFault> for LiveFault {
         match fault {
             RecoverFault::OutOfMemory => LiveFault::OutOfMemory,
             _ => LiveFault::History(fault),
+        }
+    }
+}
+
+impl From<OpenFault> for LiveFault {
+    fn from(fault: OpenFault) -> Self {
+        match fault {
+            OpenFault::OutOfMemory => LiveFault::OutOfMemory,
+            _ => LiveFault::Journal(fault),
         }
     }
 }

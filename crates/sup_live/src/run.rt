@@ -1,29 +1,56 @@
 //! Runs.
-ghost use Rattle.std.specs.Prelude.{◌≡◌, ◌<◌, ◌≤◌, ◌+◌, [], IfOk, IfSome, vec_len, vec_capacity};
-ghost use Rattle.sup_ledger.specs.Accounts.{IsNew};
+ghost use Rattle.std.specs.Prelude.{◌≡◌, ◌<◌, ◌≤◌, ◌+◌, ◌-◌, ◌^◌, [], IfOk, IfSome, vec_len, vec_capacity};
+ghost use Rattle.sup_exits.specs.Accounts.{IsNew};
 ghost use Rattle.sup_live.specs.Wholes.{IsReport};
 
+use crate::behaviour::Behaviour;
 use crate::client::Program;
+use crate::clock::Timer;
+use crate::driver::Driver;
+use crate::host::{Host, Timed};
+use crate::hub::Hub;
 use crate::plan::{LiveFault, Plan};
-use crate::report::{CrewReport, bind_all, conclude};
-use crate::threads::{Ends, run_threads};
+use crate::report::{CrewReport, conclude};
+use crate::threads::run_threads;
+use crate::yard::{Crew, Yard};
 use futures::Future;
 use std::alloc::AllocGlobal;
-use std::marker::Brand;
+use std::marker::{Brand, PhantomData};
 use std::random::RandomSource;
 use std::sync::Wait;
 use std::thread::Threads;
 use std::time::Clock;
 use sup_desk::{Desk, DetachedHandle, Handle, Journal, Name};
-use sup_driver::Driver;
-use sup_ledger::{Account, Ledger};
+use sup_exits::{Account, Ledger, Office};
 use sup_types::Starter;
-use sup_yard::{Behaviour, Crew, Host, Hub, Office, Timed, Timer, Yard};
 
 /// Ends a yard. It stands apart, over any future, since the borrow checker of this kit sees no lifetime of a yard's children
 /// outlive the function that made it.
-fn end_yard<'h, I: Office, B: Behaviour, P: Host, F: Future>(yard: Yard<'h, I, B, P, F>) {
+fn end_yard<'h, B: Behaviour, P: Host, F: Future>(yard: Yard<'h, B, P, F>) {
     drop(yard);
+}
+
+/// Returns the handle of the first of these callers, or a new one if there is none, and the other callers, with new ones if there are
+/// fewer than this number.
+fn take_handles<'d, N: Name, S: Starter + Drop, Q: Wait + Drop, J: Journal + Drop, R: Wait>(
+    rt: &R,
+    desk: &'d Desk<N, S, Q, J>,
+    callers: Vec<DetachedHandle<N>>,
+    count: usize,
+) -> Result<(Handle<'d, N, S, Q, J>, Vec<DetachedHandle<N>>), LiveFault> {
+    let mut callers = callers;
+    let first = if callers.is_empty() {
+        desk.handle(rt)?
+    } else {
+        desk.bind(callers.remove(0))
+    };
+    callers.reverse();
+    for _ in callers.len()..count {
+        if callers.push(desk.handle(rt)?.unbind().0).is_err() {
+            return Err(LiveFault::OutOfMemory);
+        }
+    }
+    Ok((first, callers))
 }
 
 /// Runs the crew of an office, and audits its desk, whose earlier handles these are. All handles come back.
@@ -35,7 +62,7 @@ fn run_office<'d, N, S, Q, J, I, B, T, U, R, M>(
     plan: Plan,
     program: T,
     peers: Vec<U>,
-    before: Vec<Handle<'d, N, S, Q, J>>,
+    before: Vec<DetachedHandle<N>>,
     ledger: Ledger,
     root: Account,
 ) -> Result<
@@ -60,36 +87,42 @@ where
     U::Outcome: Send,
     R: Threads + Wait + Clock + RandomSource + AllocGlobal + Sync,
     M: Timer + Drop + Send + Sync,
-    requires ledger { (ledger.id ≡ I.ledger) × (ledger.places ≡ I.places) }
-    requires workers { (0 < plan.workers) × (plan.workers + 1 ≡ I.places) }
-    requires root { IsNew I.ledger I.places root }
+    requires ledger { ledger.id ≡ I.ledger }
+    requires workers { 0 < plan.workers }
+    requires root { IsNew I.ledger (2 ^ 64 - 1) root }
     requires ends { I.may_end ≡ B.may_end behaviour.now }
-    requires given { I.may_give ≡ M.may_give }
-    ensures report { IfOk result (λ r. IsReport (B.may_end behaviour.now) M.may_give N.template (vec_len peers) before.entry.items r.1.items r.0) }
+    ensures report { IfOk result (λ r. IsReport (B.may_end behaviour.now) N.template (vec_len peers) r.1.items r.0) }
     ensures press { IfOk result (λ r. IfSome r.0.audit (λ t. t.press ≡ N.press)) }
 {
     let (alloc, Plan { workers, grace, .. }) = (rt.alloc(), plan);
-    let timed = Timed { rt, timer: moments };
-    let (hub, account): (Hub<I, B, Timed<&R, M>>, Account) = Hub::new(
-        timed, alloc, ledger, root, grace, workers,
-    )?;
-    let handle = desk.handle(rt)?;
-    let driver = Driver::new(
-        alloc,
-        handle,
-        account,
-        hub.ledger.witness(),
-        plan.retry_after,
-    )?;
-    let handle = desk.handle(rt)?;
-    let ends = Ends { driver, handle };
-    let yard: Crew<'_, I, B, Timed<&R, M>> = Yard::new(rt, alloc, &hub, behaviour, workers)?;
-    let ran = run_threads(desk, &yard, ends, program, peers, workers);
-    end_yard(yard);
-    match ran {
-        Ok((joined, clients)) => Ok(conclude(alloc, desk, hub, joined, clients, before)),
-        Err(fault) => Err(fault),
+    let timed = Timed {
+        rt,
+        timer: moments,
+        of: PhantomData,
+    };
+    let hub: Hub<B, Timed<&R, M, I>> = Hub::new(timed, alloc, ledger, grace, workers)?;
+    if plan.keeps {
+        hub.keep_children();
     }
+    let mut root = root;
+    let Some(entered) = hub.ledger.split(&mut root) else {
+        return Err(LiveFault::NoHandle);
+    };
+    let Some(restarted) = hub.ledger.split(&mut root) else {
+        return Err(LiveFault::NoHandle);
+    };
+    // Each peer, and the program, has a handle before any thread begins.
+    let clients = peers.len().saturating_add(1);
+    let most = before.len().max(clients).saturating_add(1);
+    let room = Vec::with_capacity(alloc, most)?;
+    let told = Vec::with_capacity(alloc, most)?;
+    let (handle, spare) = take_handles(rt, desk, before, clients)?;
+    let driver = Driver::new(alloc, handle, entered, restarted, plan.retry_after)?;
+    let yard: Crew<'_, B, Timed<&R, M, I>> = Yard::new(rt, alloc, &hub, behaviour, workers)?;
+    let ran = run_threads(desk, &yard, driver, root, spare, program, peers, workers);
+    end_yard(yard);
+    let (joined, clients) = ran?;
+    Ok(conclude(alloc, desk, hub, joined, clients, room, told))
 }
 
 /// Runs a crew over the desk, until the program and all peers have returned: their clients start children, and the crew runs them,
@@ -114,15 +147,16 @@ where
 /// Children that the history lists when the run begins are of an earlier run. Each begins again under its number, with an empty
 /// mailbox, and is one of the children that were made. A restart that had failed is tried again.
 ///
-/// Two handles of the desk are used: the driver's, and that of the program's client. Each peer that runs takes one more, once its
-/// thread has begun, and each client that a client makes. Then the desk is audited by all of them, and by the handles that were made
-/// before the run: those of these callers. All of these handles come back with the report, in the order of making, so the desk can be
-/// used on, and audited again; each may learn the audit's ticket. If memory is refused for the handle of a client, it is let go, and if
-/// it is refused for the list of them, those of the crew are; then there is no audit.
+/// A run uses a handle of the desk for its driver, one for the program's client, one for each peer, and one for each client that a client
+/// makes: those of these callers, which were made before the run, and new ones once there are no more. So one run after another uses no
+/// more handles than the widest of them. Then the desk is audited by all of them, and by the callers that were not used. All of these
+/// handles come back with the report, in the order of making, so the desk can be used on, and audited again; each may learn the audit's
+/// ticket. If memory is refused for the handle of a client, it is lost, and if it is refused for the list of them, those of the crew are;
+/// then there is no audit.
 ///
 /// # Errors
 /// Nothing was entered, neither the program nor a peer was run, and the handles are let go: `OutOfMemory`; `NoThread`; `NoHandle` and
-/// `NoPlace` if the desk has not two more handles.
+/// `NoPlace` if the desk has not as many handles as the driver, the program and the peers need.
 pub fn run_over<'d, N, S, Q, J, B, T, U, R, M>(
     rt: &R,
     desk: &'d Desk<N, S, Q, J>,
@@ -154,14 +188,11 @@ where
     R: Threads + Wait + Clock + RandomSource + AllocGlobal + Sync,
     M: Timer + Drop + Send + Sync,
     requires workers { (1 ≤ plan.workers) × (plan.workers ≤ 64) }
-    ensures report { IfOk result (λ r. IsReport (B.may_end behaviour.now) M.may_give N.template (vec_len peers) before.items r.1.items r.0) }
+    ensures report { IfOk result (λ r. IsReport (B.may_end behaviour.now) N.template (vec_len peers) r.1.items r.0) }
     ensures press { IfOk result (λ r. IfSome r.0.audit (λ t. t.press ≡ N.press)) }
 {
-    // Room for the handles of the crew is made before the run: of all but the clients that clients make.
-    let most = before.len().saturating_add(peers.len()).saturating_add(2);
-    let handles = bind_all(desk, Vec::with_capacity(rt.alloc(), most)?, before);
-    let (ledger, root) = Ledger::new(rt.alloc(), plan.workers as u64 + 1)?;
+    let (ledger, root) = Ledger::new(rt.alloc())?;
     run_office::<N, S, Q, J, Brand, B, T, U, R, M>(
-        rt, desk, behaviour, moments, plan, program, peers, handles, ledger, root,
+        rt, desk, behaviour, moments, plan, program, peers, before, ledger, root,
     )
 }

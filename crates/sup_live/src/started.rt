@@ -1,11 +1,12 @@
 //! What came of a start.
 ghost use Rattle.std.specs.Prelude.{◌≡◌};
 
+use crate::behaviour::Behaviour;
+use crate::mailbox::ChildRef;
 use std::fmt;
 use sup_desk::UpdateFault;
 use sup_log::Ticket;
 use sup_types::Reply;
-use sup_yard::{Behaviour, ChildRef};
 use thiserror::Error;
 
 /// A start that was entered: its reply, a ticket for the history up to and with it, and the address of the child, if one runs.

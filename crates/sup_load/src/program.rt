@@ -171,8 +171,9 @@ where
 {
     let measured = measure(rt, alloc, load, journal, is_person);
     let outcome = tell(measured, out);
-    if let Err(fault) = outcome {
-        let _ = writeln!(err, "fault {}", fault.number());
+    if let Err(fault) = &outcome {
+        let number = fault.number();
+        let _ = writeln!(err, "fault {number}");
         if detail.said_to(is_person || journal.is_some()) == Detail::Explained {
             explain_load(fault, journal, out, err);
             if let Ok(sums) = measured {
@@ -209,8 +210,9 @@ where
     match serve(rt, alloc, journal, reader, out, notices) {
         Ok(()) => Status::Done,
         Err(fault) => {
-            let _ = writeln!(err, "fault {}", fault.number());
-            explain_server(fault, journal, reader, out, err);
+            let number = fault.number();
+            let _ = writeln!(err, "fault {number}");
+            explain_server(&fault, journal, reader, out, err);
             server_status(fault)
         }
     }
@@ -218,7 +220,7 @@ where
 
 /// Says what is wrong with a load, in a line under that of its fault.
 fn explain_load<W: Write, E: Write>(
-    fault: LoadFault,
+    fault: &LoadFault,
     journal: Option<&str>,
     out: &WatchedWriter<W>,
     err: &mut E,
@@ -234,7 +236,7 @@ fn explain_load<W: Write, E: Write>(
 
 /// Says what is wrong with a server, in a line under that of its fault.
 fn explain_server<R: Read, W: Write, E: Write>(
-    fault: ServeFault,
+    fault: &ServeFault,
     journal: Option<&str>,
     reader: &WatchedReader<R>,
     out: &WatchedWriter<W>,
@@ -249,7 +251,7 @@ fn explain_server<R: Read, W: Write, E: Write>(
 }
 
 /// Names a fault, and then what it is of or what the system answered, if that is known.
-fn explain<E: Write>(fault: impl Display + Drop, cause: Option<impl Display + Drop>, err: &mut E) {
+fn explain<E: Write>(fault: &impl Display, cause: Option<impl Display + Drop>, err: &mut E) {
     let _ = match cause {
         Some(cause) => writeln!(err, "  {fault}: {cause}"),
         None => writeln!(err, "  {fault}"),

@@ -1,5 +1,5 @@
 //! The account of a server, once its sessions have ended.
-ghost use Rattle.std.specs.Prelude.{◌≡◌, ◌↔◌, true, IfErr, IfOk, IsSome, IsTrue};
+ghost use Rattle.std.specs.Prelude.{◌≡◌, ◌↔◌, true, IfErr, IfOk, IsSome, IsTrue, Some};
 ghost use Rattle.sup_serve.specs.declared.fault.ServeFault.TheVariants as fault;
 
 use crate::fault::ServeFault;
@@ -20,10 +20,11 @@ pub struct Account {
 }
 
 impl Account {
-    /// Makes the account of a crew that keeps this many sessions, or returns why serving ended.
-    pub fn of(report: CrewReport<Result<u64, ServeFault>>, kept: u64) -> Result<Account, ServeFault>
-        ensures { IfOk result (λ a. IsTrue a.adds_up ↔ (report.owed ≡ 0) × IsSome report.audit) }
+    /// Makes the account of a crew, or returns why serving ended.
+    pub fn of(report: CrewReport<Result<u64, ServeFault>>) -> Result<Account, ServeFault>
+        ensures { IfOk result (λ a. IsTrue a.adds_up ↔ (report.owed ≡ Some 0) × IsSome report.audit) }
     {
+        let kept = report.listed;
         let adds_up = report.adds_up() && report.is_audited();
         let ran = report.exits.saturating_add(report.left.len() as u64);
         let restarted = report.tally.restarts;

@@ -55,12 +55,9 @@ impl From<AllocError> for ServeFault {
 
 impl From<LiveFault> for ServeFault {
     fn from(fault: LiveFault) -> Self {
-        ServeFault::Crew(fault)
-    }
-}
-
-impl From<OpenFault> for ServeFault {
-    fn from(fault: OpenFault) -> Self {
-        ServeFault::NoJournal(fault)
+        match fault {
+            LiveFault::Journal(fault) => ServeFault::NoJournal(fault),
+            fault => ServeFault::Crew(fault),
+        }
     }
 }

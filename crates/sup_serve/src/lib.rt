@@ -16,7 +16,6 @@ mod answers;
 mod command;
 mod fault;
 mod lines;
-mod recorded;
 mod server;
 mod serving;
 mod session;

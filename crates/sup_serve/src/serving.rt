@@ -4,7 +4,6 @@ ghost use Rattle.sup_serve.specs.declared.fault.ServeFault.TheVariants as fault;
 
 use crate::account::Account;
 use crate::fault::ServeFault;
-use crate::recorded::serve_recorded;
 use crate::server::{Notices, Server};
 use crate::session::Sessions;
 use futures::channel::mpsc::unbounded;
@@ -15,8 +14,8 @@ use std::random::RandomSource;
 use std::sync::Wait;
 use std::thread::Threads;
 use std::time::Clock;
-use sup_journal::LockFile;
-use sup_live::{Plan, on_crew};
+use sup_journal::{Flush, LockFile};
+use sup_live::Crew;
 use sup_script::{WatchedReader, WatchedWriter};
 use sup_types::{Kind, Restart, Template};
 
@@ -114,7 +113,6 @@ where
 {
     let (sender, restarted) = unbounded(alloc)?;
     let sessions = Sessions { restarted: sender };
-    let plan = Plan::new(4);
     let server = Server {
         host: rt,
         alloc,
@@ -124,11 +122,13 @@ where
         is_recorded: journal.is_some(),
         notices,
     };
-    let template = template();
+    let crew = Crew::new(template(), &sessions).threads(4);
     let Some(path) = journal else {
-        let report = on_crew(rt, template, plan, &sessions, server)?;
-        return Account::of(report, 0);
+        return Account::of(crew.run(rt, server)?);
     };
-    let (report, kept) = serve_recorded(rt, path, template, plan, &sessions, server)?;
-    Account::of(report, kept)
+    let (report, closed) = crew.run_in_file(rt, path, Flush::EachUpdate, server)?;
+    match closed.fault {
+        Some(fault) => Err(ServeFault::Journal(fault)),
+        None => Account::of(report),
+    }
 }

@@ -1,17 +1,35 @@
 -- A call that starts nothing.
 use Rattle.sup_types.specs.declared.history.Operation.TheVariants.{Terminate}
-use Rattle.sup_yard.specs.Starts.{child_started}
-use Rattle.sup_yard.specs.ReplyLaws.{called_else, terminates}
+use Rattle.sup_live.specs.Starts.{child_started}
+use Rattle.sup_live.specs.ReplyLaws.{called_else, called_low, terminates}
 use Rattle.sup_live.proofs.crew_client.ClientDeskAliveLiveClient.terminate_child.Goals as goal
 
 pub invariant_of-self : goal.invariant_of-self
-invariant_of-self g c = (
-  c.self.invariant.0,
-  called_else child_started g.S.Starter.may_answer g.N.Name.template g.N.Name.press c.self.inside.handle _ (Terminate c.args.number) _ c.terminate_child.new.self c.terminate_child.result (terminates c.args.number) c.self.invariant.1 c.terminate_child.ensures.result,
-)
+invariant_of-self g c =
+    let may = g.S.Starter.may_answer in
+    let template = g.N.Name.template in
+    let press = g.N.Name.press in
+    let was = c.self.inside in
+    let i = c.self.invariant in
+    let e = c.terminate_child.ensures.result in (
+      i.0,
+      i.1,
+      i.2,
+      called_low child_started was.since may template press was.handle was.account.made (Terminate c.args.number) _ i.3 c.terminate_child.new.self c.terminate_child.result e,
+      called_else child_started was.since may template press was.handle was.account.made (Terminate c.args.number) _ i.3 c.terminate_child.new.self c.terminate_child.result (terminates c.args.number) i.4 e,
+    )
 
 pub invariant_of-self-2 : goal.invariant_of-self-2
-invariant_of-self-2 g c = (
-  c.self.invariant.0,
-  called_else child_started g.S.Starter.may_answer g.N.Name.template g.N.Name.press c.self.inside.handle _ (Terminate c.args.number) _ c.terminate_child.new.self c.terminate_child.result (terminates c.args.number) c.self.invariant.1 c.terminate_child.ensures.result,
-)
+invariant_of-self-2 g c =
+    let may = g.S.Starter.may_answer in
+    let template = g.N.Name.template in
+    let press = g.N.Name.press in
+    let was = c.self.inside in
+    let i = c.self.invariant in
+    let e = c.terminate_child.ensures.result in (
+      i.0,
+      i.1,
+      i.2,
+      called_low child_started was.since may template press was.handle was.account.made (Terminate c.args.number) _ i.3 c.terminate_child.new.self c.terminate_child.result e,
+      called_else child_started was.since may template press was.handle was.account.made (Terminate c.args.number) _ i.3 c.terminate_child.new.self c.terminate_child.result (terminates c.args.number) i.4 e,
+    )

@@ -1,24 +1,34 @@
--- The witness shows the children that one client more started. A handle that is lost has none.
-use Rattle.std.proofs.Common.{rules, ap, sym, subst, [], ◌∷◌, ◌++◌}
-use Rattle.sup_live.specs.Accounts.{AreStartedBy}
-use Rattle.sup_live.proofs.Joining.{one_client_more}
+-- What one client more started is among what was made. A caller that is lost adds nothing to what is listed.
+use Rattle.std.proofs.Common.{◌++◌, ap, sym, ◌∙◌, subst, arith}
+use Rattle.std.specs.Prelude.{is_ok}
+use Rattle.sup_live.specs.Accounts.{AreStartedAmong}
+use Rattle.sup_live.proofs.Listing.{left_more}
 use Rattle.sup_live.proofs.left.Left.add.Goals as goal
 
 pub invariant_of-self : goal.invariant_of-self
 invariant_of-self g c =
     let template = g.N.Name.template in
     let was = c.args.self.now in
-    let more = one_client_more template was.callers.items c.args.caller was.witness.shown c.args.witness.shown was.started c.requires.started in
-    let shown = subst (AreStartedBy template (was.callers.items ++ c.args.caller ∷ [])) (sym (ap (λ w. w.shown) c.show.ensures)) more in
+    let now = c.push.new.self.items in
+    let j = c.join.ensures in
+    let some = was.of_ledger.1 in
+    let parts = ap (λ a. a.parts) j in
+    let more = left_more (is_ok c.push.result) template was.callers.items now c.args.caller was.account.made c.args.account.made c.push.ensures.items was.started c.requires.started in
     record {
-      of_ledger = search rules;
-      started = subst (λ cs. AreStartedBy template cs c.show.new.witness.shown) (sym c.in-Ok.ensures.items) shown;
+      of_ledger = (ap (λ a. a.ledger) j ∙ c.requires.ledger.0, omega (arith, some, parts), ap (λ a. a.paid) j ∙ (λ i. was.of_ledger.2 i ++ c.requires.ledger.2 i));
+      started = subst (AreStartedAmong template now) (sym (ap (λ a. a.made) j)) more;
     }
 
-pub invariant_of-self-in_default : goal.invariant_of-self-in_default
-invariant_of-self-in_default g c =
+pub invariant_of-self-else-is_err : goal.invariant_of-self-else-is_err
+invariant_of-self-else-is_err g c =
+    let template = g.N.Name.template in
     let was = c.args.self.now in
+    let now = c.push.new.self.items in
+    let j = c.join.ensures in
+    let some = was.of_ledger.1 in
+    let parts = ap (λ a. a.parts) j in
+    let more = left_more (is_ok c.push.result) template was.callers.items now c.args.caller was.account.made c.args.account.made c.push.ensures.items was.started c.requires.started in
     record {
-      of_ledger = was.of_ledger;
-      started = subst (λ cs. AreStartedBy g.N.Name.template cs was.witness.shown) (sym c.in_default.ensures.items) was.started;
+      of_ledger = (ap (λ a. a.ledger) j ∙ c.requires.ledger.0, omega (arith, some, parts), ap (λ a. a.paid) j ∙ (λ i. was.of_ledger.2 i ++ c.requires.ledger.2 i));
+      started = subst (AreStartedAmong template now) (sym (ap (λ a. a.made) j)) more;
     }

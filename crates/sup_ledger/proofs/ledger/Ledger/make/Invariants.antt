@@ -1,5 +1,0 @@
-use Rattle.sup_ledger.proofs.ledger.Ledger.make.Given as goal
-
--- the child that is made
-abbrev pub ghosts-make_by : goal.ghosts-make_by
-ghosts-make_by g a = record { child = a.child }

@@ -1,5 +1,0 @@
-use Rattle.sup_ledger.proofs.Balancing.{begins}
-use Rattle.sup_ledger.proofs.ledger.Ledger.new.Goals as goal
-
-pub of_words-requires : goal.of_words-requires
-of_words-requires c = begins _

@@ -1,6 +1,0 @@
-use Rattle.std.proofs.Common.{rules}
-use Rattle.sup_ledger.proofs.Balancing.{joins_all}
-use Rattle.sup_ledger.proofs.ledger.Ledger.show.Goals as goal
-
-pub join_seat-requires : goal.join_seat-requires
-join_seat-requires c = (search rules, search rules, search rules, search rules, joins_all _ _ _ _ _)

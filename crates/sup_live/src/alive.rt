@@ -1,0 +1,97 @@
+//! Children as tasks.
+ghost use Rattle.std.specs.Prelude.{◌≡◌, IfSome, MatchResult, if◌then◌else◌};
+ghost use Rattle.sup_exits.specs.Endings.{killed, not_run};
+ghost use Rattle.sup_live.specs.Ends.{EndsBy};
+
+use crate::behaviour::{Behaviour, End};
+use crate::host::Host;
+use crate::hub::Hub;
+use futures::Future;
+use futures::future::{Abortable, Aborted};
+use futures::task::{Context, Poll};
+use sup_exits::{Due, Office};
+use sup_types::{Reason, Word};
+
+/// A child that is alive. However it is let go, its exit waits to be entered.
+pub struct Alive<'h, B: Behaviour, P: Host> {
+    pub(crate) hub: &'h Hub<B, P>,
+    pub(crate) child: Option<Abortable<B::Child>>,
+    pub(crate) due: Option<Due<P>>,
+    /// Whether it was polled.
+    pub(crate) began: bool,
+}
+
+/// Why a child ended that was let go, as OTP names it: `killed`.
+fn killed() -> Reason
+    ensures { result ≡ killed }
+{
+    match Word::new(b"killed") {
+        Some(word) => Reason::Other(word),
+        None => unreachable!(),
+    }
+}
+
+/// Returns why a child ended that could not be run: `not_run`.
+pub(crate) fn not_run() -> Reason
+    ensures { result ≡ not_run }
+{
+    match Word::new(b"not_run") {
+        Some(word) => Reason::Other(word),
+        None => unreachable!(),
+    }
+}
+
+/// The end of the child, or that of one whose time was over.
+fn end_of<O>(ended: Result<End<O>, Aborted>) -> End<O>
+    ensures { MatchResult ended (λ end. result.reason ≡ end.reason) (λ _. result.reason ≡ killed) }
+{
+    match ended {
+        Ok(end) => end,
+        Err(_) => killed().into(),
+    }
+}
+
+/// The reason of a child that was let go: `killed`, or `not_run` where it never ran.
+fn let_go(ran: bool) -> Reason
+    ensures { result ≡ (if ran then killed else not_run) }
+{
+    if ran { killed() } else { not_run() }
+}
+
+impl<'h, B: Behaviour, P: Host> Drop for Alive<'h, B, P> {
+    fn drop(self) {
+        let Alive {
+            hub,
+            child,
+            due,
+            began,
+        } = self;
+        drop(child);
+        if let Some(due) = due {
+            hub.exited(due, let_go(began).into());
+        }
+    }
+}
+
+impl<'h, B: Behaviour, P: Host> Future for Alive<'h, B, P> {
+    type Output = ();
+
+    ghost can_poll = { λ l. IfSome l.child (λ child. B.Child.can_poll child.task × EndsBy B.Child.gives P.may_end child.task) };
+
+    fn poll(&mut self, cx: &mut Context<'_>) -> Poll<()> {
+        self.began = true;
+        let Some(child) = &mut self.child else {
+            return Poll::Ready(());
+        };
+        match child.poll(cx) {
+            Poll::Pending => Poll::Pending,
+            Poll::Ready(ended) => {
+                self.child = None;
+                if let Some(due) = self.due.take() {
+                    self.hub.exited(due, end_of(ended));
+                }
+                Poll::Ready(())
+            }
+        }
+    }
+}

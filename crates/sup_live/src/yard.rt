@@ -1,0 +1,196 @@
+//! Yards: where children run.
+ghost use Rattle.std.specs.Prelude.{◌≡◌, ◌<◌, ◌/◌, [], ◌∷◌, ◌++◌, IfOk, IfSome, true};
+ghost use mathlib.Core.List.{IsPrefix};
+ghost use Rattle.sup_live.specs.Ends.{EndsBy};
+ghost use Rattle.sup_live.specs.Starts.{child_started, given_back, started_as};
+
+use crate::alive::{Alive, not_run};
+use crate::behaviour::Behaviour;
+use crate::clock::Moment;
+use crate::host::Host;
+use crate::hub::Hub;
+use crate::mailbox::{ChildRef, opened};
+use futures::Future;
+use futures::executor::TaskSet;
+use futures::future::Abortable;
+use futures::task::{Doorbell, Hold};
+use std::alloc::{AllocError, AllocGlobal, Global};
+use std::random::RandomSource;
+use std::sync::Arc;
+use sup_desk::{HandleOf, Name};
+use sup_exits::{Account, Child, Due, Office};
+use sup_types::{Operation, OutOfMemory, Reply, Seen, Text};
+
+/// How many workers share a queue of the children that are to be polled.
+const WORKERS_OF_A_QUEUE: usize = 4;
+
+/// The tasks of a crew, with what they share. By its type, its children may end for the reasons of which the office may be told.
+#[derive(Drop)]
+pub struct Yard<'h, B: Behaviour, P: Host, F: Future> {
+    /// Where the crew takes memory.
+    pub alloc: Global,
+    /// What the threads of the crew share.
+    pub hub: &'h Hub<B, P>,
+    behaviour: &'h B,
+    tasks: TaskSet<F>,
+    ghost ends: { P.may_end ≡ B.may_end behaviour.now },
+}
+
+/// A yard whose children are those of the behaviour.
+pub type Crew<'h, B, P> = Yard<'h, B, P, Alive<'h, B, P>>;
+
+impl<'h, B: Behaviour, P: Host, F: Future> Yard<'h, B, P, F> {
+    /// Returns the moment now, which the crew's clock gave.
+    pub fn now(&self) -> Moment {
+        self.hub.rt.now()
+    }
+
+    /// Tells the behaviour that the child with this number was restarted as this one.
+    pub fn tell_restarted(&self, number: u64, child: &Child) {
+        self.behaviour.restarted(number, child.number, &child.arg);
+    }
+
+    /// Makes the workers go, and lets all children go that are left.
+    pub fn shut_down(&self) {
+        self.tasks.shut_down();
+    }
+
+    /// Makes the child of this number and argument, which owns this and is alive from now on, and its address.
+    fn admit(
+        &self,
+        number: u64,
+        arg: &Text,
+        own: Option<B::Own>,
+    ) -> Result<(Abortable<B::Child>, ChildRef<B::Message>), AllocError>
+        ensures child { IfOk result (λ r. B.Child.can_poll r.0.task × EndsBy B.Child.gives P.may_end r.0.task) }
+        ensures address { IfOk result (λ r. r.1.number ≡ number) }
+    {
+        let (mailbox, room) = opened(self.alloc)?;
+        let address = ChildRef {
+            number,
+            room: Arc::try_clone(&room)?,
+        };
+        let child = self.behaviour.begin(number, arg, own, mailbox);
+        let (child, abort) = Abortable::new(self.alloc, child)?;
+        let hub = self.hub;
+        hub.registry.lock(&hub.rt).open(number, room, abort)?;
+        Ok((child, address))
+    }
+}
+
+impl<'h, B: Behaviour, P: Host> Yard<'h, B, P, Alive<'h, B, P>> {
+    /// Makes a yard in which no child runs, for this number of workers.
+    pub fn new<R: RandomSource + AllocGlobal>(
+        rt: &R,
+        alloc: Global,
+        hub: &'h Hub<B, P>,
+        behaviour: &'h B,
+        workers: usize,
+    ) -> Result<Yard<'h, B, P, Alive<'h, B, P>>, OutOfMemory>
+        requires ends { P.may_end ≡ B.may_end behaviour.now }
+    {
+        // A worker takes the next child of its own queue at once. It leaves the only one of another queue to that queue's workers
+        // for a while, though they may all be asleep.
+        let queues = (workers / WORKERS_OF_A_QUEUE).max(1);
+        let Ok(tasks) = TaskSet::new(rt, Doorbell::parking(), queues) else {
+            return Err(OutOfMemory);
+        };
+        Ok(Yard {
+            alloc,
+            hub,
+            behaviour,
+            tasks,
+        })
+    }
+
+    /// Returns a hold. While it is there, workers wait for children that are still to come.
+    pub fn hold(&self) -> Result<Vec<Hold<'_>>, AllocError> {
+        self.tasks.hold(self.alloc)
+    }
+
+    /// Runs children, as the worker with this number, until the yard is shut down, or no hold of it and no child is left. Then
+    /// the worker has gone.
+    pub fn work(&self, worker: usize) {
+        self.tasks.work(&self.hub.rt, worker);
+        self.hub.worker_went();
+    }
+
+    /// Runs a child that was made, and gives its address. If that is refused, it has ended at once, with what it owns, and has none.
+    fn spawn(&self, due: Due<P>, own: Option<B::Own>) -> Option<ChildRef<B::Message>>
+        ensures { IfSome result (λ address. address.number ≡ due.debt.child.number) }
+    {
+        let Child { number, arg } = due.child();
+        match self.admit(number, &arg, own) {
+            Ok((child, address)) => {
+                let _ = self.tasks.spawn(Alive {
+                    hub: self.hub,
+                    child: Some(child),
+                    due: Some(due),
+                    began: false,
+                });
+                Some(address)
+            }
+            Err(_) => {
+                self.hub.exited(due, not_run().into());
+                None
+            }
+        }
+    }
+
+    /// Makes and runs a child that was started, by this account, whose exit has room in the queue at this place. One that is listed no more is asked to end: who ends a child enters that first, and then looks for it among those that are
+    /// alive.
+    pub fn begin<N: Name, D>(
+        &self,
+        handle: &mut HandleOf<'_, N, D>,
+        account: &mut Account,
+        moment: Moment,
+        child: Child,
+        own: Option<B::Own>,
+        place: usize,
+    ) -> Option<ChildRef<B::Message>>
+        requires { (account.old.ledger ≡ P.ledger) × (0 < account.old.parts) }
+        ensures address { IfSome result (λ address. address.number ≡ child.number) }
+        ensures front { IsPrefix handle.old.front handle.new.front }
+        ensures calls { (handle.new.calls ≡ handle.old.calls) × (handle.new.number ≡ handle.old.number) }
+        ensures account { account.new ≡ record account.old { made = account.old.made ++ child ∷ [] } }
+    {
+        let due = self.hub.owe(account, child, place);
+        let address = self.spawn(due, own);
+        if !matches!(handle.child(child.number), Ok(Seen::Up(Some(_)))) {
+            self.hub.end(child.number, moment);
+        }
+        address
+    }
+
+    /// Makes and runs the child that was started, if one was, by this account, whose exit has room in the queue at this place, and
+    /// gives its address. If none was, the room is given back, and what the child was to own.
+    pub fn begin_started<N: Name, D>(
+        &self,
+        handle: &mut HandleOf<'_, N, D>,
+        account: &mut Account,
+        moment: Moment,
+        arg: Text,
+        own: B::Own,
+        place: usize,
+        reply: &Reply,
+    ) -> (Option<ChildRef<B::Message>>, Option<B::Own>)
+        requires { (account.old.ledger ≡ P.ledger) × (0 < account.old.parts) }
+        ensures address { IfSome result.0 (λ address. started_as reply.now ≡ address.number ∷ []) }
+        ensures own { result.1 ≡ given_back own reply.now }
+        ensures front { IsPrefix handle.old.front handle.new.front }
+        ensures calls { (handle.new.calls ≡ handle.old.calls) × (handle.new.number ≡ handle.old.number) }
+        ensures account { account.new ≡ record account.old { made = account.old.made ++ child_started (Operation.Start arg) reply.now } }
+    {
+        if let Reply::Started(number) = reply {
+            let number = *number;
+            let child = Child { number, arg };
+            (
+                self.begin(handle, account, moment, child, Some(own), place),
+                None,
+            )
+        } else {
+            self.hub.free_room(place);
+            (None, Some(own))
+        }
+    }
+}

@@ -1,6 +1,0 @@
--- The search is bound to what is named, so that a mutant is refused soon.
-use Rattle.std.proofs.Common.{rules}
-use Rattle.sup_yard.proofs.yard.Yard+I+B+P+Alive+I+B+P.spawn.Goals as goal
-
-pub exited-requires : goal.exited-requires
-exited-requires g c = search rules
