@@ -87,12 +87,12 @@ def try_installs(tally, room, library):
 def try_places(tally, room, tree, version):
     """DESTDIR, another folder for libraries, what is removed, and wrong words."""
     env = {**os.environ, "DESTDIR": f"{room}/staged"}
-    words = ["--libdir", "lib64", "/opt/my prefix"]
+    words = ["--libdir", "lib64", "/usr/my prefix"]
     why_not = why(ran([f"{tree}/install", *words], env=env))
-    found, wanted = listed(f"{room}/staged/opt/my prefix"), sorted(INSTALLED.replace("LIB", "lib64").replace("VERSION", version).split())
+    found, wanted = listed(f"{room}/staged/usr/my prefix"), sorted(INSTALLED.replace("LIB", "lib64").replace("VERSION", version).split())
     tally.check("what is installed", why_not or (None if found == wanted else f"{found}, and not {wanted}"))
-    with open(f"{room}/staged/opt/my prefix/lib64/pkgconfig/sapyguendo.pc", encoding="utf-8") as it:
-        tally.check("its own prefix", None if "prefix=/opt/my prefix\n" in it.read() else "the prefix has DESTDIR in it")
+    with open(f"{room}/staged/usr/my prefix/lib64/pkgconfig/sapyguendo.pc", encoding="utf-8") as it:
+        tally.check("its own prefix", None if "prefix=/usr/my prefix\n" in it.read() else "the prefix has DESTDIR in it")
     why_not = why(ran([f"{tree}/install", "--uninstall", *words], env=env))
     tally.check("what is removed", why_not or (f"{listed(f'{room}/staged')} remain" if listed(f"{room}/staged") else None))
     wrong = ([], ["--libdir"], ["--libdir", "/lib", "x"], ["--libdir", "../lib", "x"], ["x", "y"], ["--other", "x"], [""])
