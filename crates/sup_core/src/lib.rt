@@ -1,10 +1,18 @@
 //! A supervisor of one thread, whose children are all instances of one template, by the rules of OTP's strategy `simple_one_for_one`.
 //!
-//! What the layer above may rely on: the rules are the definitions in `specs/` that compute each reply and each answer anew from the whole
-//! history (the reference semantics: `reply_after`, `which`, `count`, `child`). After every history [`Sup::step`] and every query answer as
-//! the reference semantics does. A step needs no memory, and is never refused while the history is not full: the supervisor makes room at
-//! first for all that its template allows.
+//! # What is proved
+//! - After every history [`Sup::step`] and every query answer as the reference semantics: the definitions in `specs/` that compute each reply
+//!   and each answer anew from the whole history (`reply_after`, `which`, `count`, `child`).
+//! - A step is never refused while the history is not full.
 //!
+//! # What is on trust
+//! The toolchain, the contracts of the kit's `indexmap`, and that the definitions are OTP's rules.
+//!
+//! # What is only tested
+//! That the rules are those of OTP 25 (`tools/partners`), and that a step takes no memory: the supervisor makes room at first for all that its
+//! template allows.
+//!
+//! # How it is used
 //! It reads no clock: the caller gives the moment. [`Sup::update`] asks the start function itself, when the rules ask it:
 //!
 //! ```text

@@ -32,7 +32,7 @@ pub struct Dones<A: Allocator = Global> {
     pub ticket: Ticket,
 }
 
-/// Holds the result of a batch of which only the first operations were entered: the replies to these, a ticket for the history up to and
+/// Holds the result of a batch whose first operations alone were entered: the replies to these, a ticket for the history up to and
 /// with the last of them, if there is one, and why the others were not.
 #[derive(Drop)]
 pub struct Part<A: Allocator = Global> {

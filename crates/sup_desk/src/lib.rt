@@ -1,17 +1,22 @@
 //! A desk: a supervisor that threads share by reference. Updates go one at a time through a book under a lock, and queries take no lock and
-//! never wait.
+//! never wait. A desk may have a [`Journal`], which records each update before anyone sees it.
 //!
-//! A [`Handle`] knows its number, the front of the history that it has seen, and its own calls. An update is entered at the end of one front,
-//! which begins with all that the handle had seen, learnt or done, and is answered as by a supervisor of one thread there. So is a query,
-//! at such a front. A refused update leaves the history and every published answer as they were. A queue of operations is one publication,
-//! visible whole or not at all. [`Desk::audit`] shows that the history is the calls of all handles and nothing else.
+//! # What is proved
+//! - A [`Handle`] knows its number, the front of the history that it has seen, and its own calls. An update is entered at the end of one front,
+//!   which begins with all that the handle had seen, learnt or done, and is answered as by a supervisor of one thread there. So is a query.
+//! - A refused update leaves the history and every published answer as they were. A queue of operations is one publication.
+//! - [`Desk::audit`] shows that the history is the calls of all handles and nothing else. [`Desk::recover`] and a [`Recovery`] continue just
+//!   the history that a journal has recorded.
 //!
-//! A desk may have a [`Journal`], which records each update before anyone sees it. Once it breaks off, updates are refused, and queries
-//! continue. [`Desk::recover`] continues what a journal has recorded, and a [`Recovery`] does so entry by entry.
+//! # What is on trust
+//! The toolchain, the contracts of the kit's `logbook` and `atomic_table`, and that an update's wait for running looks ends.
 //!
-//! A value behind a lock is known by its type alone. So the desk and its handles carry a type parameter `N: Name`, whose members are the
-//! press, the template and the session registry. [`on_desk`] makes a desk, picks its name and runs a [`Program`] on it, so that its caller
-//! writes no proof:
+//! # What is only tested
+//! That [`on_desk`] makes its desk of what it is given, that calls which may wait return, and that no look is refused.
+//!
+//! # How it is used
+//! A value behind a lock is known by its type alone. So the desk and its handles carry a type parameter `N: Name`. [`on_desk`] makes a desk,
+//! picks its name and runs a [`Program`] on it, so that its caller writes no proof:
 //!
 //! ```text
 //! impl<R: Wait> Program<AlwaysRunning, R> for Sessions {
@@ -26,8 +31,7 @@
 //!         ..
 //! ```
 //!
-//! A program with threads, or that proves more, makes a [`Ground`], and then calls a function of its own that is generic in `N`, with std's
-//! `Brand` for `N`, which three lines of its proof let name that ground.
+//! A program with threads makes a [`Ground`], and then calls a function of its own that is generic in `N`, with std's `Brand` for `N`.
 #![tactic(auto)]
 
 mod asker;

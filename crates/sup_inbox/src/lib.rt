@@ -1,9 +1,16 @@
 //! Exits on their way: a bounded inbox of exit notes, with any number of posters and one taker.
 //!
-//! What the layer above may rely on: nothing is lost, doubled or invented. A poster's notes carry its number and the
-//! serials 0, 1, 2, ..; what the taker took and what remains at the end are, for every poster, what it posted, in its
-//! order, and there is no other note. The queue is the kit's ruled array queue; the rule is in `specs/Delivery`.
+//! # What is proved
+//! Nothing is lost, doubled or invented. A poster's notes carry its number and the serials 0, 1, 2, ..; what the taker took and what remains
+//! at the end are, for every poster, what it posted, in its order, and there is no other note (the rule is in `specs/Delivery`).
 //!
+//! # What is on trust
+//! The toolchain, and the contracts of the kit's ruled array queue of `crossbeam_queue` and of `atomic_table`.
+//!
+//! # What is only tested
+//! That a post is refused only if the inbox is full, that a take finds a note that was posted, and that calls which may wait return.
+//!
+//! # How it is used
 //! ```text
 //! let (inbox, root) = Inbox::new(alloc, 64)?;
 //! let (posters, taker) = root.split(alloc, &inbox, 4)?;

@@ -1,28 +1,7 @@
 //! Publishes the history of a supervisor in two replicas, which threads look at without a lock.
 //!
-//! A [`Press`] collects pending entries, answers them in order, and publishes them in one step. A [`Lens`] is the place of one
-//! reader: a look enters a copy, calls a function once on a [`View`] of it, and leaves. The copy is the supervisor after one front (a
-//! prefix) of the published history, and the fronts that a lens sees never go back. A [`Ticket`] is a front as plain data, a causal
-//! timestamp: it may be copied, shared and sent to another thread, and a lens that learnt it sees nothing older from then on.
-//!
-//! ```text
-//! let mut press = Press::new(alloc, &rt, template, 2)?;
-//! let mut lens = press.lens()?;
-//! let mut ready = press.ready(&rt);
-//! let Some(asked) = ready.asks(&operation, moment) else { .. };
-//! ready.append(&entry)?;
-//! let reply = ready.step(&asked);
-//! ready.publish(&rt);
-//! let ticket = press.tell();
-//! lens.learn(&ticket)?;
-//! let (stamp, counts) = lens.look(|view| (view.stamp(), view.counts()))?;
-//! press.close(&rt);
-//! ```
-//!
-//! The replicas are those of `left_right`, under a rule of this crate. The press answers entries on the copy that is not shown:
-//! [`Press::ready`] takes that copy out of the reach of lenses and has it step what it lacks, [`Ready::step`] steps an entry there, and
-//! [`Ready::publish`] shows it. So each copy steps each entry once, and there is no third supervisor that decides. The history is a
-//! book of `logbook`, which exists in the proofs alone.
+//! A [`Press`] collects pending entries, answers them in order, and publishes them in one step. A [`Lens`] is the place of one reader: a look
+//! enters a copy, calls a function once on a [`View`] of it, and leaves. A [`Ticket`] is a front (a prefix of the history) as plain data.
 //!
 //! # What is proved
 //! - `publish` appends what is pending to the published history, in order, and leaves nothing pending. It can't be refused.
@@ -38,6 +17,23 @@
 //! # What is only tested
 //! - That a lens is refused only if all places are taken: `left_right` has no clause for this.
 //! - That no look is refused while its press exists.
+//!
+//! # How it is used
+//! [`Press::ready`] takes the copy that is not shown out of the reach of lenses, [`Ready::step`] steps an entry there, and [`Ready::publish`]
+//! shows it. So each copy steps each entry once.
+//!
+//! ```text
+//! let mut press = Press::new(alloc, &rt, template, 2)?;
+//! let mut lens = press.lens()?;
+//! let mut ready = press.ready(&rt);
+//! let Some(asked) = ready.asks(&operation, moment) else { .. };
+//! ready.append(&entry)?;
+//! let reply = ready.step(&asked);
+//! ready.publish(&rt);
+//! lens.learn(&press.tell())?;
+//! let (stamp, counts) = lens.look(|view| (view.stamp(), view.counts()))?;
+//! press.close(&rt);
+//! ```
 #![tactic(auto)]
 
 mod faults;

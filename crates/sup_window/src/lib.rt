@@ -1,12 +1,18 @@
-//! How many restarts a supervisor allows within a period (OTP's manual of `supervisor`, "Supervision principles",
-//! maximum restart intensity).
+//! How many restarts a supervisor allows within a period (OTP's manual of `supervisor`, "Supervision principles", maximum restart intensity).
 //!
-//! What the layer above may rely on: an attempt is allowed exactly if the attempts that count at its moment, itself
-//! included, are at most the intensity. An attempt made at moment `m` counts at moment `t` if `t <= m + period`. The
-//! window decides as counting over all attempts ever made would (`HasSeen`), and keeps only the last of them, one more
-//! than are allowed. Which it keeps no other crate knows: `laws` says that those decide as all do (`remembered`). After
-//! it is made it takes no memory.
+//! # What is proved
+//! - An attempt is allowed exactly if the attempts that count at its moment, itself included, are at most the intensity. One of moment `m`
+//!   counts at moment `t` if `t <= m + period`, without wrapping.
+//! - The window decides as counting over all attempts ever made would (`HasSeen`), and keeps only the last of them, one more than are allowed.
+//!   `laws` says that those decide as all do (`remembered`), and no other crate knows which they are.
 //!
+//! # What is on trust
+//! The toolchain, and the contracts of the kit's `circular_buffer`.
+//!
+//! # What is only tested
+//! That a window is made if there is memory. After that it takes none.
+//!
+//! # How it is used
 //! ```text
 //! let mut window = Window::new(alloc, 1, 5)?;
 //! assert!(window.attempt(10));
