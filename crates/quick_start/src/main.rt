@@ -33,7 +33,7 @@ fn open<N: Name, R: Wait + Print>(
     Ok(())
 }
 
-/// The session crashes, and the watcher, which learns of it, sees that it runs again.
+/// Has the session crash. The watcher, which learns of it, sees that it runs again.
 fn crash<N: Name, R: Wait + Print>(
     rt: &R,
     server: &mut Handle<'_, N, AlwaysRunning, &R>,
