@@ -45,6 +45,8 @@ NEEDED = {
 
 def loaded(name, file):
     """A module of the kit, from a file whose name does not end in .py."""
+    if not os.path.isfile(file):
+        sys.exit(f"tools/kit.py: this kit has no {file}, and the tools use its {', '.join(NEEDED['bin/' + os.path.basename(file)])}")
     loader = importlib.machinery.SourceFileLoader(name, file)
     spec = importlib.util.spec_from_loader(name, loader)
     module = importlib.util.module_from_spec(spec)

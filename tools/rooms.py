@@ -122,6 +122,12 @@ class Room:
         """Says what the launcher has left among the temporary files, if it has."""
         return f"it has left {found}" if (found := os.listdir(self.tmp)) else None
 
+    def await_call(self):
+        """Waits until the stand-in is called, and at most as long as a run may take."""
+        end = time.monotonic() + SECONDS
+        while not self.calls() and time.monotonic() < end:
+            time.sleep(0.01)
+
     def calls(self):
         """Returns the calls of the stand-in: what it was to do, and in which crate."""
         with contextlib.suppress(FileNotFoundError), open(f"{self.folder}/bin/rt.calls", encoding="utf-8") as it:
