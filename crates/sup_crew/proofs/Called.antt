@@ -16,7 +16,7 @@ use Rattle.sup_types.specs.declared.history.Reply.{Reply}
 use Rattle.sup_core.specs.Account.{Item, account, item_of, reply_after}
 use Rattle.sup_core.specs.AccountLaws.{account-push}
 use Rattle.sup_log.specs.Tokens.{Told}
-use Rattle.sup_desk.specs.Knowledge.{Knowledge, entries_of, IsUpdated}
+use Rattle.sup_desk.specs.Knowledge.{Knowledge, entries_of}
 use Rattle.sup_desk.specs.Batches.{AreEntered, IsApplied}
 use Rattle.sup_desk.specs.BatchLaws.{entered-own}
 use Rattle.sup_desk.specs.EntryLaws.{entries-append, entries-one, entries-other, entries_prefix}
@@ -142,19 +142,4 @@ module _ (may : Text → ℕ → Answer → Type 0) (template : Template) (press
       ∙ entries-append before.number h.front h.entries
       ∙ ap (λ l. l ++ entries_of h.entries before.number) h.met.own
       ∙ ap (λ l. before.calls ++ l) (entered-own may template before.number moment h.front (length before.calls) operations h.entries replies h.entered)
-      ∙ sym (ap (λ (k : Knowledge). k.calls) h.after_is)
-
-  pub updated-since : (operation : Operation) (moment : ℕ) (reply : Reply) (now : Told) → (h : IsUpdated may template press before operation moment after reply now)
-      → calls_of template after.front before.number ≡ calls_of template h.front before.number ++ record { operation = operation; reply = reply } ∷ []
-  updated-since operation moment reply now h =
-      ap (λ (k : Knowledge). calls_of template k.front before.number) h.after_is
-      ∙ calls-own template h.front h.entry before.number h.entered.handle_is
-      ∙ (λ i. calls_of template h.front before.number ++ record { operation = h.entered.operation_is i; reply = sym h.reply_is i } ∷ [])
-
-  pub updated-own : (operation : Operation) (moment : ℕ) (reply : Reply) (now : Told) → IsUpdated may template press before operation moment after reply now
-      → entries_of after.front after.number ≡ after.calls
-  updated-own operation moment reply now h =
-      ap (λ (k : Knowledge). entries_of k.front k.number) h.after_is
-      ∙ entries-one before.number h.front h.entry h.entered.handle_is
-      ∙ ap (λ l. l ++ h.entry ∷ []) h.met.own
       ∙ sym (ap (λ (k : Knowledge). k.calls) h.after_is)

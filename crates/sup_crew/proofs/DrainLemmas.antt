@@ -101,12 +101,12 @@ exits-count zero xs h = refl
 exits-count (suc k) [] h = absurd (omega (arith, h))
 exits-count (suc k) (n ∷ ns) h = ap suc (exits-count k ns (omega (arith, h)))
 
-take-le : {A : Type 0} (k : ℕ) (xs : List A) → length (take k xs) ≤ length xs
+pub take-le : {A : Type 0} (k : ℕ) (xs : List A) → length (take k xs) ≤ length xs
 take-le zero xs = omega arith
 take-le (suc k) [] = omega arith
 take-le (suc k) (x ∷ xs) = let h = take-le k xs in omega (arith, h)
 
-take-within : (j k : ℕ) (xs : List Note) → j ≤ k → take j (take k xs) ≡ take j xs
+pub take-within : {A : Type 0} (j k : ℕ) (xs : List A) → j ≤ k → take j (take k xs) ≡ take j xs
 take-within zero k xs h = refl
 take-within (suc j) zero xs h = absurd (omega (arith, h))
 take-within (suc j) (suc k) [] h = refl

@@ -5,7 +5,6 @@ use Rattle.sup_types.specs.declared.history.Entry.{Entry}
 use Rattle.sup_types.specs.declared.history.Reply.{Reply}
 use Rattle.sup_types.specs.declared.history.Reply.TheVariants.{Started, Restarted}
 use Rattle.sup_core.specs.Account.{account, made_count}
-use Rattle.sup_inbox.specs.declared.note.Note.{Note}
 
 -- numbers go from 1, one for each child that was made
 abbrev pub IsBorn : Template → List Entry → ℕ → Type 0
@@ -17,7 +16,7 @@ IsBornBy template front (Started number) = IsBorn template front number
 IsBornBy template front (Restarted old number) = IsBorn template front number
 IsBornBy template front _ = Unit {0}
 
--- the children that exits with these replies made
-abbrev pub AreBornBy : Template → List Entry → List (Note × Reply) → Type 0
+-- the children that updates with these replies made
+abbrev pub AreBornBy : Template → List Entry → List Reply → Type 0
 AreBornBy template front [] = Unit {0}
-AreBornBy template front (p ∷ ps) = IsBornBy template front p.1 × AreBornBy template front ps
+AreBornBy template front (reply ∷ replies) = IsBornBy template front reply × AreBornBy template front replies

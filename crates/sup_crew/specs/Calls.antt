@@ -50,6 +50,11 @@ abbrev pub start_of : Operation → List Text
 start_of (Start arg) = arg ∷ []
 start_of _ = []
 
+-- the starts of children with these arguments
+abbrev pub starts_of : List Text → List Operation
+starts_of [] = []
+starts_of (arg ∷ args) = Start arg ∷ starts_of args
+
 abbrev pub starts_in : List Call → List Text
 starts_in [] = []
 starts_in (c ∷ cs) = start_of c.operation ++ starts_in cs

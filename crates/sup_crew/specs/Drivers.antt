@@ -35,6 +35,11 @@ abbrev pub started_job : Text → Reply → List Child
 started_job arg (Started number) = record { number = number; arg = arg } ∷ []
 started_job arg _ = []
 
+abbrev pub started_jobs : List Text → List Reply → List Child
+started_jobs args [] = []
+started_jobs [] (reply ∷ replies) = []
+started_jobs (arg ∷ args) (reply ∷ replies) = started_job arg reply ++ started_jobs args replies
+
 abbrev pub restarted_job : Note → Reply → List Child
 restarted_job note (Restarted old number) = record { number = number; arg = note.arg } ∷ []
 restarted_job note _ = []

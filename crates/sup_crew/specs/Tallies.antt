@@ -62,6 +62,7 @@ with_reply t exits reply =
       refused = t.refused + bit (not exits && not (makes_child reply));
     }
 
-abbrev pub with_exits : Tally → List Reply → Tally
-with_exits t [] = t
-with_exits t (reply ∷ replies) = with_exits (with_reply t true reply) replies
+-- further calls: exits, or else starts
+abbrev pub with_replies : Tally → Bool → List Reply → Tally
+with_replies t exits [] = t
+with_replies t exits (reply ∷ replies) = with_replies (with_reply t exits reply) exits replies

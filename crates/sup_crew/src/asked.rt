@@ -25,7 +25,6 @@ impl Model for Asked {
 }
 
 impl Asked {
-    /// Returns the count of no question.
     pub(crate) fn nothing() -> Asked
         ensures { result ≡ 0 }
     {
@@ -48,7 +47,6 @@ impl Asked {
         Ok(answer)
     }
 
-    /// Returns how many questions were answered.
     pub fn count(&self) -> u64
         ensures { result ≡ self.now }
     {

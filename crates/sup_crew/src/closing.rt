@@ -18,13 +18,9 @@ use sup_inbox::{Note, Poster, settle};
 /// Holds room for what the end of a run hands over. It is made before the run, so that its end takes no memory.
 #[derive(Drop)]
 pub struct Buffers {
-    /// For the posters that the workers hand back.
     pub posters: Vec<Poster>,
-    /// For the notes that they could not post.
     pub unposted: Vec<Note>,
-    /// For the notes that remain in the inbox.
     pub inbox: Vec<Note>,
-    /// For the notes that the drain holds.
     pub held: Vec<Note>,
 }
 
@@ -54,7 +50,6 @@ fn collect<N: Name>(
     (endpoint, posters, unposted)
 }
 
-/// Reads out the jobs that nobody took.
 fn read_all<N: Name, R: Wait>(
     rt: &R,
     jobs: &Jobs<N>,

@@ -11,18 +11,14 @@ use sup_inbox::Inbox;
 /// Holds what the driver and the workers of a run share. It is made before the first thread, and taken apart once all were joined.
 #[derive(Drop)]
 pub struct Crew<N: Name> {
-    /// The queue of jobs.
     pub jobs: Jobs<N>,
-    /// The inbox, to which the workers post.
     pub inbox: Inbox,
-    /// How they wake each other, and whether the run is over.
     pub signals: Signals,
-    /// What the run is to do.
     pub plan: Plan,
 }
 
 /// Holds the signals of a run, and whether it is over. A thread that waits counts the notifications, looks for what it needs, and
-/// sleeps if it is not there. A notification after the count ends the sleep, so none is missed.
+/// sleeps if it is not there. One after the count ends the sleep, so none is missed.
 #[derive(Default, Drop)]
 pub struct Signals {
     /// A job was queued, or the run is over.
@@ -40,7 +36,6 @@ pub fn sleep<R: Wait>(rt: &R, signal: &Condvar, noted: u64) {
 }
 
 impl Signals {
-    /// Returns whether the run is over.
     pub fn is_over(&self) -> bool {
         self.over.load(Ordering::SeqCst)
     }

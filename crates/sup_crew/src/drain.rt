@@ -41,13 +41,10 @@ impl Model for Drain {
     ghost invariant = { λ d. d.taker.taken ≡ entered_of d.taker.taken d.held.items ++ d.held.items };
 }
 
-/// Holds the notes that one drain entered, in order, each with the reply to its exit, and a ticket for the history up to and with
-/// the last of them, if there is one.
+/// Holds the notes that one drain entered, in order, each with the reply to its exit, and a ticket for the history with them, if any.
 #[derive(Drop)]
 pub struct Drained {
-    /// The notes and the replies.
     pub pairs: Vec<(Note, Reply)>,
-    /// The history with their exits.
     pub ticket: Option<Ticket>,
 }
 
@@ -55,14 +52,12 @@ pub struct Drained {
 #[derive(Drop, Error)]
 #[error("the drain stopped: {fault}")]
 pub struct DrainFault {
-    /// What was entered.
     pub done: Drained,
     /// Why the others were not. They are held, and go first next time.
     pub fault: UpdateFault,
 }
 
 impl DrainFault {
-    /// Returns the number of the fault that stopped it.
     pub fn number(&self) -> u8
         ensures { result ≡ update_fault_number self.now.fault }
     {
@@ -70,7 +65,6 @@ impl DrainFault {
     }
 }
 
-/// Shows how many notes were entered, and the fault.
 impl fmt::Debug for DrainFault {
     fn fmt<W: fmt::Write>(&self, f: &mut fmt::Formatter<W>) -> fmt::Result {
         write!(

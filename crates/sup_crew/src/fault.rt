@@ -13,16 +13,13 @@ pub enum CrewFault {
     /// A growth was refused, or the start of a thread.
     #[error("out of memory")]
     OutOfMemory,
-    /// All handles of the desk were made, and the run needs one of its own.
     #[error("all handles of the desk were made")]
     NoHandle,
-    /// All places for lenses are taken.
     #[error("no place for a lens is left")]
     NoPlace,
 }
 
 impl CrewFault {
-    /// Returns the number of this fault.
     pub fn number(&self) -> u8
         ensures { result ≡ crew_fault_number self.now }
     {
@@ -57,16 +54,13 @@ pub enum PoolFault {
     /// A growth was refused, or the start of a thread.
     #[error("out of memory")]
     OutOfMemory,
-    /// The number of workers is not 1 to 64.
     #[error("a pool has 1 to 64 workers")]
     BadWorkers,
-    /// The number of restarts is above 1000.
     #[error("a pool bears 0 to 1000 restarts")]
     BadRestarts,
     /// The argument at this place of the list, from 0 on, is no text of 1 to 40 visible ASCII characters. A space is not visible.
     #[error("argument {0}, counted from 0, is no text of 1 to 40 visible ASCII characters")]
     BadArgument(usize),
-    /// An update was refused, which stopped the run.
     #[error("{0}")]
     Stopped(UpdateFault),
 }

@@ -12,9 +12,7 @@ use sup_types::{Reason, Text};
 /// Names a child that was made and is to run, of the desk that N names. It is given to its body by value.
 #[derive(Drop)]
 pub struct Job<N: Name> {
-    /// The number of the child.
     pub number: u64,
-    /// Its argument.
     pub arg: Text,
     /// The history up to and with its start.
     pub ticket: Ticket,
@@ -42,9 +40,7 @@ impl<N: Name> Job<N> {
 
 /// A child: its number, and the argument with which it was started. No value of it is made.
 pub struct Child {
-    /// Its number.
     pub number: u64,
-    /// Its argument.
     pub arg: Text,
 }
 

@@ -30,11 +30,8 @@ pub struct Report<N: Name> {
     pub driver: u64,
     /// The driver's handle, if it was made for this run: an audit asks for it.
     pub caller: Option<DetachedHandle<N>>,
-    /// The ticket of its last update.
     pub ticket: Option<Ticket>,
-    /// How many updates of each kind it made.
     pub tally: Tally,
-    /// The arguments that were not started.
     pub unstarted: Vec<Text>,
     /// The notes that were taken and not entered.
     pub held: Vec<Note>,
@@ -44,6 +41,5 @@ pub struct Report<N: Name> {
     pub unposted: Vec<Note>,
     /// The jobs that were not run.
     pub left: Vec<Job<N>>,
-    /// The fault that stopped the run.
     pub fault: Option<UpdateFault>,
 }

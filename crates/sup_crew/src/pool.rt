@@ -18,19 +18,15 @@ use std::thread::Threads;
 use sup_desk::{Asker, Desk, Ground, Name};
 use sup_types::{AlwaysRunning, AutoShutdown, Kind, Reason, Restart, Seen, Template, Text};
 
-/// The notes that the inbox of a pool holds at most.
 const INBOX: usize = 1024;
-
 /// How often a post is tried, and how often the driver finds nothing before it gives up.
 const TURNS: u64 = 1 << 62;
 
 /// The period of the restart intensity, in seconds: OTP's default. A run is one moment, so any would do.
 const PERIOD: u64 = 5;
 
-/// How many children there are at most at once.
 const CHILDREN: u64 = 65_536;
 
-/// How many entries the history of a run has at most.
 const ENTRIES: u64 = 1 << 62;
 
 /// Reports what became of a pool's children.
@@ -38,11 +34,9 @@ const ENTRIES: u64 = 1 << 62;
 pub struct PoolReport {
     /// How many children were made, including those that were started again.
     pub made: u64,
-    /// How many ended.
     pub exits: u64,
     /// How many were made, and were not run or whose exit was not entered, since the run stopped before.
     pub left: u64,
-    /// How many were started again.
     pub restarts: u64,
     /// 1 if more of them crashed than the template allows, so that the supervisor gave up. Else 0.
     pub given_up: u64,
@@ -59,7 +53,6 @@ pub trait Work {
         ensures { may_end self.now arg result };
 }
 
-/// The body of a child that does its work.
 #[derive(Drop)]
 struct Working<'w, T> {
     work: &'w T,
@@ -117,9 +110,8 @@ impl Pool {
         Ok(Pool { workers, template })
     }
 
-    /// Starts a child for each of the arguments, and does the work of each in one of the threads. It returns when all have ended. If
-    /// the supervisor gives up, a thread that sees that begins no further work, and it returns when the works that were begun have
-    /// ended. So a work that never ends keeps it.
+    /// Starts a child for each of the arguments, and does the work of each in one of the threads. It returns when all have ended, or,
+    /// once the supervisor gave up, those that were begun. So a work that never ends keeps it.
     ///
     /// # Errors
     /// OutOfMemory and BadArgument come before anything is run; Stopped if an update was refused, say since the history was full.
@@ -147,7 +139,6 @@ impl Pool {
     }
 }
 
-/// Returns the arguments as texts.
 fn read_arguments<S: AsStr>(alloc: Global, arguments: &[S]) -> Result<Vec<Text>, PoolFault>
     ensures texts { IfOk result (λ texts. texts.items ≡ map S.text arguments.now) }
     ensures fault { IfErr result (λ f. (f ≡ OutOfMemory) ⊎ ((place : ℕ) × (f ≡ BadArgument place) × IsNoText (map S.text arguments.now) place)) }
@@ -180,7 +171,6 @@ fn run_named<N: Name + Send + Sync, R: Threads + Wait + Sync, T: Work + Sync>(
     ensures fault { IfErr result (λ f. (f ≡ OutOfMemory) ⊎ ((why : AFault) × (f ≡ Stopped why))) }
 {
     let desk: Desk<N, AlwaysRunning, &R> = Desk::new(ground, rt, AlwaysRunning);
-    // The desk has room for the handle and the lenses, so a fault is one of memory.
     let Ok(mut driver) = desk.handle(rt) else {
         return Err(PoolFault::OutOfMemory);
     };

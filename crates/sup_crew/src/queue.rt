@@ -22,13 +22,10 @@ use sup_types::OutOfMemory;
 pub struct Permission {
     /// How many parts it has, of 1,024.
     pub parts: u64,
-    /// The children whose jobs it queued.
     pub put: LinkedList<Child>,
-    /// The children whose jobs it took.
     pub taken: LinkedList<Child>,
 }
 
-/// The rule of the queue.
 pub struct JobRule;
 
 impl<N: Name> Protocol<Job<N>, Permission> for JobRule {
@@ -37,7 +34,6 @@ impl<N: Name> Protocol<Job<N>, Permission> for JobRule {
     ghost first = { permission 1024 [] [] };
 }
 
-/// One part is given away.
 pub struct GivesPart;
 
 impl Split<Permission> for GivesPart {
@@ -54,7 +50,6 @@ impl Join<Permission> for GivesPart {
     ghost spent = { permission 0 [] [] };
 }
 
-/// A job is queued.
 pub struct PutsJob;
 
 impl<N: Name> Outcome<Job<N>, Permission> for PutsJob {
@@ -179,7 +174,6 @@ impl<N: Name> Model for Dispatcher<N> {
 }
 
 impl<N: Name> Dispatcher<N> {
-    /// Returns a dispatcher that has queued nothing.
     pub fn new(alloc: Global, endpoint: Endpoint<N>) -> Dispatcher<N>
         requires { (endpoint.permission.put ≡ []) × (endpoint.permission.taken ≡ []) × (0 < endpoint.permission.parts) }
         ensures { (result.queue ≡ endpoint.queue) × (result.parts ≡ endpoint.permission.parts) × (result.put ≡ []) × (result.kept ≡ []) }
@@ -191,12 +185,10 @@ impl<N: Name> Dispatcher<N> {
         }
     }
 
-    /// Returns how many jobs it queued.
     pub fn queued(&self) -> usize {
         self.queued
     }
 
-    /// Makes room for `more` further jobs.
     pub fn make_room(&mut self, more: usize) -> Result<(), OutOfMemory>
         ensures same { HasSameJobs self.old self.new }
         ensures room { IfOk result (λ _. more ≤ self.new.room) }

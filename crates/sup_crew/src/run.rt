@@ -26,44 +26,29 @@ use sup_types::{OutOfMemory, Starter};
 /// Holds what a run is given beside its crew and its driver: the endpoint that knows all of the queue, the inbox's ends, and room.
 #[derive(Drop)]
 pub struct Parts<N: Name> {
-    /// The endpoint at the queue of jobs.
     pub endpoint: Endpoint<N>,
-    /// A poster for each worker.
     pub posters: Vec<Poster>,
-    /// The taker.
     pub taker: Taker,
-    /// Room for what the workers hand back.
     pub finished: Vec<Finished<N>>,
 }
 
 /// Holds a run that is to begin: what its threads share, and the endpoints of its queue and inbox.
 #[derive(Drop)]
 pub struct Beginning<'s, N: Name> {
-    /// What the driver and the workers share.
     pub crew: &'s Crew<N>,
-    /// What else the run is given.
     pub parts: Parts<N>,
     pub ghost whole: { AreParts crew.now.jobs crew.now.inbox.id parts } by { AreParts-prop crew.now.jobs crew.now.inbox.id parts },
 }
 
-/// Holds a run whose workers were joined.
 #[derive(Drop)]
 pub struct RunOutcome<N: Name> {
-    /// The number of the driver's handle.
     pub driver: u64,
-    /// What it did with its jobs.
     pub jobs: Dispatcher<N>,
-    /// What it took of the inbox.
     pub drain: Drain,
-    /// The ticket of its last update.
     pub ticket: Option<Ticket>,
-    /// How many updates of each kind it made.
     pub tally: Tally,
-    /// How many of the plan's children it started.
     pub started: usize,
-    /// The fault that stopped it.
     pub fault: Option<UpdateFault>,
-    /// What each worker handed back.
     pub finished: Vec<Finished<N>>,
 }
 
@@ -134,7 +119,7 @@ where
         ticket: None,
         tally: Tally::default(),
     };
-    let (started, fault) = driver.start_all(rt, crew);
+    let (started, fault) = driver.start_all(rt, alloc, crew);
     let fault = driver.drain_all(rt, alloc, crew, fault);
     crew.signals.end();
     let finished = join_all(rt, crew, body, workers, parts.finished);
@@ -191,7 +176,6 @@ where
     ensures place { IfErr result (λ e. e ≡ CrewFault.NoHandle → ⊥) }
 {
     let (crew, parts, buffers) = prepare(alloc, plan)?;
-    // The driver's handle is taken apart while the threads run.
     let outcome = replace_with(
         driver,
         Beginning { crew: &crew, parts },

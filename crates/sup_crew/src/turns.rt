@@ -9,7 +9,6 @@ use sup_log::Gone;
 /// Reports what a reader did.
 #[derive(Clone, Copy, Debug, PartialEq, Eq)]
 pub struct Reads {
-    /// How many questions were answered.
     pub answered: Asked,
     /// The length of the handle's front after the last.
     pub last: u64,

@@ -18,11 +18,8 @@ use sup_types::Starter;
 /// Holds a worker's endpoint and poster, and what it could not post.
 #[derive(Drop)]
 pub struct Finished<N: Name> {
-    /// Its endpoint, which knows the jobs that it took.
     pub endpoint: Endpoint<N>,
-    /// Its poster, which knows the notes that it posted.
     pub poster: Poster,
-    /// The note that it could not post.
     pub unposted: Option<Note>,
 }
 
@@ -102,8 +99,7 @@ pub fn work<N: Name, B: Body, R: Wait>(
     unreachable!()
 }
 
-/// Learns the job's ticket, by which the asker has seen that the child was made, and runs the body. Returns the note of its exit,
-/// which is the poster's next.
+/// Learns the job's ticket, and runs the body. Returns the note of its exit, which is the poster's next.
 fn run_job<N: Name, B: Body>(body: &B, job: Job<N>, asker: &mut Asker<N>, poster: &Poster) -> Note
     ensures child { (result.number ≡ job.number) × (result.arg ≡ job.arg) }
     ensures reason { B.may_end body.now job.number job.arg result.reason }
@@ -124,11 +120,8 @@ fn run_job<N: Name, B: Body>(body: &B, job: Job<N>, asker: &mut Asker<N>, poster
 /// The promise of a worker: it hands back all that it took.
 #[derive(Drop)]
 pub struct Works<'a, N: Name, B> {
-    /// What it shares with the others.
     pub crew: &'a Crew<N>,
-    /// What it runs for each child.
     pub body: &'a B,
-    /// The number of its poster.
     pub number: u64,
 }
 
@@ -136,7 +129,6 @@ impl<'a, N: Name, B: Body> Promise<Finished<N>> for Works<'a, N, B> {
     ghost kept_by = { λ p r. IsWorked (B.may_end p.body.now) p.crew.now.jobs p.crew.now.inbox.id p.number r };
 }
 
-/// A worker that was started.
 pub type Worker<'a, N, B> = PromisedHandle<Finished<N>, Works<'a, N, B>>;
 
 /// Starts a worker with this asker, if there is one, and this poster. It has an endpoint of its own.
@@ -217,7 +209,6 @@ where
     Ok((endpoint, workers))
 }
 
-/// Joins the workers.
 pub fn join_all<'s, N: Name, B: Body, R: Threads>(
     rt: &R,
     crew: &Crew<N>,

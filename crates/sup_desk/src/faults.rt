@@ -11,7 +11,6 @@ use thiserror::Error;
 /// Says why an update was refused.
 #[derive(Clone, Copy, Debug, PartialEq, Eq, Error)]
 pub enum UpdateFault {
-    /// A growth was refused.
     #[error("out of memory")]
     OutOfMemory,
     /// The history has as many entries as the template allows.
@@ -65,7 +64,6 @@ impl TicketFault {
 /// Says why the children were not listed.
 #[derive(Clone, Copy, Debug, PartialEq, Eq, Error)]
 pub enum QueryFault {
-    /// A growth was refused.
     #[error("out of memory")]
     OutOfMemory,
     /// The reader could not enter.
@@ -107,7 +105,6 @@ pub enum HandleFault {
     /// As many handles were made as the ground said.
     #[error("all handles were made")]
     NoHandle,
-    /// All places for lenses are taken.
     #[error("no place for a lens is left")]
     NoPlace,
 }
@@ -127,10 +124,8 @@ impl HandleFault {
 /// Says why no ground was made.
 #[derive(Clone, Copy, Debug, PartialEq, Eq, Error)]
 pub enum DeskFault {
-    /// A growth was refused.
     #[error("out of memory")]
     OutOfMemory,
-    /// The number of handles is not from 1 to 1024.
     #[error("a desk has 1 to 1024 handles")]
     BadTemplate,
 }

@@ -36,7 +36,7 @@ impl Model for Ground {
 impl Ground {
     /// Makes a ground for a supervisor of this template, with 1 to 1024 places for handles and askers.
     ///
-    /// Each update visits each place, taken or not, which takes some forty instructions a place. So ask for as many as there are threads
+    /// Each update visits each place, taken or not, which takes some fifty instructions a place. So ask for as many as there are threads
     /// that ask at the same time.
     ///
     /// # Errors

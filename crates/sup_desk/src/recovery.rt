@@ -22,7 +22,6 @@ use thiserror::Error;
 /// Says why a desk was not recovered.
 #[derive(Clone, Copy, Debug, PartialEq, Eq, Error)]
 pub enum RecoverFault {
-    /// A growth was refused.
     #[error("out of memory")]
     OutOfMemory,
     /// There are more entries than the template allows.
@@ -31,7 +30,6 @@ pub enum RecoverFault {
     /// An entry is under a number that no handle of the ground can have: 0, or more than there may be.
     #[error("an entry is of a handle that the desk has no place for")]
     NoHandle,
-    /// The number of handles is not from 1 to 1024.
     #[error("a desk has 1 to 1024 handles")]
     BadTemplate,
 }

@@ -73,14 +73,11 @@ impl Model for Taker {
 pub struct InboxFull {
     /// The number of the child.
     pub number: u64,
-    /// Its argument.
     pub arg: Text,
-    /// Why it ended.
     pub reason: Reason,
 }
 
 impl InboxFull {
-    /// Returns the number of this fault, 8.
     pub fn number(&self) -> u8
         ensures { result ≡ 8 }
     {
@@ -89,8 +86,7 @@ impl InboxFull {
 }
 
 impl<A: Allocator + Clone> Inbox<A> {
-    /// Makes an empty inbox for `capacity` notes, 1 to 65,536 of them, and the right to make its posters and its taker.
-    /// It makes room for all notes.
+    /// Makes an empty inbox with room for `capacity` notes, 1 to 65,536 of them, and the right to make its posters and its taker.
     ///
     /// # Errors
     /// `OutOfMemory` if there is no memory for that room.

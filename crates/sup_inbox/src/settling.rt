@@ -19,17 +19,12 @@ pub struct Settled<A: Allocator = Global> {
 /// Holds all that was handed in to be settled, as it was, since memory was refused.
 #[derive(Drop)]
 pub struct Unsettled<A: Allocator = Global, B: Allocator = Global, C: Allocator = Global> {
-    /// The posters, as they were.
     pub posters: Vec<Poster, B>,
-    /// The taker.
     pub taker: Taker,
-    /// The inbox.
     pub inbox: Inbox<A>,
-    /// The room for the notes that remain.
     pub room: Vec<Note, C>,
 }
 
-/// Gathers in what each of the posters posted.
 fn gather<A: Allocator, B: Allocator>(
     inbox: &Inbox<A>,
     mut pass: Place,
@@ -41,17 +36,11 @@ fn gather<A: Allocator, B: Allocator>(
     ensures gathered { known_by result ≡ taker_view (known_by pass).made (known_by pass).taken (map sent_of posters.items) }
 {
     for poster in posters {
-        let Poster {
-            pass: theirs,
-            number: _,
-            count: _,
-        } = poster;
-        inbox.queue.absorb::<Gathers>(&mut pass, theirs);
+        inbox.queue.absorb::<Gathers>(&mut pass, poster.pass);
     }
     pass
 }
 
-/// Takes what remains, once all posters were gathered in.
 fn empty<R: Wait, A: Allocator, C: Allocator>(
     rt: &R,
     inbox: &Inbox<A>,
@@ -74,10 +63,9 @@ fn empty<R: Wait, A: Allocator, C: Allocator>(
     left
 }
 
-/// Ends an inbox, once all its posters, in any order, and its taker are in one place. No poster can be there twice, so
-/// as many of the inbox's as were made are all of them. The room, which is empty before, is filled with the notes that
-/// remain: for each poster, its notes among those taken and then those remaining are what it posted, in its order, and
-/// there is no other note: each is one that a poster posted.
+/// Ends an inbox, once all its posters, in any order, and its taker are in one place. The room, which is empty before, is filled with
+/// the notes that remain: for each poster, its notes among those taken and then those remaining are what it posted, in its order, and
+/// there is no other note.
 ///
 /// # Errors
 /// Returns its arguments as they were if memory runs out, which cannot be if the room has space for the inbox's capacity.
@@ -86,7 +74,7 @@ pub fn settle<R: Wait, A: Allocator, B: Allocator, C: Allocator>(
     posters: Vec<Poster, B>,
     taker: Taker,
     inbox: Inbox<A>,
-    room: Vec<Note, C>,
+    mut room: Vec<Note, C>,
 ) -> Result<Settled<C>, Unsettled<A, B, C>>
     requires posters { AreOf inbox.id posters.items × (vec_len posters ≡ taker.posters) }
     requires taker { taker.inbox ≡ inbox.id }
@@ -97,7 +85,6 @@ pub fn settle<R: Wait, A: Allocator, B: Allocator, C: Allocator>(
     ensures back { IfErr result (λ u. (u.posters ≡ posters) × (u.taker ≡ taker) × (u.inbox ≡ inbox) × (u.room.items ≡ [])) }
     ensures room { inbox.capacity ≤ vec_capacity room → IsOk result }
 {
-    let mut room = room;
     if room.reserve(inbox.queue.capacity()).is_err() {
         return Err(Unsettled {
             posters,
@@ -106,8 +93,7 @@ pub fn settle<R: Wait, A: Allocator, B: Allocator, C: Allocator>(
             room,
         });
     }
-    let Taker { pass } = taker;
-    let pass = gather(&inbox, pass, posters);
+    let pass = gather(&inbox, taker.pass, posters);
     let left = empty(rt, &inbox, pass, room);
     Ok(Settled { left })
 }

@@ -1,4 +1,4 @@
-use Rattle.std.proofs.Common.{◌≡◌, ◌+◌, ◌<◌, ◌∷◌, length, drop, sym, ap, ◌∙◌, subst, arith}
+use Rattle.std.proofs.Common.{◌≡◌, true, ◌+◌, ◌<◌, ◌∷◌, length, drop, sym, ap, ◌∙◌, subst, arith}
 use Rattle.std.specs.Prelude.{vec_items}
 use Rattle.std.proofs.lemmas.List.{drop_more}
 use Rattle.sup_types.specs.declared.history.Reply.{Reply}
@@ -8,7 +8,7 @@ use Rattle.sup_crew.specs.Drains.{replies_of}
 use Rattle.sup_crew.specs.Jobs.{weigh}
 use Rattle.sup_crew.specs.JobLaws.{weigh-append}
 use Rattle.sup_crew.specs.Drivers.{restarted_job, restarted_jobs}
-use Rattle.sup_crew.specs.Tallies.{with_exits}
+use Rattle.sup_crew.specs.Tallies.{with_replies}
 use Rattle.sup_crew.proofs.driver.Driver.note_exits.Goals as goal
 
 pub new-requires-clause-press : goal.new-requires-clause-press
@@ -24,7 +24,7 @@ new-requires-clause-born g c =
     let v = c.args.done.pairs.ok.0 in
     let low : c.loop-at.at < length all = omega (arith, t, l, v) in
     let e = drop_more all c.loop-at.at p low ∙ ap (λ x. x ∷ drop (c.loop-at.at + 1) all) (sym c.index.ensures) in
-    let born = subst (AreBornBy template c.in-Some.ticket.front) e c.loop-at.invariant.born in
+    let born = subst (λ l. AreBornBy template c.in-Some.ticket.front (replies_of l)) e c.loop-at.invariant.born in
     subst (λ (t : Told). IsBorn template t.front c.in-Restarted.number) (sym c.copied.ensures) (subst (IsBornBy template c.in-Some.ticket.front) c.in-Restarted.is born.0)
 
 pub dispatch-requires : goal.dispatch-requires
@@ -55,9 +55,9 @@ loop-at-preserved g c =
     let child = c.new.ensures.child in
     record {
       same = (i.same.0, i.same.1, (e.same.0 ∙ i.same.2.0, e.same.1 ∙ i.same.2.1));
-      tally = ap (λ t. with_exits t (replies_of rest)) c.counted-self-inside.ensures ∙ sym (ap (λ l. with_exits c.loop-at.self-inside.tally (replies_of l)) step) ∙ i.tally;
+      tally = ap (λ t. with_replies t true (replies_of rest)) c.count_exit.ensures ∙ sym (ap (λ l. with_replies c.loop-at.self-inside.tally true (replies_of l)) step) ∙ i.tally;
       press = i.press;
-      born = (subst (AreBornBy g.N.Name.template c.in-Some.ticket.front) step i.born).1;
+      born = (subst (λ l. AreBornBy g.N.Name.template c.in-Some.ticket.front (replies_of l)) step i.born).1;
       room = (e.same.0 ∙ i.room.0, (let r = i.room.1 in let s = ap (λ l. length l) step in let l = e.room in omega (arith, r, s, l)));
       account = λ h.
           let a = i.account h in

@@ -1,0 +1,22 @@
+use Rattle.std.proofs.Common.{◌≡◌, false, ℕ, ◌+◌, ◌≤◌, drop, length}
+use Rattle.sup_crew.specs.declared.job.Child.{Child}
+use Rattle.sup_crew.specs.Births.{AreBornBy}
+use Rattle.sup_crew.specs.Dispatchers.{IsSameQueue}
+use Rattle.sup_crew.specs.Drivers.{started_jobs}
+use Rattle.sup_crew.specs.Jobs.{weigh}
+use Rattle.sup_crew.specs.Tallies.{with_replies}
+use Rattle.sup_crew.proofs.driver.Driver.note_starts.Given as goal
+
+abbrev pub invariant-loop-at : goal.invariant-loop-at
+invariant-loop-at g l =
+    let old = l.fn.self in
+    let jobs = l.self-inside.jobs in
+    let rest = drop l.at l.replies in
+    record {
+      same : (l.self-inside.handle ≡ old.knows) × (l.self-inside.drain ≡ old.drain) × IsSameQueue old.jobs jobs;
+      tally : with_replies l.self-inside.tally false rest ≡ with_replies old.tally false l.replies;
+      press : l.ticket.press ≡ g.N.Name.press;
+      born : AreBornBy g.N.Name.template l.ticket.front rest;
+      room : (jobs.queue ≡ l.crew.jobs) × (length rest ≤ jobs.room);
+      account : (h : Child → ℕ) → weigh h jobs.put + weigh h jobs.kept + weigh h (started_jobs (drop l.at l.args) rest) ≡ weigh h old.jobs.put + weigh h old.jobs.kept + weigh h (started_jobs l.args l.replies);
+    }
