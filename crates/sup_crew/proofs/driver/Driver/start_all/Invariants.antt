@@ -1,4 +1,4 @@
-use Rattle.std.proofs.Common.{◌≡◌, ◌≤◌, ◌+◌, length, take, drop}
+use Rattle.std.proofs.Common.{◌≡◌, ◌≤◌, length, take, drop}
 use Rattle.std.specs.Prelude.{vec_items}
 use Rattle.std.specs.Slice.Iter.{chunks_rest, chunks_size}
 use Rattle.sup_crew.specs.Drivers.{IsSameDriver, Starts}

@@ -1,5 +1,5 @@
 use Rattle.std.specs.Prelude.{IfSome}
-use Rattle.std.proofs.Common.{◌≡◌, ℕ, ◌+◌, ◌≤◌, List, [], ◌++◌, Some, false, length, take, sym, ap, ◌∙◌, refl, subst, append-nil, rules, arith}
+use Rattle.std.proofs.Common.{ℕ, ◌+◌, ◌≤◌, List, [], ◌++◌, Some, false, length, take, sym, ap, ◌∙◌, refl, subst, append-nil, rules, arith}
 use Rattle.sup_types.specs.declared.history.Reply.{Reply}
 use Rattle.sup_desk.specs.Knowledge.{Knowledge}
 use Rattle.sup_crew.specs.Births.{AreBornBy}
