@@ -44,6 +44,13 @@ impl Fault {
             Fault::TooLong => 12,
         }
     }
+
+    /// Returns this fault, in this line.
+    pub fn in_line(self, line: u64) -> ScriptFault
+        ensures { result ≡ record { fault = self; line = line } }
+    {
+        ScriptFault { fault: self, line }
+    }
 }
 
 impl From<AllocError> for Fault {

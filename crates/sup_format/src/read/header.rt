@@ -67,13 +67,7 @@ pub fn read_header(line: &[u8]) -> Result<Template, Fault>
 pub fn template_of(parts: Option<Parts>) -> Result<Template, Fault>
     ensures { GivesTemplate parts result }
 {
-    let Some(parts) = parts else {
-        return Err(Fault::BadLine);
-    };
-    match parts.template() {
-        Ok(template) => Ok(template),
-        Err(_) => Err(Fault::BadTemplate),
-    }
+    Ok(parts.ok_or(Fault::BadLine)?.template()?)
 }
 
 /// Returns the parts that the words of a header name.

@@ -8,7 +8,7 @@ ghost use Rattle.sup_format.specs.Causes.{IsTextFault};
 ghost use Rattle.sup_format.specs.Reading.Words.{words_left};
 ghost use Rattle.sup_format.specs.Reading.Headers.{HasFirst, HasParts};
 ghost use Rattle.sup_format.specs.Reading.History.{AreFirstWords, Spells};
-ghost use Rattle.sup_format.specs.Reading.HistoryReading.{HistoryStops, IsReadTo, HasEntry, HasDeed, HasAnswer, IsNextEntry};
+ghost use Rattle.sup_format.specs.Reading.HistoryReading.{HistoryStops, IsReadTo, HasEntry, HasAnswer, IsNextEntry};
 
 use crate::fault::{Fault, ScriptFault};
 use crate::read::cursor::Cursor;
@@ -17,7 +17,7 @@ use crate::read::lines::cut_line;
 use crate::read::place::Place;
 use crate::spelled::AnswerName;
 use std::alloc::Allocator;
-use sup_types::{Answer, Entry, Operation, Template};
+use sup_types::{Answer, Entry, Template};
 
 /// Holds what a history text spells. The template's `entries` is 2^62.
 #[derive(Debug, Drop)]
@@ -42,16 +42,11 @@ pub fn read_history<A: Allocator + Copy>(alloc: A, text: &[u8]) -> Result<Histor
     let mut line = 2;
     let mut rest = after;
     while !rest.is_empty() {
-        let (entry, after) = match next_entry(rest) {
-            Some(found) => found,
-            None => {
-                let fault = Fault::BadLine;
-                return Err(ScriptFault { fault, line });
-            }
+        let Some((entry, after)) = next_entry(rest) else {
+            return Err(Fault::BadLine.in_line(line));
         };
         if entries.push(entry).is_err() {
-            let fault = Fault::OutOfMemory;
-            return Err(ScriptFault { fault, line });
+            return Err(Fault::OutOfMemory.in_line(line));
         }
         line += 1;
         rest = after;
@@ -66,16 +61,12 @@ pub fn begin_history(text: &[u8]) -> Result<(Template, &[u8]), HistoryFault>
     ensures fault { IfErr result (λ e. IsTextFault e.fault) }
     ensures line { IfErr result (λ e. e.line ≡ 1) }
 {
-    let (first, after) = match cut_line(text) {
-        Some(parts) => parts,
-        None => {
-            let fault = Fault::BadLine;
-            return Err(ScriptFault { fault, line: 1 });
-        }
+    let Some((first, after)) = cut_line(text) else {
+        return Err(Fault::BadLine.in_line(1));
     };
     match read_first(first) {
         Ok(template) => Ok((template, after)),
-        Err(fault) => Err(ScriptFault { fault, line: 1 }),
+        Err(fault) => Err(fault.in_line(1)),
     }
 }
 
@@ -90,12 +81,8 @@ pub fn check_entries(rest: &[u8], line: u64) -> Result<(), HistoryFault>
     let mut line = line;
     let mut rest = rest;
     while !rest.is_empty() {
-        let (_, after) = match next_entry(rest) {
-            Some(found) => found,
-            None => {
-                let fault = Fault::BadLine;
-                return Err(ScriptFault { fault, line });
-            }
+        let Some((_, after)) = next_entry(rest) else {
+            return Err(Fault::BadLine.in_line(line));
         };
         line += 1;
         rest = after;
@@ -141,7 +128,9 @@ pub fn read_entry(words: &mut Cursor<'_>) -> Option<Entry>
     let handle = words.number(Place::Handle)?;
     let serial = words.number(Place::Serial)?;
     let moment = words.number(Place::Moment)?;
-    let (operation, answer) = read_deed(words)?;
+    let verb = words.value(Place::Operation)?;
+    let operation = words.operation(verb)?;
+    let answer = read_answer(words)?;
     Some(Entry {
         handle,
         serial,
@@ -149,16 +138,6 @@ pub fn read_entry(words: &mut Cursor<'_>) -> Option<Entry>
         operation,
         answer,
     })
-}
-
-/// Returns the operation and the answer that the last words are.
-fn read_deed(words: &mut Cursor<'_>) -> Option<(Operation, Answer)>
-    ensures { HasDeed (words_left words.old.rest) result }
-{
-    let verb = words.value(Place::Operation)?;
-    let operation = words.operation(verb)?;
-    let answer = read_answer(words)?;
-    Some((operation, answer))
 }
 
 /// Returns the answer that the last words are.

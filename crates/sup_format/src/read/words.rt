@@ -1,9 +1,10 @@
 //! The words of a line, one after the other.
 
-ghost use Rattle.std.specs.Prelude.{◌≡◌, ◌≢◌, ℕ, ◌<◌, ◌^◌, ◌∷◌, Option, None, Some, MatchOption, ◌==◌, length, get_or, position};
+ghost use Rattle.std.specs.Prelude.{◌≡◌, ◌≢◌, ℕ, ◌<◌, ◌^◌, ◌∷◌, MatchOption, ◌==◌, position};
 ghost use Rattle.std.specs.Fmt.{decimal};
 ghost use Rattle.sup_format.specs.Reading.Words.{words_of, words_left, Lacks, IsSplit};
 
+/// Returns the index of the first such byte, if there is one.
 fn find_byte(bytes: &[u8], byte: u8) -> Option<usize>
     ensures { result ≡ position (λ b. b == byte) bytes.now }
 {
@@ -38,28 +39,6 @@ pub fn read_number(word: &[u8]) -> Option<u64>
     if word[0] == b'0' && word.len() > 1 {
         return None;
     }
-    if word.len() > SHORT_DIGITS {
-        return read_long_number(word);
-    }
-    let mut value: u64 = 0;
-    for byte in word {
-        if !byte.is_ascii_digit() {
-            return None;
-        }
-        value = value * 10 + u64::from(*byte - b'0');
-    }
-    Some(value)
-}
-
-/// The most digits that are a number below 2^64 whichever they are.
-const SHORT_DIGITS: usize = 19;
-
-/// Reads a number like [`read_number`], of a word that may spell one too large.
-fn read_long_number(word: &[u8]) -> Option<u64>
-    requires some { 1 < length word.now }
-    requires plain { get_or word.now 0 0 ≢ 48 }
-    ensures { MatchOption result ((n : ℕ) → n < 2 ^ 64 → word.now ≢ decimal n) (λ n. (n < 2 ^ 64) × (word.now ≡ decimal n)) }
-{
     let mut value: u64 = 0;
     for byte in word {
         if !byte.is_ascii_digit() {

@@ -8,6 +8,7 @@ ghost use Rattle.sup_format.specs.Writing.Replies.{line_of, field_word, spaced, 
 ghost use Rattle.sup_format.specs.Reading.Tokens.{reason_word, verb_word, operation_verb, argument_words, IsReason, IsOperation};
 
 use crate::spelled::{AnswerName, NORMAL, SHUTDOWN, Verb};
+use crate::write::reply::Field::{Number, Word};
 use crate::write::reply::{Field, append_line, append_spaced};
 use std::alloc::{AllocError, Allocator};
 use sup_types::{Answer, Entry, Operation, OutOfMemory, Reason, Template};
@@ -41,13 +42,13 @@ pub fn append_header<A: Allocator>(
     append_line(
         text,
         &[
-            Field::Word(b"history"),
-            Field::Word(b"2"),
+            Word(b"history"),
+            Word(b"2"),
             Field::spelled(template.restart),
             Field::spelled(template.kind),
-            Field::Number(template.intensity),
-            Field::Number(template.period),
-            Field::Number(template.max),
+            Number(template.intensity),
+            Number(template.period),
+            Number(template.max),
             Field::spelled(template.significant),
             Field::spelled(template.auto_shutdown),
         ],
@@ -79,14 +80,7 @@ fn append_numbers<A: Allocator>(
     ensures fits { (handle < 2 ^ 64) × (serial < 2 ^ 64) × (moment < 2 ^ 64) }
     ensures err { OnErr result (Grows text.old.items text.new.items) }
 {
-    append_spaced(
-        text,
-        &[
-            Field::Number(handle),
-            Field::Number(serial),
-            Field::Number(moment),
-        ],
-    )
+    append_spaced(text, &[Number(handle), Number(serial), Number(moment)])
 }
 
 /// Appends the name of an operation and its arguments, each followed by a space.
@@ -99,40 +93,33 @@ fn append_operation<A: Allocator>(
     ensures err { OnErr result (Grows text.old.items text.new.items) }
 {
     match operation {
-        Operation::Start(argument) => append_spaced(
-            text,
-            &[Field::spelled(Verb::Start), Field::Word(argument.bytes())],
-        ),
+        Operation::Start(argument) => {
+            append_spaced(text, &[Field::spelled(Verb::Start), Word(argument.bytes())])
+        }
         Operation::Exit(number, reason) => {
-            append_spaced(
-                text,
-                &[
-                    Field::spelled(Verb::Exit),
-                    Field::Number(*number),
-                    reason_field(reason),
-                ],
-            )
+            let reason = reason_field(reason);
+            append_spaced(text, &[Field::spelled(Verb::Exit), Number(*number), reason])
         }
         Operation::Retry(number) => {
-            append_spaced(text, &[Field::spelled(Verb::Retry), Field::Number(*number)])
+            append_spaced(text, &[Field::spelled(Verb::Retry), Number(*number)])
         }
-        Operation::Terminate(number) => append_spaced(
-            text,
-            &[Field::spelled(Verb::Terminate), Field::Number(*number)],
-        ),
+        Operation::Terminate(number) => {
+            append_spaced(text, &[Field::spelled(Verb::Terminate), Number(*number)])
+        }
         Operation::Stop => append_spaced(text, &[Field::spelled(Verb::Stop)]),
     }
 }
 
+/// Returns the word of a reason.
 fn reason_field(reason: &Reason) -> Field<'_>
     ensures word { field_word result ≡ reason_word reason.now }
     ensures fits { IsReason reason.now }
 {
     match reason {
-        Reason::Normal => Field::Word(NORMAL.as_bytes()),
-        Reason::Shutdown => Field::Word(SHUTDOWN.as_bytes()),
+        Reason::Normal => Word(NORMAL.as_bytes()),
+        Reason::Shutdown => Word(SHUTDOWN.as_bytes()),
         Reason::ShutdownWith(term) => Field::Term(term.bytes()),
-        Reason::Other(word) => Field::Word(word.bytes()),
+        Reason::Other(word) => Word(word.bytes()),
     }
 }
 
@@ -145,12 +132,9 @@ fn append_answer<A: Allocator>(answer: Answer, text: &mut Vec<u8, A>) -> Result<
     match answer {
         Answer::Running => append_line(text, &[Field::spelled(AnswerName::Running)]),
         Answer::Ignore => append_line(text, &[Field::spelled(AnswerName::Ignore)]),
-        Answer::Failed(code) => append_line(
-            text,
-            &[
-                Field::spelled(AnswerName::Failed),
-                Field::Number(u64::from(code)),
-            ],
-        ),
+        Answer::Failed(code) => {
+            let code = Number(u64::from(code));
+            append_line(text, &[Field::spelled(AnswerName::Failed), code])
+        }
     }
 }

@@ -73,9 +73,8 @@ impl<'w, A: Allocator + Copy, W: Write> Outbox<'w, A, W> {
             }
             Err(taken) => {
                 let whole = whole_replies(self.ends.as_slice(), taken);
-                let fault = Fault::WriteFault;
                 let line = next - (self.ends.len() - whole) as u64;
-                Err(ScriptFault { fault, line })
+                Err(Fault::WriteFault.in_line(line))
             }
         }
     }

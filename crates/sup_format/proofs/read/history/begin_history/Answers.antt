@@ -2,14 +2,14 @@ use Rattle.sup_format.proofs.Reading.Histories.{no_first_line, first_stops, firs
 use Rattle.sup_format.specs.HistorySteps.{read_first_line}
 use Rattle.sup_format.proofs.read.history.begin_history.Goals as goal
 
-pub returns-in-None-clause-begun : goal.returns-in-None-clause-begun
-returns-in-None-clause-begun c = no_first_line c.args.text.now c.in-None.ensures
+pub returns-in_default-clause-begun : goal.returns-in_default-clause-begun
+returns-in_default-clause-begun c = rw c.in_line.ensures (no_first_line c.args.text.now c.in_default.ensures)
 
 pub returns-in-Err-clause-begun : goal.returns-in-Err-clause-begun
-returns-in-Err-clause-begun c = first_stops c.args.text.now c.in-Some.parts.0.now c.in-Some.parts.1.now c.in-Err.fault c.in-Some.ensures c.in-Err.ensures
+returns-in-Err-clause-begun c = rw c.in_line-in-Err.ensures (first_stops c.args.text.now c.in-Some.first.now c.in-Some.after.now c.in-Err.fault c.in-Some.ensures c.in-Err.ensures)
 
 pub returns-in-Ok-clause-begun : goal.returns-in-Ok-clause-begun
-returns-in-Ok-clause-begun c = read_first_line c.args.text.now c.in-Some.parts.0.now c.in-Some.parts.1.now c.in-Ok.template c.in-Some.ensures c.in-Ok.ensures
+returns-in-Ok-clause-begun c = read_first_line c.args.text.now c.in-Some.first.now c.in-Some.after.now c.in-Ok.template c.in-Some.ensures c.in-Ok.ensures
 
 pub returns-in-Err-clause-fault : goal.returns-in-Err-clause-fault
-returns-in-Err-clause-fault c = first_fault_kind c.in-Some.parts.0.now c.in-Err.fault c.in-Err.ensures
+returns-in-Err-clause-fault c = rw c.in_line-in-Err.ensures (first_fault_kind c.in-Some.first.now c.in-Err.fault c.in-Err.ensures)

@@ -12,14 +12,14 @@ loop-rest-preserved c =
     record {
       so_far = λ text template entries r.
           let now = c.loop-rest.invariant.so_far text template entries r in
-          (now.0 ++ c.in-Some.found.0 ∷ [], read_more text c.loop-rest.rest.now template now.0 c.loop-rest.line now.1 found.0 c.in-Some.found.1.now c.in-Some.found.0 found.1 found.2);
-      few = let len = split_length c.loop-rest.rest.now found.0 c.in-Some.found.1.now found.1 in omega (arith, len, c.loop-rest.invariant.few);
+          (now.0 ++ c.in-Some.field-0-0 ∷ [], read_more text c.loop-rest.rest.now template now.0 c.loop-rest.line now.1 found.0 c.in-Some.after.now c.in-Some.field-0-0 found.1 found.2);
+      few = let len = split_length c.loop-rest.rest.now found.0 c.in-Some.after.now found.1 in omega (arith, len, c.loop-rest.invariant.few);
     }
 
-pub returns-in-None-clause-stops : goal.returns-in-None-clause-stops
-returns-in-None-clause-stops c = λ text template entries r.
+pub returns-in_default-clause-stops : goal.returns-in_default-clause-stops
+returns-in_default-clause-stops c = λ text template entries r.
     let now = c.loop-rest.invariant.so_far text template entries r in
-    bad_line text c.loop-rest.rest.now template now.0 c.loop-rest.line now.1 (grind (arith, nat_tests)) c.in-None.ensures
+    rw c.in_line.ensures (bad_line text c.loop-rest.rest.now template now.0 c.loop-rest.line now.1 (grind (arith, nat_tests)) c.in_default.ensures)
 
 pub returns-clause-stops : goal.returns-clause-stops
 returns-clause-stops c = λ text template entries r.

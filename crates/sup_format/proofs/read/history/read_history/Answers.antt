@@ -9,21 +9,21 @@ loop-rest-init g c = record {
   few = let short = rest_short c.args.text.now c.in_ok-template.after.now c.in_ok-template.template [] 2 c.in_ok-template.ensures.begun in omega (arith, short);
 }
 
-pub returns-in-None : goal.returns-in-None
-returns-in-None g c =
-    bad_line c.args.text.now c.loop-rest.rest.now c.in_ok-template.template c.loop-rest.entries.items c.loop-rest.line c.loop-rest.invariant.so_far (grind (arith, nat_tests)) c.in-None.ensures
+pub returns-in_default : goal.returns-in_default
+returns-in_default g c =
+    rw c.in_line.ensures (bad_line c.args.text.now c.loop-rest.rest.now c.in_ok-template.template c.loop-rest.entries.items c.loop-rest.line c.loop-rest.invariant.so_far (grind (arith, nat_tests)) c.in_default.ensures)
 
 pub returns-then-is_err : goal.returns-then-is_err
 returns-then-is_err g c =
     let found = c.in-Some.ensures in
-    no_room c.args.text.now c.loop-rest.rest.now c.in_ok-template.template c.loop-rest.entries.items c.loop-rest.line c.loop-rest.invariant.so_far found.0 c.in-Some.found.1.now c.in-Some.found.0 found.1 found.2
+    rw c.in_line-then-is_err.ensures (no_room c.args.text.now c.loop-rest.rest.now c.in_ok-template.template c.loop-rest.entries.items c.loop-rest.line c.loop-rest.invariant.so_far found.0 c.in-Some.after.now c.in-Some.entry found.1 found.2)
 
 pub loop-rest-preserved : goal.loop-rest-preserved
 loop-rest-preserved g c =
     let found = c.in-Some.ensures in
-    let entry = c.in-Some.found.0 in
+    let entry = c.in-Some.entry in
     let pushed : c.push.new.self.items ≡ c.loop-rest.entries.items ++ entry ∷ [] = rw c.if-is_err.ensures.negation at c.push.ensures.items in
     record {
-      so_far = rw pushed (read_more c.args.text.now c.loop-rest.rest.now c.in_ok-template.template c.loop-rest.entries.items c.loop-rest.line c.loop-rest.invariant.so_far found.0 c.in-Some.found.1.now entry found.1 found.2);
-      few = let len = split_length c.loop-rest.rest.now found.0 c.in-Some.found.1.now found.1 in omega (arith, len, c.loop-rest.invariant.few);
+      so_far = rw pushed (read_more c.args.text.now c.loop-rest.rest.now c.in_ok-template.template c.loop-rest.entries.items c.loop-rest.line c.loop-rest.invariant.so_far found.0 c.in-Some.after.now entry found.1 found.2);
+      few = let len = split_length c.loop-rest.rest.now found.0 c.in-Some.after.now found.1 in omega (arith, len, c.loop-rest.invariant.few);
     }

@@ -1,4 +1,4 @@
-use Rattle.std.proofs.Common.{◌≡◌, ◌≤◌, length, take}
+use Rattle.std.proofs.Common.{◌≡◌, ◌<◌, ◌^◌, take}
 use Rattle.std.specs.Str.Parse.{digits_value, AllDigits}
 use Rattle.sup_format.proofs.read.words.read_number.Given as goal
 
@@ -6,5 +6,5 @@ abbrev pub invariant-loop-byte : goal.invariant-loop-byte
 invariant-loop-byte l = record {
   digits : AllDigits 10 (take l.byte-index l.word);
   so_far : l.value ≡ digits_value 10 (take l.byte-index l.word);
-  short : length l.word ≤ 19;
+  fits : l.value < 2 ^ 64;
 }

@@ -10,7 +10,7 @@ returns-in_err-append_row-clause-err g c =
     rw p.1 (Grows-more c.args.out.now.items c.loop-row.out.items c.append_row.new.out.items _ c.loop-row.invariant c.in_err-append_row.ensures.err)
 
 pub returns-clause-err : goal.returns-clause-err
-returns-clause-err g c = grows_on_err c.append_numbered.result c.args.out.now.items c.loop-row.out.items c.append_numbered.new.out.items _ c.loop-row.invariant c.append_numbered.ensures.err
+returns-clause-err g c = grows_on_err c.append_line.result c.args.out.now.items c.loop-row.out.items c.append_line.new.out.items _ c.loop-row.invariant c.append_line.ensures.err
 
 pub returns-clause-ok : goal.returns-clause-ok
 returns-clause-ok g c = grind (arith, common_steps)
