@@ -93,6 +93,20 @@ impl<'w, A: Allocator + Copy, W: Write> Outbox<'w, A, W> {
         }
         self.flush(next)
     }
+
+    /// Returns the writer, and drops what waits.
+    pub fn into_writer(self) -> &'w mut WatchedWriter<W>
+        ensures writer { result.now ≡ self.entry.writer.now }
+        ensures same { result.ghost_name ≡ self.entry.writer.ghost_name }
+    {
+        let Outbox {
+            bytes,
+            ends,
+            writer,
+        } = self;
+        drop((bytes, ends));
+        writer
+    }
 }
 
 /// Returns how many of the replies are wholly among the first bytes.

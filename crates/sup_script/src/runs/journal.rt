@@ -31,37 +31,17 @@ pub fn replay_journal<A: Allocator + Copy, R: Read, W: Write>(
         IsJournal initial lines.new (W.contents writer.old.writer) (W.contents writer.new.writer) writer.new.has_refused result }
 {
     match lines.find_line() {
-        Ok(true) => answer_first(alloc, lines, writer),
-        Ok(false) => Err(in_line_1(Fault::BadLine)),
-        Err(fault) => Err(in_line_1(fault)),
+        Ok(true) => {}
+        Ok(false) => return Err(Fault::BadLine.in_line(1)),
+        Err(fault) => return Err(fault.in_line(1)),
     }
-}
-
-/// Returns a fault of the first line.
-fn in_line_1(fault: Fault) -> ScriptFault
-    ensures { (result.fault ≡ fault) × (result.line ≡ 1) }
-{
-    ScriptFault { fault, line: 1 }
-}
-
-/// Answers a journal whose first line is ready.
-fn answer_first<A: Allocator + Copy, R: Read, W: Write>(
-    alloc: A,
-    lines: &mut EntryReader<R, A>,
-    writer: &mut WatchedWriter<W>,
-) -> Result<(), ScriptFault>
-    requires ready { 0 < length lines.old.ready }
-    requires first { lines.old.next ≡ 1 }
-    ensures journal { (initial : Option (List ℕ)) → IsUnread initial lines.old →
-        IsJournal initial lines.new (W.contents writer.old.writer) (W.contents writer.new.writer) writer.new.has_refused result }
-{
     let template = match lines.begin() {
         Ok(template) => template,
-        Err(fault) => return Err(in_line_1(fault)),
+        Err(fault) => return Err(fault.in_line(1)),
     };
     match Sup::new(alloc, template) {
         Ok(sup) => answer_by(alloc, sup, lines, writer),
-        Err(OutOfMemory) => Err(in_line_1(Fault::OutOfMemory)),
+        Err(OutOfMemory) => Err(Fault::OutOfMemory.in_line(1)),
     }
 }
 
@@ -80,13 +60,7 @@ fn answer_by<A: Allocator + Copy, R: Read, W: Write>(
 {
     let mut outbox = Outbox::new(alloc, writer);
     let outcome = answer_all(&mut sup, lines, &mut outbox);
-    // Taken apart, the outbox gives the writer back, and with it what is known of it.
-    let Outbox {
-        bytes,
-        ends,
-        writer,
-    } = outbox;
-    drop((bytes, ends));
+    let writer = outbox.into_writer();
     outcome?;
     tell(alloc, &sup, lines, writer)
 }
@@ -134,7 +108,7 @@ fn stop<A: Allocator + Copy, W: Write>(
     ensures same { outbox.new.writer.ghost_name ≡ outbox.old.writer.ghost_name }
 {
     match outbox.flush(line) {
-        Ok(()) => ScriptFault { fault, line },
+        Ok(()) => fault.in_line(line),
         Err(torn) => torn,
     }
 }
@@ -159,8 +133,7 @@ fn tell<A: Allocator + Copy, R: Read, W: Write>(
             Err(_) => Fault::WriteFault,
         },
     };
-    let line = lines.line();
-    Err(ScriptFault { fault, line })
+    Err(fault.in_line(lines.line()))
 }
 
 /// Appends the last line: how many entries there were, how many bytes were left out, and the counts. After a refusal there may be a

@@ -40,8 +40,7 @@ pub fn replay<A: Allocator + Copy, R: Read, W: Write>(
 {
     let mut text = Vec::new(alloc);
     if let Err(fault) = read_whole(reader, &mut text) {
-        let line = line_after(text.as_slice());
-        return Err(ScriptFault { fault, line });
+        return Err(fault.in_line(line_after(text.as_slice())));
     }
     let outcome = replay_text(alloc, text.as_slice(), writer);
     reader.note_line(faulty_line(text.as_slice(), outcome));
@@ -87,10 +86,7 @@ fn refusal(rest: &[u8]) -> ScriptFault
     ensures cause { (has_refused : Bool) → HasLineCause has_refused result.fault }
 {
     match check_entries(rest, 2) {
-        Ok(()) => {
-            let fault = Fault::OutOfMemory;
-            ScriptFault { fault, line: 1 }
-        }
+        Ok(()) => Fault::OutOfMemory.in_line(1),
         Err(fault) => fault,
     }
 }
@@ -113,13 +109,7 @@ fn answer_by<A: Allocator + Copy, W: Write>(
         Ok(()) => answer_from(&mut sup, &mut outbox, rest),
         Err(OutOfMemory) => Err(refusal(rest)),
     };
-    // Taken apart, the outbox gives the writer back, and with it what is known of it.
-    let Outbox {
-        bytes,
-        ends,
-        writer: _writer,
-    } = outbox;
-    drop((sup, bytes, ends));
+    outbox.into_writer();
     outcome
 }
 
@@ -144,15 +134,13 @@ fn answer_from<A: Allocator + Copy, W: Write>(
     let mut rest = rest;
     while !rest.is_empty() {
         let Some((entry, after)) = next_entry(rest) else {
-            let fault = Fault::BadLine;
-            return Err(ScriptFault { fault, line: next });
+            return Err(Fault::BadLine.in_line(next));
         };
         if let Err(OutOfMemory) = answer_entry(&entry, sup, outbox) {
             // A fault of the text goes first, so the rest is read before the replies are written.
             check_entries(after, next + 1)?;
             outbox.flush(next)?;
-            let fault = Fault::OutOfMemory;
-            return Err(ScriptFault { fault, line: next });
+            return Err(Fault::OutOfMemory.in_line(next));
         }
         next += 1;
         rest = after;

@@ -41,23 +41,15 @@ pub fn run<A: Allocator + Copy, R: Read, W: Write, S: FixedStarter>(
             reader.note_line(session.faulty);
             outcome
         }
-        _ => Err(session.fault(Fault::OutOfMemory)),
+        _ => Err(Fault::OutOfMemory.in_line(session.next)),
     };
-    // Taken apart, the session gives the writer back, and with it what is known of it.
     let Session {
-        alloc: _alloc,
-        starter: _starter,
         supervisor,
         outbox,
-        next: _next,
-        faulty: _faulty,
+        ..
     } = session;
-    let Outbox {
-        bytes,
-        ends,
-        writer: _writer,
-    } = outbox;
-    drop((supervisor, bytes, ends));
+    drop(supervisor);
+    outbox.into_writer();
     outcome
 }
 
@@ -89,22 +81,22 @@ fn answer_pieces<A: Allocator + Copy, R: Read, W: Write, S: FixedStarter>(
         let room = (MOST_BYTES - reader.given()) as usize;
         // Space comes first, so that no byte is lost if it is refused.
         if part.reserve(PIECE).is_err() {
-            return Err(session.fault(Fault::OutOfMemory));
+            return Err(Fault::OutOfMemory.in_line(session.next));
         }
         let count = match reader.read(&mut piece) {
             Some(count) => count,
-            None => return Err(session.fault(Fault::ReadFault)),
+            None => return Err(Fault::ReadFault.in_line(session.next)),
         };
         if count == 0 {
             session.answer_lines(part.as_slice())?;
             if session.next == 1 {
-                return Err(session.fault(Fault::BadLine));
+                return Err(Fault::BadLine.in_line(session.next));
             }
             return Ok(());
         }
         if count > room {
             session.answer_piece(&piece[..room], part)?;
-            return Err(session.fault(Fault::TooLong));
+            return Err(Fault::TooLong.in_line(session.next));
         }
         session.answer_piece(&piece[..count], part)?;
     }

@@ -54,17 +54,6 @@ impl<'s, 'w, A: Allocator + Copy, W: Write, S: FixedStarter> Session<'s, 'w, A, 
         }
     }
 
-    /// Returns this fault, in the next line.
-    pub fn fault(&self, fault: Fault) -> ScriptFault
-        ensures fault { result.fault ≡ fault }
-        ensures line { result.line ≡ self.now.next }
-    {
-        ScriptFault {
-            fault,
-            line: self.next,
-        }
-    }
-
     /// Answers the lines that a piece of the input ends, and writes their replies.
     ///
     /// `part` holds the part of a line that came before the piece, and then the part after those lines.
@@ -91,37 +80,18 @@ impl<'s, 'w, A: Allocator + Copy, W: Write, S: FixedStarter> Session<'s, 'w, A, 
             part.extend_from_slice(piece).unwrap();
             return Ok(());
         }
-        self.answer_joined(part, ended)?;
-        part.clear();
-        part.extend_from_slice(&piece[ended.len()..]).unwrap();
-        Ok(())
-    }
-
-    /// Answers the lines that a part and what ends it make, and writes their replies. Without a part they are answered in place,
-    /// and no byte is copied.
-    fn answer_joined(&mut self, part: &mut Vec<u8, A>, ended: &[u8]) -> Result<(), ScriptFault>
-        requires room { length part.old.items + length ended.now ≤ vec_capacity part.old }
-        requires first { 1 ≤ self.old.next }
-        requires lines { self.old.next + length (part.old.items ++ ended.now) ≤ 16777217 }
-        requires steps { length (part.old.items ++ ended.now) ≤ steps_left self.old.supervisor }
-        requires bytes { self.old.outbox.bytes.items ≡ [] }
-        requires ends { self.old.outbox.ends.items ≡ [] }
-        ensures given { (front : List (List ℕ)) (text : List ℕ) → IsAnsweredTo S.answer front text self.old.supervisor self.old.next →
-            LinesGive S.answer front text (lines_of (part.old.items ++ ended.now)) self.new.supervisor self.new.next (W.contents self.old.outbox.writer.now.writer) (W.contents self.new.outbox.writer.now.writer) result }
-        ensures first { OnOk result (1 ≤ self.new.next) }
-        ensures lines { OnOk result (self.new.next ≤ self.old.next + length (part.old.items ++ ended.now)) }
-        ensures steps { steps_left self.old.supervisor ≤ steps_left self.new.supervisor + length (part.old.items ++ ended.now) }
-        ensures bytes { OnOk result (self.new.outbox.bytes.items ≡ []) }
-        ensures ends { OnOk result (self.new.outbox.ends.items ≡ []) }
-        ensures cause { IfErr result (λ e. HasLineCause self.new.outbox.writer.now.has_refused e.fault) }
-        ensures same { self.new.outbox.writer.ghost_name ≡ self.old.outbox.writer.ghost_name }
-        ensures room { vec_capacity part.old ≤ vec_capacity part.new }
-    {
+        let rest = &piece[ended.len()..];
         if part.is_empty() {
-            return self.answer_lines(ended);
+            // The lines are answered in place, and no byte of them is copied.
+            self.answer_lines(ended)?;
+            part.extend_from_slice(rest).unwrap();
+            return Ok(());
         }
         part.extend_from_slice(ended).unwrap();
-        self.answer_lines(part.as_slice())
+        self.answer_lines(part.as_slice())?;
+        part.clear();
+        part.extend_from_slice(rest).unwrap();
+        Ok(())
     }
 
     /// Answers the lines of a text in order, and writes their replies.
@@ -149,7 +119,7 @@ impl<'s, 'w, A: Allocator + Copy, W: Write, S: FixedStarter> Session<'s, 'w, A, 
             if let Err(fault) = self.answer_next(line) {
                 self.faulty.keep(line);
                 self.outbox.flush(self.next)?;
-                return Err(self.fault(fault));
+                return Err(fault.in_line(self.next));
             }
             self.next += 1;
             rest = after;

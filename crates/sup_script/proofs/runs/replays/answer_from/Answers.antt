@@ -22,7 +22,7 @@ loop-rest-init g c = record {
 
 pub returns-in_default-clause-given : goal.returns-in_default-clause-given
 returns-in_default-clause-given g c = λ text read.
-    rw c.loop-rest.invariant.writer
+    rw (c.in_line.ensures, c.loop-rest.invariant.writer)
     (replayed_bad text c.loop-rest.rest.now c.args.sup.now.template c.loop-rest.outbox.bytes.items c.loop-rest.outbox.ends.items c.loop-rest.sup c.loop-rest.next (c.loop-rest.invariant.so_far text read)
     (g.W.Write.contents c.args.outbox.now.writer.now.writer) (grind (arith, nat_tests)) c.in_default.ensures)
 
@@ -53,9 +53,10 @@ returns-in-Err-clause-given g c = λ text read.
     let found = c.in-Some.ensures in
     let more = read_more text c.loop-rest.rest.now c.args.sup.now.template now.entries c.loop-rest.next now.read found.0 c.in-Some.after.now c.in-Some.entry found.1 found.2 in
     let all = c.in_ok-check_entries.ensures.stops text c.args.sup.now.template (now.entries ++ c.in-Some.entry ∷ []) more in
-    replayed_stops text c.loop-rest.rest.now c.args.sup.now.template c.loop-rest.outbox.bytes.items c.loop-rest.outbox.ends.items c.loop-rest.sup c.loop-rest.next now
+    rw c.in_line-in-Err.ensures
+    (replayed_stops text c.loop-rest.rest.now c.args.sup.now.template c.loop-rest.outbox.bytes.items c.loop-rest.outbox.ends.items c.loop-rest.sup c.loop-rest.next now
     (g.W.Write.contents c.args.outbox.now.writer.now.writer) (g.W.Write.contents c.flush.new.self.writer.now.writer) all.0 found.0 c.in-Some.after.now (record { fault = fault.OutOfMemory; line = c.loop-rest.next }) found.1 all.1 refl refl
-    (rw (c.in-Err.ensures.same_bytes, c.in-Err.ensures.writer, c.loop-rest.invariant.writer) at c.in_ok-flush.ensures.flushed.2)
+    (rw (c.in-Err.ensures.same_bytes, c.in-Err.ensures.writer, c.loop-rest.invariant.writer) at c.in_ok-flush.ensures.flushed.2))
 
 pub loop-rest-preserved : goal.loop-rest-preserved
 loop-rest-preserved g c =

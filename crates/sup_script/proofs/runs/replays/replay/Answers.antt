@@ -14,9 +14,9 @@ returns-clause-cause g c =
     (lines_causes c.read_whole.new.reader.has_failed c.read_whole.new.reader.given c.replay_text-outcome.new.writer.has_refused c.replay_text-outcome.result c.replay_text-outcome.ensures.cause)
 
 pub returns-in-Err-clause-cause : goal.returns-in-Err-clause-cause
-returns-in-Err-clause-cause g c = read_cause c.read_whole.new.reader.has_failed c.read_whole.new.reader.given c.args.writer.now.has_refused c.in-Err.fault c.in-Err.ensures.cause
+returns-in-Err-clause-cause g c = rw c.in_line.ensures (read_cause c.read_whole.new.reader.has_failed c.read_whole.new.reader.given c.args.writer.now.has_refused c.in-Err.fault c.in-Err.ensures.cause)
 
 pub returns-in-Err-clause-replay : goal.returns-in-Err-clause-replay
 returns-in-Err-clause-replay g c =
-    input_faulty (g.R.Read.remaining c.args.reader.now.reader) (g.R.Read.remaining c.read_whole.new.reader.reader) (g.W.Write.contents c.args.writer.now.writer) c.read_whole.new.text.items c.in-Err.fault c.line_after-line.result
-    c.in-Err.ensures.read (rw c.as_slice.ensures.value at c.line_after-line.ensures)
+    rw c.in_line.ensures (input_faulty (g.R.Read.remaining c.args.reader.now.reader) (g.R.Read.remaining c.read_whole.new.reader.reader) (g.W.Write.contents c.args.writer.now.writer) c.read_whole.new.text.items c.in-Err.fault c.line_after.result
+    c.in-Err.ensures.read (rw c.as_slice.ensures.value at c.line_after.ensures))

@@ -13,13 +13,13 @@ pub returns-then-is_err-clause-run : goal.returns-then-is_err-clause-run
 returns-then-is_err-clause-run g c =
     reading_stops g.S.FixedStarter.answer (g.R.Read.remaining c.args.reader.now.reader) (g.R.Read.remaining c.loop-piece.reader.reader) (g.W.Write.contents c.args.session.now.outbox.writer.now.writer) (g.W.Write.contents c.loop-piece.session.outbox.writer.now.writer)
     c.loop-piece.part.items c.loop-piece.session.supervisor c.loop-piece.session.next c.loop-piece.reader.given c.loop-piece.invariant.so_far c.loop-piece.invariant.short
-    (g.R.Read.remaining c.loop-piece.reader.reader) c.fault.result fault.OutOfMemory c.fault.ensures.fault c.fault.ensures.line (Keeps-refl (g.R.Read.remaining c.loop-piece.reader.reader)) refl
+    (g.R.Read.remaining c.loop-piece.reader.reader) c.in_line.result fault.OutOfMemory (rw c.in_line.ensures refl) (rw c.in_line.ensures refl) (Keeps-refl (g.R.Read.remaining c.loop-piece.reader.reader)) refl
 
 pub returns-in-None-clause-run : goal.returns-in-None-clause-run
 returns-in-None-clause-run g c =
     reading_stops g.S.FixedStarter.answer (g.R.Read.remaining c.args.reader.now.reader) (g.R.Read.remaining c.loop-piece.reader.reader) (g.W.Write.contents c.args.session.now.outbox.writer.now.writer) (g.W.Write.contents c.loop-piece.session.outbox.writer.now.writer)
     c.loop-piece.part.items c.loop-piece.session.supervisor c.loop-piece.session.next c.loop-piece.reader.given c.loop-piece.invariant.so_far c.loop-piece.invariant.short
-    (g.R.Read.remaining c.read.new.self.reader) c.fault-in-None.result fault.ReadFault c.fault-in-None.ensures.fault c.fault-in-None.ensures.line c.in-None.ensures.bytes.2 refl
+    (g.R.Read.remaining c.read.new.self.reader) c.in_line-in-None.result fault.ReadFault (rw c.in_line-in-None.ensures refl) (rw c.in_line-in-None.ensures refl) c.in-None.ensures.bytes.2 refl
 
 pub returns-in_err-answer_lines-clause-run : goal.returns-in_err-answer_lines-clause-run
 returns-in_err-answer_lines-clause-run g c =
@@ -37,7 +37,7 @@ returns-then-session-eq1-clause-run g c =
     ends_empty g.S.FixedStarter.answer (g.R.Read.remaining c.args.reader.now.reader) (g.R.Read.remaining c.loop-piece.reader.reader) (g.W.Write.contents c.args.session.now.outbox.writer.now.writer) (g.W.Write.contents c.loop-piece.session.outbox.writer.now.writer)
     c.loop-piece.part.items c.loop-piece.session.supervisor c.loop-piece.session.next c.loop-piece.reader.given c.loop-piece.invariant.so_far c.loop-piece.invariant.short
     (g.R.Read.remaining c.read.new.self.reader) (g.W.Write.contents c.answer_lines.new.self.outbox.writer.now.writer) c.answer_lines.new.self.supervisor c.answer_lines.new.self.next (rw c.if-count-eq0.true at c.in-Some.ensures.bytes.3) (c.in-Some.ensures.bytes.4 c.if-count-eq0.true)
-    c.fault-then-session-eq1.result c.fault-then-session-eq1.ensures.fault c.fault-then-session-eq1.ensures.line c.if-session-eq1.true (rw (c.as_slice.ensures.value, c.reserve.ensures.items) at c.in_ok-answer_lines.ensures.given (lines_of r.done) r.written r.so_far)
+    c.in_line-then-session-eq1.result (rw c.in_line-then-session-eq1.ensures refl) (rw c.in_line-then-session-eq1.ensures refl) c.if-session-eq1.true (rw (c.as_slice.ensures.value, c.reserve.ensures.items) at c.in_ok-answer_lines.ensures.given (lines_of r.done) r.written r.so_far)
 
 pub returns-then-count-eq0-clause-run : goal.returns-then-count-eq0-clause-run
 returns-then-count-eq0-clause-run g c =
@@ -77,7 +77,7 @@ returns-then-count-room-clause-run g c =
     c.loop-piece.part.items c.loop-piece.session.supervisor c.loop-piece.session.next c.loop-piece.reader.given c.loop-piece.invariant.so_far c.loop-piece.invariant.short
     (g.R.Read.remaining c.read.new.self.reader) (g.W.Write.contents c.answer_piece.new.self.outbox.writer.now.writer) c.answer_piece.new.self.supervisor c.answer_piece.new.self.next piece c.answer_piece.new.part.items
     (rw c.reserve.ensures.items at c.in_ok-answer_piece.ensures.given (lines_of r.done) r.written r.so_far)
-    c.fault-then-count-room.result (take count buf) (drop room (take count buf)) c.fault-then-count-room.ensures.fault c.fault-then-count-room.ensures.line
+    c.in_line-then-count-room.result (take count buf) (drop room (take count buf)) (rw c.in_line-then-count-room.ensures refl) (rw c.in_line-then-count-room.ensures refl)
     (cut_parts buf count room c.if-count-room.true) (cut_past buf count room c.if-count-room.true c.in-Some.ensures.bytes.0) most c.in-Some.ensures.bytes.3
 
 pub returns-in_err-answer_piece-2-clause-run : goal.returns-in_err-answer_piece-2-clause-run
@@ -121,10 +121,10 @@ loop-piece-preserved g c =
     }
 
 pub returns-then-is_err-clause-cause : goal.returns-then-is_err-clause-cause
-returns-then-is_err-clause-cause g c = rw c.fault.ensures.fault tt
+returns-then-is_err-clause-cause g c = rw c.in_line.ensures tt
 
 pub returns-in-None-clause-cause : goal.returns-in-None-clause-cause
-returns-in-None-clause-cause g c = rw c.fault-in-None.ensures.fault c.in-None.ensures.bytes.0
+returns-in-None-clause-cause g c = rw c.in_line-in-None.ensures c.in-None.ensures.bytes.0
 
 pub returns-in_err-answer_lines-clause-cause : goal.returns-in_err-answer_lines-clause-cause
 returns-in_err-answer_lines-clause-cause g c =
@@ -132,7 +132,7 @@ returns-in_err-answer_lines-clause-cause g c =
     rw (p.1, p.2) (lines_cause c.read.new.self.has_failed c.read.new.self.given c.answer_lines.new.self.outbox.writer.now.has_refused _ c.in_err-answer_lines.ensures.cause)
 
 pub returns-then-session-eq1-clause-cause : goal.returns-then-session-eq1-clause-cause
-returns-then-session-eq1-clause-cause g c = rw c.fault-then-session-eq1.ensures.fault tt
+returns-then-session-eq1-clause-cause g c = rw c.in_line-then-session-eq1.ensures tt
 
 pub returns-in_err-answer_piece-clause-cause : goal.returns-in_err-answer_piece-clause-cause
 returns-in_err-answer_piece-clause-cause g c =

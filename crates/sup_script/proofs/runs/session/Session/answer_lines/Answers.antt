@@ -29,7 +29,7 @@ returns-in_err-flush-clause-given g c = λ front text s.
 pub returns-in-Err-clause-given : goal.returns-in-Err-clause-given
 returns-in-Err-clause-given g c = λ front text s.
     let so_far = c.loop-rest.invariant.so_far front text s in
-    rw (c.fault.ensures.fault, c.fault.ensures.line, c.in-Err.ensures.next)
+    rw (c.in_line.ensures, c.in-Err.ensures.next)
     (partly_stops g.S.FixedStarter.answer front text (lines_of c.args.input.now) (g.W.Write.contents c.args.self.now.outbox.writer.now.writer) (lines_of c.loop-rest.rest.now)
     c.loop-rest.self.outbox.bytes.items c.loop-rest.self.outbox.ends.items c.loop-rest.self.supervisor (g.W.Write.contents c.loop-rest.self.outbox.writer.now.writer) c.loop-rest.self.next so_far
     c.first_line.result.0.now (lines_of c.first_line.result.1.now) c.answer_next.new.self.supervisor (g.W.Write.contents c.flush.new.self.writer.now.writer) c.answer_next.new.self.outbox.bytes.items c.in-Err.fault c.first_line.ensures.lines
@@ -81,7 +81,7 @@ returns-in_err-flush-clause-cause g c =
     rw (p.1, p.2) c.in_err-flush.ensures.cause
 
 pub returns-in-Err-clause-cause : goal.returns-in-Err-clause-cause
-returns-in-Err-clause-cause g c = rw c.fault.ensures.fault (line_cause _ _ c.in-Err.ensures.fault)
+returns-in-Err-clause-cause g c = rw c.in_line.ensures (line_cause _ _ c.in-Err.ensures.fault)
 
 pub returns-in_err-flush_if_full-clause-cause : goal.returns-in_err-flush_if_full-clause-cause
 returns-in_err-flush_if_full-clause-cause g c =
