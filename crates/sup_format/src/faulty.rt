@@ -4,7 +4,7 @@ ghost use Rattle.std.specs.Prelude.{◌≤◌};
 
 use std::fmt;
 
-/// The most bytes of a line that are kept. No line of a script or a history text is as long.
+/// Bounds the bytes of a line that are kept. No line of a script or a history text is as long.
 const MOST_KEPT: usize = 200;
 
 /// Keeps the first bytes of the line in which a text has a fault: at most 200.

@@ -6,16 +6,16 @@ ghost use Rattle.sup_format.specs.Reading.Tokens.{IsReason, IsWordOf, reason_wor
 
 use sup_types::{AutoShutdown, Kind, Reason, Restart, Text, Word};
 
-/// The word of [`Reason::Normal`](sup_types::Reason).
+/// Spells [`Reason::Normal`](sup_types::Reason).
 pub const NORMAL: &str = "normal";
 
-/// The word of [`Reason::Shutdown`](sup_types::Reason).
+/// Spells [`Reason::Shutdown`](sup_types::Reason).
 pub const SHUTDOWN: &str = "shutdown";
 
-/// What is before the text of [`Reason::ShutdownWith`](sup_types::Reason).
+/// Begins the word of [`Reason::ShutdownWith`](sup_types::Reason), before its text.
 pub const SHUTDOWN_WITH: &str = "shutdown:";
 
-/// A type whose values are spelled by one word each.
+/// Spells each value of a type by one word.
 pub trait Spelled: Copy {
     ghost use Rattle.std.specs.Prelude.{◌≡◌, ℕ, List, Contains};
 
@@ -95,7 +95,7 @@ impl Spelled for Kind {
     }
 }
 
-/// Whether the children are significant.
+/// Says whether the children are significant.
 impl Spelled for bool {
     ghost use Rattle.sup_format.specs.Reading.Tokens.{mark_word};
 

@@ -1,7 +1,6 @@
-//! Why a line has a fault, in words that a person can act on. The place and what is expected there are those at which the reading of
-//! the line stopped.
+//! Why a line has a fault, in words that a person can act on: where the reading of the line stopped, and what it expected there.
 
-use std::fmt;
+use std::fmt::{self, Style};
 use sup_format::{
     Cursor, Fault, FaultyLine, LineKind, Place, ScriptFault, find_syntax_error, next_word,
     read_number,
@@ -48,10 +47,9 @@ impl fmt::Display for Explanation<'_> {
         };
         let rest = rest.unwrap_or(&[]);
         let (word, _) = next_word(rest);
-        write!(f, "  {}\n  ", self.line)?;
-        repeat(f, ' ', self.line.bytes().len().saturating_sub(rest.len()))?;
-        repeat(f, '^', word.len().max(1))?;
-        f.write_char(' ')?;
+        let before = "".width(self.line.bytes().len().saturating_sub(rest.len()));
+        let mark = "^".fill('^').width(word.len());
+        write!(f, "  {}\n  {before}{mark} ", self.line)?;
         match self.error {
             None => f.write_str("the line lacks its line feed")?,
             Some(Cursor { rest: None, .. }) => f.write_str("the line ends here")?,
@@ -87,23 +85,11 @@ fn write_wrong<W: fmt::Write>(f: &mut fmt::Formatter<W>, place: Place, word: &[u
         | Place::Child
         | Place::Handle
         | Place::Serial
-        | Place::Code => wrong_number(word),
+        | Place::Code => match read_number(word) {
+            Some(_) => "this number is out of its range",
+            None =>
+                "no number: digits alone, no sign, no leading zero, at most 18446744073709551615",
+        },
         _ => "not allowed here",
     })
-}
-
-/// Says what is wrong with a number.
-fn wrong_number(word: &[u8]) -> &'static str {
-    if read_number(word).is_some() {
-        return "this number is out of its range";
-    }
-    "no number: digits alone, no sign, no leading zero, at most 18446744073709551615"
-}
-
-/// Writes this character as often as the count says.
-fn repeat<W: fmt::Write>(f: &mut fmt::Formatter<W>, shown: char, count: usize) -> fmt::Result {
-    for _ in 0..count {
-        f.write_char(shown)?;
-    }
-    Ok(())
 }

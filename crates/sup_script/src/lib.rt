@@ -1,17 +1,12 @@
-//! Scripts and history texts: bytes in, the text of each reply out.
+//! Answers scripts and history texts: bytes in, the text of each reply out.
 //!
-//! A script is a header, which gives the template, and a line for each command. `run` reads one from any reader and writes the
-//! reply of each command to any writer. It streams: the lines that one read brought are answered, and their replies written, before
-//! the next read, so whoever writes the script line by line has each answer at once, and memory does not grow with the script.
+//! [`run`] reads a script from any reader and writes the reply of each command to any writer. It streams: the lines that one read brought
+//! are answered, and their replies written, before the next read, so whoever writes a script line by line has each answer at once, and
+//! memory does not grow with the script. [`replay`] writes the reply to each entry of a history text from an empty supervisor, once all of
+//! the text was read. [`replay_journal`] does so while it reads: a journal may be of any length, and its last line torn.
+//! [`answer_input`] does what a program does with each of them. `sup_format` has the formats; what a caller needs of them is passed on.
 //!
-//! A history text is a template and the entries of a history, with what the start function answered to each. `replay` writes the reply
-//! of each entry from an empty supervisor, once all of the text was read. `replay_journal` does so while it reads: a journal may be of
-//! any length, and its last line torn.
-//!
-//! Callers may rely on the contracts of these: which bytes were read, which text was written, in which line a fault is and which
-//! replies were written before it, and why reading or writing failed. The reader and the writer are watched ones, which note what they
-//! refused. `sup_format` has the formats; what a caller needs of them is passed on here.
-//!
+//! # How it is used
 //! ```text
 //! let script = b"sup permanent worker 1 5 10\nstart 0 a\nexit 1 1 normal\nwhich\n".as_slice();
 //! let mut reader = WatchedReader::new(script);
@@ -20,6 +15,16 @@
 //! assert!(rt; ended == Ok(()));
 //! assert_eq!(rt; writer.into_writer().as_slice(), b"ok 1\nrestarted 1 2\nchild 2 running a\nend 1\n".as_slice());
 //! ```
+//!
+//! # What is proved
+//! Which bytes were read and which text was written, in which line a fault is and which replies were written before it, why reading or
+//! writing failed, and the exit status.
+//!
+//! # What is on trust
+//! The toolchain, and that a file has the bytes that the system reads from it.
+//!
+//! # What is only tested
+//! The text of an [`Explanation`] and of the other lines on the error stream, and what a [`Follower`] shows.
 #![tactic(auto)]
 
 mod explain;

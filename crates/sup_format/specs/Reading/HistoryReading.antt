@@ -4,14 +4,12 @@ use denote.Ref.{Bor}
 use Rattle.sup_types.specs.declared.template.Template.{Template}
 use Rattle.sup_types.specs.declared.history.Answer.{Answer}
 use Rattle.sup_types.specs.declared.history.Entry.{Entry}
-use Rattle.sup_types.specs.declared.history.Operation.{Operation}
 use Rattle.sup_format.specs.declared.fault.Fault.{Fault}
 use Rattle.sup_format.specs.declared.fault.Fault.TheVariants as fault
 use Rattle.sup_format.specs.Reading.Words.{IsSplit}
-use Rattle.sup_format.specs.Reading.Tokens.{IsOperation}
 use Rattle.sup_format.specs.Reading.Headers.{IsFirst, IsNoFirst, IsOutOfRange}
 use Rattle.sup_format.specs.Reading.Texts.{lines_of, IsFull}
-use Rattle.sup_format.specs.Reading.History.{AreFirstWords, answer_words, deed_words, entry_words, IsAnswer, IsEntry, EntryMeans, MeansNoEntry, AreEntries}
+use Rattle.sup_format.specs.Reading.History.{AreFirstWords, answer_words, entry_words, IsAnswer, IsEntry, EntryMeans, MeansNoEntry, AreEntries}
 
 -- ---- a fault, and where it is
 
@@ -62,10 +60,6 @@ pub record IsReadTo (text rest : List ℕ) (template : Template) (entries : List
 abbrev pub HasAnswer : List (List ℕ) → Option Answer → Type 0
 HasAnswer words None = (a : Answer) → IsAnswer a → words ≡ answer_words a → ⊥
 HasAnswer words (Some a) = IsAnswer a × (words ≡ answer_words a)
-
-abbrev pub HasDeed : List (List ℕ) → Option (Operation × Answer) → Type 0
-HasDeed words None = (operation : Operation) (a : Answer) → IsOperation operation → IsAnswer a → words ≡ deed_words operation a → ⊥
-HasDeed words (Some deed) = IsOperation deed.0 × IsAnswer deed.1 × (words ≡ deed_words deed.0 deed.1)
 
 abbrev pub HasEntry : List (List ℕ) → Option Entry → Type 0
 HasEntry words None = (e : Entry) → IsEntry e → words ≡ entry_words e → ⊥

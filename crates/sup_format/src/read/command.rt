@@ -49,6 +49,7 @@ pub fn read_command(words: &mut Cursor<'_>) -> Option<Command>
     Some(command)
 }
 
+/// Returns the update of this name whose parts the next words are.
 fn read_update(verb: Verb, words: &mut Cursor<'_>) -> Option<Command>
     ensures { IsReading (verb_word verb ∷ words_left words.old.rest) result }
 {

@@ -18,7 +18,7 @@ use std::io::{ErrorKind, Read};
 use std::marker::Model;
 use sup_types::{Entry, Template};
 
-/// The most bytes of a stream: 2^62.
+/// Bounds the bytes of a stream: 2^62.
 const MOST_BYTES: u64 = 1 << 62;
 
 /// Reads a history text piece by piece, and gives its entries one after the other. It takes memory for a piece and for the longest

@@ -9,7 +9,7 @@ use crate::read::cursor::Cursor;
 use crate::read::place::Place;
 use sup_types::{AutoShutdown, BadTemplate, Kind, Restart, Template};
 
-/// The most entries of a template that a text gives: 2^62.
+/// Bounds the entries of a template that a text gives: 2^62.
 const MOST_ENTRIES: u64 = 1 << 62;
 
 /// Holds the parts of a template as a first line names them, in their ranges or not.

@@ -6,7 +6,7 @@ ghost use Rattle.sup_types.specs.declared.history.Entry.{Entry as AnEntry};
 ghost use Rattle.sup_format.specs.declared.fault.Fault.TheVariants.{BadLine};
 ghost use Rattle.sup_format.specs.Causes.{IsTextFault};
 ghost use Rattle.sup_format.specs.Reading.Words.{words_left};
-ghost use Rattle.sup_format.specs.Reading.Headers.{HasFirst, HasParts};
+ghost use Rattle.sup_format.specs.Reading.Headers.{HasParts};
 ghost use Rattle.sup_format.specs.Reading.History.{AreFirstWords, Spells};
 ghost use Rattle.sup_format.specs.Reading.HistoryReading.{HistoryStops, IsReadTo, HasEntry, HasAnswer, IsNextEntry};
 
@@ -64,7 +64,7 @@ pub fn begin_history(text: &[u8]) -> Result<(Template, &[u8]), HistoryFault>
     let Some((first, after)) = cut_line(text) else {
         return Err(Fault::BadLine.in_line(1));
     };
-    match read_first(first) {
+    match template_of(read_first_parts(&mut Cursor::new(first))) {
         Ok(template) => Ok((template, after)),
         Err(fault) => Err(fault.in_line(1)),
     }
@@ -88,13 +88,6 @@ pub fn check_entries(rest: &[u8], line: u64) -> Result<(), HistoryFault>
         rest = after;
     }
     Ok(())
-}
-
-/// Returns the template of a history's first line, or what is wrong with the line.
-fn read_first(line: &[u8]) -> Result<Template, Fault>
-    ensures { HasFirst AreFirstWords line.now result }
-{
-    template_of(read_first_parts(&mut Cursor::new(line)))
 }
 
 /// Returns the parts that the words of a first line name: five in version 1, and seven in version 2.

@@ -10,10 +10,10 @@ use crate::watch::WatchedReader;
 use std::alloc::Allocator;
 use std::io::Read;
 
-/// The most bytes that a text has: 2^24.
+/// Bounds the bytes of a text: 2^24.
 pub const MOST_BYTES: u64 = 16_777_216;
 
-/// The bytes that are asked for at a time. The first touch of a page takes about as long as a read, so larger pieces make short
+/// Says how many bytes are asked for at a time. The first touch of a page takes about as long as a read, so larger pieces make short
 /// texts slower.
 pub const PIECE: usize = 16_384;
 
@@ -57,6 +57,7 @@ pub fn line_after(text: &[u8]) -> u64
     count_feeds(ended) as u64 + 1
 }
 
+/// Returns how many line feeds a text has.
 fn count_feeds(text: &[u8]) -> usize
     ensures { result ≡ count_by (λ b. b == 10) text.now }
 {

@@ -10,13 +10,13 @@ use std::alloc::Allocator;
 use std::io::Write;
 use sup_types::OutOfMemory;
 
-/// The bytes at which an outbox is full.
+/// Says at how many bytes an outbox is full.
 const FULL: usize = 65_536;
 
-/// More bytes of replies than a usual piece of a script brings.
+/// Exceeds the bytes of the replies to a usual piece of a script.
 const USUAL_BYTES: usize = 32_768;
 
-/// More replies than a usual piece of a script brings.
+/// Exceeds the number of the replies to a usual piece of a script.
 const USUAL_REPLIES: usize = 2_048;
 
 /// Holds the text of replies, the place at which each line's reply ends, and the writer that they wait for.

@@ -10,7 +10,7 @@ use itoa::Buffer;
 use std::alloc::{AllocError, Allocator};
 use sup_types::{Counts, OutOfMemory, Refusal, Reply, Row, Seen, Status};
 
-/// A word of a line that is written.
+/// Names a word of a line that is written.
 #[derive(Clone, Copy)]
 pub enum Field<'a> {
     Word(&'a [u8]),

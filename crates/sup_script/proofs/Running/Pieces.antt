@@ -1,8 +1,7 @@
 -- Answering piece by piece.
-use Rattle.std.proofs.Common.{◌≡◌, ℕ, ◌+◌, ◌<◌, ◌≤◌, ◌==◌, false, List, [], ◌∷◌, ◌++◌, length, Option, Result, Ok, refl, sym, ap, subst, ◌∙◌, append_assoc, append-nil, arith}
+use Rattle.std.proofs.Common.{◌≡◌, ℕ, ◌+◌, ◌<◌, ◌==◌, false, List, [], ◌∷◌, ◌++◌, length, Option, Result, Ok, refl, sym, ap, subst, ◌∙◌, append_assoc, append-nil, arith}
 use Rattle.std.specs.Prelude.{OnOk}
 use Rattle.std.proofs.KnownBytes.{Appends-nil}
-use Rattle.std.proofs.lemmas.List.{length-append}
 use Rattle.std.proofs.lemmas.List.Elements.{All-append}
 use Rattle.sup_core.specs.State.{State}
 use Rattle.sup_format.specs.declared.fault.ScriptFault.{ScriptFault}
@@ -41,17 +40,3 @@ module _ (answer : Answering) (front : List (List ℕ)) (text part piece part' :
     kept = kept;
     lines = lines;
   }
-
--- ---- counts
-
-pub joined_length : (part ended piece rest whole : List ℕ) → whole ≡ part ++ ended → piece ≡ ended ++ rest → length whole + length rest ≡ length part + length piece
-joined_length part ended piece rest whole e f = omega (arith, ap length e, ap length f, length-append part ended, length-append ended rest)
-
-pub few_lines : (next a r p q most : ℕ) → a + r ≡ p + q → next + p + q ≤ most → next + a ≤ most
-few_lines next a r p q most same few = omega arith
-
-pub few_steps : (a r p q steps : ℕ) → a + r ≡ p + q → p + q ≤ steps → a ≤ steps
-few_steps a r p q steps same few = omega arith
-
-pub lines_counted : (next next' a r p q k : ℕ) → next' ≤ next + a → a + r ≡ p + q → k ≡ r → next' + k ≤ next + p + q
-lines_counted next next' a r p q k more same kept = omega arith

@@ -162,7 +162,7 @@ fn answer_text<R: Read, W: Write, E: Write>(
         format,
         path,
         outcome,
-        cause: cause_of(outcome, reader.error(), out.error()),
+        errors: (reader.error(), out.error()),
         line: *reader.line(),
     };
     tell(alloc, detail, &ended, err)
@@ -189,7 +189,7 @@ fn answer_journal<F: Files, W: Write, E: Write>(
         format: Format::History,
         path: Some(path),
         outcome,
-        cause: cause_of(outcome, lines.error(), out.error()),
+        errors: (lines.error(), out.error()),
         line: line_at(&lines),
     };
     tell(alloc, detail, &ended, err)
@@ -213,8 +213,8 @@ struct Run<'a> {
     /// The file that was read, if the text has a name.
     path: Option<&'a str>,
     outcome: Result<(), ScriptFault>,
-    /// What the reader or the writer answered, if that is the fault.
-    cause: Option<ErrorKind>,
+    /// What the reader and the writer answered last, if they answered an error.
+    errors: (Option<ErrorKind>, Option<ErrorKind>),
     /// The line that has the fault, if the fault is one of a line.
     line: FaultyLine,
 }
@@ -227,12 +227,17 @@ fn tell<E: Write>(alloc: Global, detail: Detail, run: &Run<'_>, err: &mut E) -> 
     let Err(stop) = run.outcome else {
         return Status::Done;
     };
-    if let (Fault::ReadFault, Some(path), Some(kind)) = (stop.fault, run.path, run.cause) {
+    let cause = match stop.fault {
+        Fault::ReadFault => run.errors.0,
+        Fault::WriteFault => run.errors.1,
+        _ => None,
+    };
+    if let (Fault::ReadFault, Some(path), Some(kind)) = (stop.fault, run.path, cause) {
         return tell_unread(kind, path, err);
     }
     let _ = writeln!(err, "{stop}");
     if detail == Detail::Explained {
-        explain(alloc, run, stop, err);
+        explain(alloc, run, stop, cause, err);
     }
     Status::of(stop.fault)
 }
@@ -257,22 +262,15 @@ fn tell_unread<E: Write>(kind: ErrorKind, path: &str, err: &mut E) -> Status
     Status::Failed
 }
 
-/// Returns what the reader or the writer answered, if that is the fault of a run.
-fn cause_of(
-    outcome: Result<(), ScriptFault>,
-    read: Option<ErrorKind>,
-    written: Option<ErrorKind>,
-) -> Option<ErrorKind> {
-    match outcome.err()?.fault {
-        Fault::ReadFault => read,
-        Fault::WriteFault => written,
-        _ => None,
-    }
-}
-
 /// Writes the further lines that explain a fault.
-fn explain<E: Write>(alloc: Global, run: &Run<'_>, stop: ScriptFault, err: &mut E) {
-    let text = match (Explanation::new(run.format, stop, &run.line), run.cause) {
+fn explain<E: Write>(
+    alloc: Global,
+    run: &Run<'_>,
+    stop: ScriptFault,
+    cause: Option<ErrorKind>,
+    err: &mut E,
+) {
+    let text = match (Explanation::new(run.format, stop, &run.line), cause) {
         (Some(explanation), _) => format!(in alloc; "{explanation}"),
         (None, Some(kind)) => format!(in alloc; "  {}: {kind}\n", stop.fault),
         (None, None) => format!(in alloc; "  {}\n", stop.fault),

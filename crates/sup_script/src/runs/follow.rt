@@ -38,8 +38,8 @@ impl<'p, F: Read + Seek + OpenFile + Drop, A: Allocator + Copy> Follower<'p, F, 
         })
     }
 
-    /// Writes each whole line that has come since the last call, and the reply to it: `LINE -> REPLY`; the first line has none. Goes
-    /// on in the file that has taken the place of the one that was opened, once all of that is shown.
+    /// Writes each whole line that has come since the last call, and the reply to it: `LINE -> REPLY`; the first line has none.
+    /// Continues in the file that has taken the place of the one that was opened, once all of that is shown.
     ///
     /// # Errors
     /// `WriteFault`: a part of a line is written. `ReadFault`, `OutOfMemory`, and `BadLine` or `BadTemplate` of a line: none of it is.
@@ -50,17 +50,14 @@ impl<'p, F: Read + Seek + OpenFile + Drop, A: Allocator + Copy> Follower<'p, F, 
         out: &mut WatchedWriter<W>,
     ) -> Result<(), Fault> {
         self.show_lines(alloc, out)?;
-        let is_same = match fs::metadata(files, self.path) {
-            Ok(metadata) => node(metadata) == self.node,
-            Err(_) => true,
+        let is_replaced = match fs::metadata(files, self.path) {
+            Ok(metadata) => node(metadata) != self.node,
+            Err(_) => false,
         };
-        if !is_same {
+        if is_replaced {
             // Nobody writes to the old file any more.
             self.show_lines(alloc, out)?;
-            match Follower::open(files, self.path) {
-                Ok(follower) => *self = follower,
-                Err(_) => return Err(Fault::ReadFault),
-            }
+            *self = Follower::open(files, self.path).map_err(|_| Fault::ReadFault)?;
             self.show_lines(alloc, out)?;
         }
         Ok(())

@@ -125,15 +125,13 @@ fn tell<A: Allocator + Copy, R: Read, W: Write>(
         (W.contents writer.old.writer) (W.contents writer.new.writer) writer.new.has_refused result }
 {
     let mut text = Vec::new(alloc);
-    let told = append_last(alloc, sup, lines.torn().len() as u64, &mut text);
-    let fault = match told {
-        Err(_) => Fault::OutOfMemory,
-        Ok(()) => match writer.send(text.as_slice()) {
-            Ok(()) => return Ok(()),
-            Err(_) => Fault::WriteFault,
-        },
+    let Ok(()) = append_last(alloc, sup, lines.torn().len() as u64, &mut text) else {
+        return Err(Fault::OutOfMemory.in_line(lines.line()));
     };
-    Err(fault.in_line(lines.line()))
+    match writer.send(text.as_slice()) {
+        Ok(()) => Ok(()),
+        Err(_) => Err(Fault::WriteFault.in_line(lines.line())),
+    }
 }
 
 /// Appends the last line: how many entries there were, how many bytes were left out, and the counts. After a refusal there may be a

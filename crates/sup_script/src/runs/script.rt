@@ -10,7 +10,7 @@ use std::io::{Read, Write};
 use sup_format::{Fault, MOST_BYTES, Outbox, PIECE, ScriptFault, WatchedReader, WatchedWriter};
 use sup_types::FixedStarter;
 
-/// Room for the part of a line that comes before a piece: more bytes than any line of the format has.
+/// Exceeds the part of a line that comes before a piece: more bytes than any line of the format has.
 const PART: usize = 1_024;
 
 /// Reads a script to its end and writes the replies of its commands, those of each piece before the next one is read.

@@ -182,7 +182,10 @@ fn answer_line<S: FixedStarter, A: Allocator + Copy>(
             *supervisor = Some(first_supervisor(alloc, line)?);
             Ok(())
         }
-        Some(sup) => answer_command(line, sup, starter, out),
+        Some(sup) => match read_line(line) {
+            Some(command) => Ok(append_answer(&command, sup, starter, out)?),
+            None => Err(Fault::BadLine),
+        },
     }
 }
 
@@ -193,24 +196,4 @@ fn first_supervisor<A: Allocator + Copy>(alloc: A, line: &[u8]) -> Result<Sup<A>
 {
     let template = read_header(line)?;
     Ok(Sup::new(alloc, template)?)
-}
-
-/// Answers a line after the header, and appends the text of the reply.
-fn answer_command<S: FixedStarter, A: Allocator + Copy>(
-    line: &[u8],
-    sup: &mut Sup<A>,
-    starter: &S,
-    out: &mut Vec<u8, A>,
-) -> Result<(), Fault>
-    requires { sup.old.steps < sup.old.template.entries }
-    ensures given { (front : List (List ℕ)) (text : List ℕ) (next : ℕ) → IsAnsweredTo S.answer front text (Some sup.old) next →
-        LineGives S.answer front text line.now (Some sup.new) next out.old.items out.new.items result }
-    ensures steps { steps_left (Some sup.old) ≤ steps_left (Some sup.new) + 1 }
-    ensures err { OnErr result (Grows out.old.items out.new.items) }
-    ensures fault { IfErr result (λ f. IsLineFault f) }
-{
-    match read_line(line) {
-        Some(command) => Ok(append_answer(&command, sup, starter, out)?),
-        None => Err(Fault::BadLine),
-    }
 }

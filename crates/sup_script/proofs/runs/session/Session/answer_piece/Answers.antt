@@ -1,9 +1,7 @@
-use Rattle.std.proofs.Common.{◌≡◌, ◌<◌, ◌-◌, ◌++◌, length, drop, ap, ◌∙◌, arith, refl}
+use Rattle.std.proofs.Common.{◌≡◌, ◌-◌, ◌++◌, ◌∙◌, arith}
 use Rattle.std.proofs.lemmas.Bool.Decides.{nat_tests}
-use Rattle.std.proofs.lemmas.List.{length-drop, take_all}
 use Rattle.std.proofs.lemmas.Result.{err_from_is_err_and}
-use Rattle.std.proofs.Math.Seq.{drop-append_seam}
-use Rattle.sup_script.proofs.Running.Pieces.{piece_kept, piece_lines, joined_length, few_lines, few_steps, lines_counted}
+use Rattle.sup_script.proofs.Running.Pieces.{piece_kept, piece_lines}
 use Rattle.sup_script.proofs.runs.session.Session.answer_piece.Goals as goal
 
 pub returns-then-is_empty-clause-given : goal.returns-then-is_empty-clause-given
