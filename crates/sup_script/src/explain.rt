@@ -9,9 +9,7 @@ use sup_format::{
 /// Says which text a line is of.
 #[derive(Clone, Copy, Debug)]
 pub enum Format {
-    /// A script.
     Script,
-    /// A history text.
     History,
 }
 

@@ -72,13 +72,11 @@ impl Detail {
     }
 }
 
-/// Names what a program answers: a script or a history text in the file at this path, if there is one, and else from the input, or a
-/// journal.
+/// Names what a program answers: a script or a history text, in the file at a path or from the input, or the journal at a path.
 #[derive(Clone, Copy, Debug, PartialEq, Eq)]
 pub enum Input<'a> {
     Script(Option<&'a str>),
     History(Option<&'a str>),
-    /// The journal at this path.
     Journal(&'a str),
 }
 

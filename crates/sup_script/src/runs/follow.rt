@@ -13,13 +13,12 @@ use sup_format::{EntryReader, Fault, WatchedReader, WatchedWriter, first_line, w
 pub struct Follower<'p, F, A: Allocator> {
     path: &'p str,
     file: F,
-    /// Names the file, whatever its path is now.
     node: (u64, u64),
     shown: u64,
     sup: Option<Sup<A>>,
 }
 
-/// Returns what names a file in the whole system.
+/// Returns what names a file, whatever its path is now.
 fn node(metadata: Metadata) -> (u64, u64) {
     (metadata.dev(), metadata.ino())
 }

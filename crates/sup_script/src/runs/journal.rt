@@ -134,8 +134,7 @@ fn tell<A: Allocator + Copy, R: Read, W: Write>(
     }
 }
 
-/// Appends the last line: how many entries there were, how many bytes were left out, and the counts. After a refusal there may be a
-/// part of it.
+/// Appends the last line: the entries, the bytes that were left out, and the counts. After a refusal there may be a part of it.
 fn append_last<A: Allocator + Copy>(
     alloc: A,
     sup: &Sup<A>,

@@ -28,7 +28,6 @@ pub struct Session<'s, 'w, A: Allocator, W, S> {
     pub starter: &'s S,
     /// The supervisor, once the header was read.
     pub supervisor: Option<Sup<A>>,
-    /// The replies that wait, and their writer.
     pub outbox: Outbox<'w, A, W>,
     pub next: u64,
     pub faulty: FaultyLine,
