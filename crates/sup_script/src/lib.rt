@@ -33,7 +33,7 @@ mod starter;
 
 pub use explain::{Explanation, Format};
 pub use runs::answer::{Detail, Input, Status, answer_input};
-pub use runs::follow::Follower;
+pub use runs::follow::{Follower, follow_journal};
 pub use runs::journal::replay_journal;
 pub use runs::replays::replay;
 pub use runs::script::run;

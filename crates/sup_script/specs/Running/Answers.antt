@@ -21,6 +21,7 @@ status_number status.Done = 0
 status_number status.BadInput = 2
 status_number status.Failed = 3
 status_number status.OtherFault = 4
+status_number status.GaveUp = 5
 
 -- what is wrong with the input, what failed outside, and want of memory are told apart
 abbrev pub status_of_fault : Fault → Status

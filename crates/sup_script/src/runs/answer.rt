@@ -27,12 +27,14 @@ pub enum Status {
     Failed,
     /// Any other fault, such as no memory.
     OtherFault,
+    /// The history of a server has ended, and does so at each start.
+    GaveUp,
 }
 
 impl Status {
     ghost use Rattle.sup_script.specs.Running.Answers.{status_number, status_of_fault};
 
-    /// Returns the exit status of the process: 0, 2, 3 or 4, in the order of the variants.
+    /// Returns the exit status of the process: 0, or 2 to 5, in the order of the variants.
     pub fn number(self) -> u8
         ensures { result ≡ status_number self }
     {
@@ -41,11 +43,12 @@ impl Status {
             Status::BadInput => 2,
             Status::Failed => 3,
             Status::OtherFault => 4,
+            Status::GaveUp => 5,
         }
     }
 
     /// Returns the status of a run that stopped with this fault.
-    fn of(fault: Fault) -> Status
+    pub(crate) fn of(fault: Fault) -> Status
         ensures { result ≡ status_of_fault fault }
     {
         match fault {
@@ -241,7 +244,7 @@ fn tell<E: Write>(alloc: Global, detail: Detail, run: &Run<'_>, err: &mut E) -> 
 }
 
 /// Writes that the file at a path can't be read, and why.
-fn tell_unread<E: Write>(kind: ErrorKind, path: &str, err: &mut E) -> Status
+pub(crate) fn tell_unread<E: Write>(kind: ErrorKind, path: &str, err: &mut E) -> Status
     ensures { result ≡ status.Failed }
 {
     let fault = Fault::ReadFault;

@@ -1,9 +1,15 @@
 //! Following: the lines of a journal that another program writes, each with its reply.
 
-use std::alloc::Allocator;
+ghost use Rattle.std.specs.Prelude.{◌≡◌};
+ghost use Rattle.sup_script.specs.declared.runs.answer.Status.TheVariants as status;
+
+use crate::runs::answer::{Status, tell_unread};
+use std::alloc::{Allocator, Global};
 use std::fs::{File, Files, Metadata, OpenFile};
 use std::io::{Read, Seek, SeekFrom, Write};
 use std::os::unix::fs::MetadataExt;
+use std::thread::sleep;
+use std::time::{Clock, Duration};
 use std::{fs, io};
 use sup_core::Sup;
 use sup_format::{EntryReader, Fault, WatchedReader, WatchedWriter, first_line, write_reply};
@@ -98,4 +104,36 @@ impl<'p, F: Read + Seek + OpenFile + Drop, A: Allocator + Copy> Follower<'p, F, 
             .saturating_add(lines.taken().saturating_sub(torn));
         Ok(())
     }
+}
+
+/// How many milliseconds a program sleeps between two looks at a journal that it follows.
+const BETWEEN: u64 = 100;
+
+/// Shows the journal at this path by a [`Follower`], and then what comes to it, ten times a second. Ends with the first fault, which is
+/// a line on `err`, and returns its status: also if there is no such file yet.
+pub fn follow_journal<R: Files + Clock, W: Write, E: Write>(
+    rt: &R,
+    alloc: Global,
+    path: &str,
+    out: &mut WatchedWriter<W>,
+    err: &mut E,
+) -> Status
+    ensures { result ≡ status.Done → ⊥ }
+{
+    let mut follower = match Follower::open(rt, path) {
+        Ok(follower) => follower,
+        Err(error) => return tell_unread(error.kind(), path, err),
+    };
+    for _ in 0..u64::MAX {
+        if let Err(fault) = follower.show_new(rt, alloc, out) {
+            let number = fault.number();
+            let _ = match out.error() {
+                Some(kind) => writeln!(err, "fault {number}: {fault}: {kind}"),
+                None => writeln!(err, "fault {number}: {fault}: {path}"),
+            };
+            return Status::of(fault);
+        }
+        sleep(rt, Duration::from_millis(BETWEEN));
+    }
+    Status::OtherFault
 }
