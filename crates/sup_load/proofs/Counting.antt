@@ -7,7 +7,6 @@ use Rattle.sup_log.specs.Tokens.{Told}
 use Rattle.sup_desk.specs.Knowledge.{Knowledge}
 use Rattle.sup_desk.specs.declared.name.Name.{Ghosts}
 use Rattle.sup_crew.specs.declared.plan.Report.{Report}
-use Rattle.sup_crew.specs.declared.driver.Tally.{Tally}
 use Rattle.sup_crew.specs.Calls.{calls_of}
 use Rattle.sup_crew.specs.Drivers.{front_of, calls_since}
 use Rattle.sup_crew.specs.Reports.{calls_of_run}
@@ -22,15 +21,11 @@ own_calls template before None none = refl
 own_calls template before (Some told) none = ap (λ (l : List Entry). drop (length l) (calls_of template told.front before.number)) none
 
 pub counted : {N : Type 0} {G : Ghosts N} (template : Template) (before : Knowledge) (r : Report N G) (s : Sums) → before.calls ≡ [] → r.tally ≡ tally_of (calls_of_run template before r)
-    → s.made ≡ r.tally.made → s.exits ≡ r.tally.exits → s.strays ≡ r.tally.strays → s.restarts ≡ r.tally.restarts → s.given_up ≡ r.tally.given_up → AreCounts template s
-counted template before r s none all a b c d e = let counts : r.tally ≡ tally_of (calls_of template (front_of r.ticket) before.number) = all ∙ ap tally_of (own_calls template before r.ticket none) in record {
+    → s.tally ≡ r.tally → AreCounts template s
+counted template before r s none all same = record {
   history = front_of r.ticket;
   driver = before.number;
-  made = a ∙ ap (λ (t : Tally). t.made) counts;
-  exits = b ∙ ap (λ (t : Tally). t.exits) counts;
-  strays = c ∙ ap (λ (t : Tally). t.strays) counts;
-  restarts = d ∙ ap (λ (t : Tally). t.restarts) counts;
-  given_up = e ∙ ap (λ (t : Tally). t.given_up) counts;
+  tally = same ∙ (all ∙ ap tally_of (own_calls template before r.ticket none));
 }
 
 pub of_template : (template : Template) (r : Result Sums StopFault) → IfOk r (λ s. AreCounts template s) → IfOk r (λ s. (template : Template) × AreCounts template s)

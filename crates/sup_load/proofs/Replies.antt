@@ -6,13 +6,13 @@ use Rattle.clap.specs.Kinds.{Kinds}
 use Rattle.clap.specs.Values.{kind_of}
 use Rattle.clap.specs.Walk.{Text}
 use Rattle.clap.specs.declared.error.Error.{Error}
-use Rattle.sup_load.specs.Answered.{IsDone, IsReply, IsServed, IsServing}
+use Rattle.sup_load.specs.Answered.{IsDone, IsReply, IsFollowed, IsFollowing, IsServed, IsServing}
 use Rattle.sup_words.specs.Orders.{Command, IsOrder, LeadsTo}
 use Rattle.sup_script.specs.declared.runs.answer.Status.{Status}
 use Rattle.sup_words.specs.declared.words.Order.{Order}
 use Rattle.sup_words.specs.declared.words.Order.TheVariants as order
 use Rattle.sup_words.specs.Shown.{IsShownAs}
-use Rattle.sup_words.specs.declared.words.Notices.{Notices}
+use Rattle.sup_words.specs.declared.words.Serve.{Serve}
 
 module _ (kinds : Kinds) (command : Command) (remaining left contents held : Option (List ℕ)) (has_failed : Bool) (given : ℕ) (has_refused : Bool) (s : Status) where
   -- the order was done
@@ -27,6 +27,11 @@ module _ (kinds : Kinds) (command : Command) (remaining left contents held : Opt
   error_as e led same shown = inr (kind_of e, led, same, shown)
 
 -- the server served
-pub serving_as : (kinds : Kinds) (command : Command) (has_failed has_refused : Bool) (s : Status) (o : Order) (n : Notices) (p : Option (Bor Text)) → o ≡ order.Serve n p
+pub serving_as : (kinds : Kinds) (command : Command) (has_failed has_refused : Bool) (s : Status) (o : Order) (how : Serve) → o ≡ order.Serve how
     → LeadsTo kinds command (Ok o) → IsServed has_failed has_refused s → IsServing kinds command has_failed has_refused s
-serving_as kinds command has_failed has_refused s o n p same led served = (n, p, led.0, subst (IsOrder command) same led.1, served)
+serving_as kinds command has_failed has_refused s o how same led served = (how, led.0, subst (IsOrder command) same led.1, served)
+
+-- the journal was followed
+pub following_as : (kinds : Kinds) (command : Command) (remaining left : Option (List ℕ)) (s : Status) (o : Order) (path : Bor Text) → o ≡ order.Follow path
+    → LeadsTo kinds command (Ok o) → IsFollowed remaining left s → IsFollowing kinds command remaining left s
+following_as kinds command remaining left s o path same led followed = (path, led.0, subst (IsOrder command) same led.1, followed)

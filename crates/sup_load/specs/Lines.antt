@@ -14,8 +14,8 @@ line_with fields = line_of (flat_map (λ f. f.0 ∷ decimal f.1 ∷ []) fields)
 
 -- the numbers of the crew's run, and in a line of their own the questions that were answered
 abbrev pub load_lines : Sums → List ℕ
-load_lines s = line_with ((codes "made", s.made) ∷ (codes "exits", s.exits) ∷ (codes "strays", s.strays) ∷ (codes "restarts", s.restarts)
-    ∷ (codes "gave_up", s.given_up) ∷ (codes "left", s.left) ∷ (codes "held", s.held) ∷ [])
+load_lines s = line_with ((codes "made", s.tally.made) ∷ (codes "exits", s.tally.exits) ∷ (codes "strays", s.tally.strays) ∷ (codes "restarts", s.tally.restarts)
+    ∷ (codes "gave_up", s.tally.given_up) ∷ (codes "left", s.left) ∷ (codes "held", s.held) ∷ [])
     ++ line_with ((codes "reads", s.reads) ∷ [])
 
 -- what a call writes: a name and its number

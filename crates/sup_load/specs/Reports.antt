@@ -16,11 +16,7 @@ use Rattle.sup_load.specs.Loads.{end_of}
 pub record AreCounts (template : Template) (s : Sums) : Type 0 where
   pub history : List Entry
   pub driver : ℕ
-  pub made : s.made ≡ (tally_of (calls_of template history driver)).made
-  pub exits : s.exits ≡ (tally_of (calls_of template history driver)).exits
-  pub strays : s.strays ≡ (tally_of (calls_of template history driver)).strays
-  pub restarts : s.restarts ≡ (tally_of (calls_of template history driver)).restarts
-  pub given_up : s.given_up ≡ (tally_of (calls_of template history driver)).given_up
+  pub tally : s.tally ≡ tally_of (calls_of template history driver)
 
 -- without sums nothing was written; with them their lines were, or this writer refused
 abbrev pub IsTold : Result Sums StopFault → Option (List ℕ) → Option (List ℕ) → Bool → Result (Unit {0}) LoadFault → Type 0

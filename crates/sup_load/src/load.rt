@@ -21,7 +21,7 @@ use std::marker::Brand;
 use std::sync::Wait;
 use std::thread;
 use std::thread::{JoinHandle, Threads};
-use sup_crew::{Body, Job, Plan, Reads, Report, read_turns, run_crew};
+use sup_crew::{Body, Job, Plan, Reads, Report, Tally, read_turns, run_crew};
 use sup_desk::{Asker, Desk, Ground, Handle, Journal, Name, NoJournal};
 use sup_journal::{LockFile, Synced, TextJournal, Unknown, open_file};
 use sup_log::Gone;
@@ -35,14 +35,10 @@ const INBOX: usize = 1024;
 /// How often a post is tried, and how often the driver finds nothing before it gives up.
 const CREW_TURNS: u64 = 1_000_000_000;
 
-/// What a load came to.
+/// Counts what a load did.
 #[derive(Clone, Copy)]
 pub struct Sums {
-    made: u64,
-    exits: u64,
-    strays: u64,
-    restarts: u64,
-    given_up: u64,
+    tally: Tally,
     left: usize,
     held: usize,
     waiting: usize,
@@ -52,7 +48,7 @@ pub struct Sums {
     fault: Option<StopFault>,
 }
 
-/// A body that ends at once.
+/// Ends at once.
 struct EndsAtOnce;
 
 impl Body for EndsAtOnce {
@@ -101,11 +97,11 @@ fn write_lines<W: Write>(sums: &Sums, out: &mut WatchedWriter<W>) -> Result<(), 
     ensures lines { OnOk result (Appends (W.contents out.old.writer) (W.contents out.new.writer) (load_lines sums.now)) }
     ensures cause { IfErr result (λ f. (f ≡ WriteFault) × (out.new.has_refused ≡ true)) }
 {
-    write_number(out, "made ", sums.made)?;
-    write_number(out, " exits ", sums.exits)?;
-    write_number(out, " strays ", sums.strays)?;
-    write_number(out, " restarts ", sums.restarts)?;
-    write_number(out, " gave_up ", sums.given_up)?;
+    write_number(out, "made ", sums.tally.made)?;
+    write_number(out, " exits ", sums.tally.exits)?;
+    write_number(out, " strays ", sums.tally.strays)?;
+    write_number(out, " restarts ", sums.tally.restarts)?;
+    write_number(out, " gave_up ", sums.tally.given_up)?;
     write_number(out, " left ", sums.left as u64)?;
     write_number(out, " held ", sums.held as u64)?;
     write_number(out, "\nreads ", sums.reads)?;
@@ -138,119 +134,142 @@ pub fn write_text<W: Write>(out: &mut WatchedWriter<W>, text: &str) -> Result<()
     }
 }
 
-/// Returns the template of the load's supervisor.
-fn template_of(load: &Load) -> Result<Template, StopFault> {
-    Ok(Template::new(
-        Restart::Temporary,
-        Kind::Worker,
-        0,
-        5,
-        load.children,
-        1 << 62,
-    )?)
+/// Runs a load.
+#[derive(Drop)]
+pub struct Runner<'r, R> {
+    pub rt: &'r R,
+    pub alloc: Global,
+    pub load: Load,
+    /// Whether a person reads standard error: then a line there says meanwhile how far the load is.
+    pub is_person: bool,
 }
 
-/// Returns how many places the load takes: one for each thread that runs bodies, asks or drives, or tells a person how far it is.
-fn places_of(load: &Load, is_person: bool) -> u64 {
-    (load.workers + 1 + load.readers + usize::from(is_person)) as u64
-}
-
-/// Runs the load, with a journal on a new file at this path, if there is one: each update is written there before it takes effect.
-/// Meanwhile a line on standard error says to a person how far the load is.
-pub fn measure<R>(
-    rt: &R,
-    alloc: Global,
-    load: Load,
-    journal: Option<&str>,
-    is_person: bool,
-) -> Result<Sums, StopFault>
-where
-    R: Threads + Wait + Files + Eprint + Sync,
-    R::File: Send + LockFile,
-    ensures { IfOk result (λ s. (template : ATemplate) × AreCounts template s) }
-{
-    let template = template_of(&load)?;
-    let Some(path) = journal else {
-        return measure_with(rt, alloc, load, template, NoJournal, is_person);
-    };
-    let file = open_file(rt, alloc, path, OpenOptions::new().create_new(true))?;
-    match TextJournal::<Unknown, Synced<R::File>, Global>::new(alloc, file, &template) {
-        Ok(journal) => measure_with(rt, alloc, load, template, journal, is_person),
-        Err(not_begun) => Err(StopFault::from(not_begun.fault)),
-    }
-}
-
-/// Runs the load with this journal.
-fn measure_with<R, J>(
-    rt: &R,
-    alloc: Global,
-    load: Load,
-    template: Template,
-    journal: J,
-    is_person: bool,
-) -> Result<Sums, StopFault>
-where
-    R: Threads + Wait + Eprint + Sync,
-    J: Journal + Drop + Send,
-    requires { J.has journal template [] [] }
-    ensures { IfOk result (λ s. (template : ATemplate) × AreCounts template s) }
-{
-    let ground = Ground::new(alloc, rt, template, places_of(&load, is_person))?;
-    on_ground::<Brand, R, J>(rt, alloc, ground, load, journal, is_person)
-}
-
-/// Runs the load on a desk of this ground, which N names, with this journal.
-fn on_ground<N, R, J>(
-    rt: &R,
-    alloc: Global,
-    ground: Ground,
-    load: Load,
-    journal: J,
-    is_person: bool,
-) -> Result<Sums, StopFault>
-where
-    N: Name + Send + Sync,
-    R: Threads + Wait + Eprint + Sync,
-    J: Journal + Drop + Send,
-    requires name { (ground.press ≡ N.press) × (ground.template ≡ N.template) × (ground.sessions ≡ N.sessions) }
-    requires journal { J.has journal N.template [] [] }
-    ensures { IfOk result (λ s. AreCounts N.template s) }
-{
-    let desk: Desk<N, ScriptStarter, &R, J> = Desk::with_journal(
-        ground,
-        rt,
-        ScriptStarter,
-        journal,
-    );
-    on_desk(rt, alloc, &desk, load, is_person)
-}
-
-/// Runs the load on this desk, with a handle for each reader.
-fn on_desk<N, R, J>(
-    rt: &R,
-    alloc: Global,
-    desk: &Desk<N, ScriptStarter, &R, J>,
-    load: Load,
-    is_person: bool,
-) -> Result<Sums, StopFault>
-where
-    N: Name + Send + Sync,
-    R: Threads + Wait + Eprint + Sync,
-    J: Journal + Drop + Send,
-    ensures { IfOk result (λ s. AreCounts N.template s) }
-{
-    let mut handles = Vec::with_capacity(alloc, load.readers)?;
-    for _ in 0..load.readers {
-        if handles.push(desk.handle(rt)?).is_err() {
-            return Err(StopFault::OutOfMemory);
+impl<'r, R: Threads + Wait + Eprint + Sync> Runner<'r, R> {
+    /// Runs the load, with a journal on a new file at this path, if there is one: each update is written there before it takes effect.
+    pub fn measure(&self, journal: Option<&str>) -> Result<Sums, StopFault>
+    where
+        R: Files,
+        R::File: Send + LockFile,
+        ensures { IfOk result (λ s. (template : ATemplate) × AreCounts template s) }
+    {
+        let children = self.load.children;
+        let template = Template::new(Restart::Temporary, Kind::Worker, 0, 5, children, 1 << 62)?;
+        let Some(path) = journal else {
+            return self.with_journal(template, NoJournal);
+        };
+        let file = open_file(
+            self.rt,
+            self.alloc,
+            path,
+            OpenOptions::new().create_new(true),
+        )?;
+        match TextJournal::<Unknown, Synced<R::File>, Global>::new(self.alloc, file, &template) {
+            Ok(journal) => self.with_journal(template, journal),
+            Err(not_begun) => Err(StopFault::from(not_begun.fault)),
         }
     }
-    let plan = plan(alloc, load)?;
-    let asker = if is_person { desk.asker(rt).ok() } else { None };
-    beside_readers(rt, alloc, desk, handles, plan, load, asker)
+
+    /// Runs the load with this journal, on a desk with a place for each thread that runs bodies, asks or drives, or tells a person how
+    /// far it is.
+    fn with_journal<J: Journal + Drop + Send>(
+        &self,
+        template: Template,
+        journal: J,
+    ) -> Result<Sums, StopFault>
+        requires { J.has journal template [] [] }
+        ensures { IfOk result (λ s. (template : ATemplate) × AreCounts template s) }
+    {
+        let places = self.load.workers + 1 + self.load.readers + usize::from(self.is_person);
+        let ground = Ground::new(self.alloc, self.rt, template, places as u64)?;
+        self.on_ground::<Brand, J>(ground, journal)
+    }
+
+    /// Runs the load with this journal on a desk of this ground, which N names.
+    fn on_ground<N, J>(&self, ground: Ground, journal: J) -> Result<Sums, StopFault>
+    where
+        N: Name + Send + Sync,
+        J: Journal + Drop + Send,
+        requires name { (ground.press ≡ N.press) × (ground.template ≡ N.template) × (ground.sessions ≡ N.sessions) }
+        requires journal { J.has journal N.template [] [] }
+        ensures { IfOk result (λ s. AreCounts N.template s) }
+    {
+        let desk: Desk<N, ScriptStarter, &R, J> = Desk::with_journal(
+            ground,
+            self.rt,
+            ScriptStarter,
+            journal,
+        );
+        self.on_desk(&desk)
+    }
+
+    /// Runs the load on this desk, with a handle for each reader.
+    fn on_desk<N, J>(&self, desk: &Desk<N, ScriptStarter, &R, J>) -> Result<Sums, StopFault>
+    where
+        N: Name + Send + Sync,
+        J: Journal + Drop + Send,
+        ensures { IfOk result (λ s. AreCounts N.template s) }
+    {
+        let mut handles = Vec::with_capacity(self.alloc, self.load.readers)?;
+        for _ in 0..self.load.readers {
+            if handles.push(desk.handle(self.rt)?).is_err() {
+                return Err(StopFault::from(AllocError));
+            }
+        }
+        let asker = if self.is_person {
+            desk.asker(self.rt).ok()
+        } else {
+            None
+        };
+        self.beside_readers(desk, handles, asker)
+    }
+
+    /// Runs the crew while each of these handles asks in a thread of its own, and the asker in another, which says to a person how far
+    /// the load is.
+    fn beside_readers<'d, N, J>(
+        &self,
+        desk: &'d Desk<N, ScriptStarter, &R, J>,
+        handles: Vec<Handle<'d, N, ScriptStarter, &R, J>>,
+        asker: Option<Asker<N>>,
+    ) -> Result<Sums, StopFault>
+    where
+        N: Name + Send + Sync,
+        J: Journal + Drop + Send,
+        ensures { IfOk result (λ s. AreCounts N.template s) }
+    {
+        let progress = Progress::new();
+        let told = &progress;
+        let (rt, alloc, load) = (self.rt, self.alloc, self.load);
+        thread::scope(
+            thread::scope_env(),
+            rt,
+            move |scope| -> Result<Sums, StopFault>
+                ensures { IfOk result (λ s. AreCounts N.template s) }
+            {
+                let plan = plan(alloc, load)?;
+                let mut readers = Vec::with_capacity(alloc, handles.len())?;
+                for handle in handles {
+                    let mut handle = handle;
+                    let Ok(reader) = scope.spawn(move || read_turns(&mut handle, load.turns)) else {
+                        return Err(StopFault::from(AllocError));
+                    };
+                    if readers.push(reader).is_err() {
+                        return Err(StopFault::from(AllocError));
+                    }
+                }
+                // (if that can't be written, the load still runs)
+                if let Some(mut asker) = asker {
+                    let _ = scope.spawn(move || told.tell(rt, &mut asker, load.children));
+                }
+                let report = run_crew(rt, alloc, desk, &EndsAtOnce, plan);
+                let asked = join_readers(rt, readers);
+                told.end();
+                Ok(sums_of(&report?, asked))
+            },
+        )
+    }
 }
 
-/// The children `c1`, `c2` and so on, as many as the load says.
+/// Returns the plan of a crew: the children `c1`, `c2` and so on, as many as the load says.
 fn plan(alloc: Global, load: Load) -> Result<Plan, AllocError>
     ensures { IfOk result (λ p. (p.workers ≡ load.workers) × (p.inbox ≡ 1024) × (p.turns ≡ 1000000000)) }
 {
@@ -270,60 +289,7 @@ fn plan(alloc: Global, load: Load) -> Result<Plan, AllocError>
     })
 }
 
-/// Runs the crew while each of these handles asks in a thread of its own, and the asker in another, which says to a person how far
-/// the load is.
-fn beside_readers<'d, N, R, J>(
-    rt: &R,
-    alloc: Global,
-    desk: &'d Desk<N, ScriptStarter, &R, J>,
-    handles: Vec<Handle<'d, N, ScriptStarter, &R, J>>,
-    plan: Plan,
-    load: Load,
-    asker: Option<Asker<N>>,
-) -> Result<Sums, StopFault>
-where
-    N: Name + Send + Sync,
-    R: Threads + Wait + Eprint + Sync,
-    J: Journal + Drop + Send,
-    requires workers { (1 ≤ plan.workers) × (plan.workers ≤ 64) }
-    requires inbox { plan.inbox ≡ 1024 }
-    requires turns { plan.turns ≡ 1000000000 }
-    ensures { IfOk result (λ s. AreCounts N.template s) }
-{
-    let progress = Progress::new();
-    let told = &progress;
-    thread::scope(
-        thread::scope_env(),
-        rt,
-        move |scope| -> Result<Sums, StopFault>
-            requires workers { (1 ≤ plan.workers) × (plan.workers ≤ 64) }
-            requires inbox { plan.inbox ≡ 1024 }
-            requires turns { plan.turns ≡ 1000000000 }
-            ensures { IfOk result (λ s. AreCounts N.template s) }
-        {
-            let mut readers = Vec::with_capacity(alloc, handles.len())?;
-            for handle in handles {
-                let mut handle = handle;
-                let Ok(reader) = scope.spawn(move || read_turns(&mut handle, load.turns)) else {
-                    return Err(StopFault::OutOfMemory);
-                };
-                if readers.push(reader).is_err() {
-                    return Err(StopFault::OutOfMemory);
-                }
-            }
-            // (if that can't be written, the load still runs)
-            if let Some(mut asker) = asker {
-                let _ = scope.spawn(move || told.tell(rt, &mut asker, load.children));
-            }
-            let report = run_crew(rt, alloc, desk, &EndsAtOnce, plan);
-            let asked = join_readers(rt, readers);
-            told.end();
-            Ok(sums_of(&report?, asked))
-        },
-    )
-}
-
-/// How many questions were answered, and whether each was. A reader that was refused counts for nothing.
+/// Returns how many questions were answered, and whether each was. A reader that was refused counts for nothing.
 fn join_readers<R: Threads>(
     rt: &R,
     readers: Vec<JoinHandle<Result<Reads, Gone>>>,
@@ -339,11 +305,10 @@ fn join_readers<R: Threads>(
     (answered, outcome)
 }
 
-/// What the report says, with the questions that were answered. The fault is the run's, else Gone where a reader was
+/// Returns what the report says, with the questions that were answered. The fault is the run's, else Gone where a reader was
 /// refused.
 fn sums_of<N: Name>(report: &Report<N>, asked: (u64, Result<(), Gone>)) -> Sums
-    ensures made { (result.made ≡ report.now.tally.made) × (result.exits ≡ report.now.tally.exits) × (result.strays ≡ report.now.tally.strays) }
-    ensures ended { (result.restarts ≡ report.now.tally.restarts) × (result.given_up ≡ report.now.tally.given_up) }
+    ensures tally { result.tally ≡ report.now.tally }
     ensures sums { (moment : ℕ) (plan : List AText) → IsRunOfItsOwn (λ number arg reason. reason ≡ Normal) N.template N.press moment plan report.now →
         AreCounts N.template result }
     ensures fault { result.fault ≡ fault_behind report.now.fault asked.1 }
@@ -352,16 +317,12 @@ fn sums_of<N: Name>(report: &Report<N>, asked: (u64, Result<(), Gone>)) -> Sums
 {
     let (reads, outcome) = asked;
     let fault = match (report.fault, outcome) {
-        (Some(fault), _) => Some(StopFault::of_update(fault)),
+        (Some(fault), _) => Some(StopFault::Update(fault)),
         (None, Err(_)) => Some(StopFault::Gone),
         (None, Ok(())) => None,
     };
     Sums {
-        made: report.tally.made,
-        exits: report.tally.exits,
-        strays: report.tally.strays,
-        restarts: report.tally.restarts,
-        given_up: report.tally.given_up,
+        tally: report.tally,
         left: report.left.len(),
         held: report.held.len(),
         waiting: report.inbox.len(),

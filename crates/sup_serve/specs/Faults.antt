@@ -12,4 +12,5 @@ serve_fault_number (fault.Crew met) = live_crew_fault_number met
 serve_fault_number fault.Read = 10
 serve_fault_number fault.Write = 11
 serve_fault_number (fault.Journal met) = 13
-serve_fault_number (fault.NoJournal met) = open_fault_number met
+serve_fault_number (fault.NotAnew met) = open_fault_number met
+serve_fault_number fault.GaveUp = 17

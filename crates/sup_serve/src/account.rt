@@ -8,7 +8,7 @@ use std::io::Write;
 use sup_live::CrewReport;
 use sup_script::WatchedWriter;
 
-/// How many sessions there were.
+/// Says how many sessions there were.
 #[derive(Clone, Copy)]
 pub struct Account {
     opened: u64,
@@ -44,20 +44,11 @@ impl Account {
         ensures read { IfErr result (λ e. e ≡ fault.Read → ⊥) }
         ensures write { IfErr result (λ e. e ≡ fault.Write → out.new.has_refused ≡ true) }
     {
-        let Account {
-            opened,
-            restarted,
-            ended,
-            kept,
-            adds_up,
-        } = self;
-        let which = if adds_up { "every" } else { "not every" };
+        let which = if self.adds_up { "every" } else { "not every" };
         let line = format!(in alloc;
-            "opened {opened} restarted {restarted} ended {ended} kept {kept}: {which} session is accounted for\n"
-        );
-        let Ok(line) = line else {
-            return Err(ServeFault::OutOfMemory);
-        };
+            "opened {} restarted {} ended {} kept {}: {which} session is accounted for\n",
+            self.opened, self.restarted, self.ended, self.kept
+        )?;
         match out.send(line.as_bytes()) {
             Ok(()) => Ok(()),
             Err(_) => Err(ServeFault::Write),

@@ -1,10 +1,9 @@
 //! The text of answers.
 use crate::fault::ServeFault;
-use crate::session::Heard;
 use std::alloc::Global;
 use std::fmt::Display;
 use std::io::Write;
-use sup_desk::{QueryFault, UpdateFault};
+use sup_desk::QueryFault;
 use sup_log::Gone;
 use sup_script::WatchedWriter;
 use sup_types::{Counts, Reply, Row, Seen};
@@ -17,7 +16,7 @@ pub struct Answers<'o, W> {
 }
 
 impl<'o, W: Write> Answers<'o, W> {
-    /// Answers to this writer.
+    /// Makes the answers of this writer.
     pub fn new(alloc: Global, out: &'o mut WatchedWriter<W>) -> Answers<'o, W> {
         Answers { alloc, out }
     }
@@ -36,31 +35,28 @@ impl<'o, W: Write> Answers<'o, W> {
         self.say(format_args!("error no session {number}"))
     }
 
-    /// Says what a session answered.
-    pub fn say_heard(&mut self, number: u64, heard: Option<Heard>) -> Result<(), ServeFault> {
+    /// Says how many texts the session with this number has heard, or that it lives no more.
+    pub fn say_heard(&mut self, number: u64, heard: Option<u64>) -> Result<(), ServeFault> {
         match heard {
-            Some(heard) => self.say(format_args!(
-                "session {} messages {}",
-                heard.number, heard.messages
-            )),
+            Some(messages) => self.say(format_args!("session {number} messages {messages}")),
             None => self.say_nobody(number),
         }
     }
 
-    /// Says the reply to an opening, or to closing the session with this number, or why there is none.
-    pub fn say_done(
-        &mut self,
-        number: u64,
-        reply: Result<Reply, UpdateFault>,
-    ) -> Result<(), ServeFault> {
+    /// Says the reply to an opening, or to closing the session with this number.
+    pub fn say_reply(&mut self, number: u64, reply: Reply) -> Result<(), ServeFault> {
         match reply {
-            Ok(Reply::Started(number)) => self.say(format_args!("opened {number}")),
-            Ok(Reply::Full) => self.say("error full"),
-            Ok(Reply::Ended) => self.say(format_args!("closing {number}")),
-            Ok(Reply::NotFound) => self.say_nobody(number),
-            Ok(_) => self.say("error down"),
-            Err(fault) => self.say(format_args!("error {fault}")),
+            Reply::Started(number) => self.say(format_args!("opened {number}")),
+            Reply::Full => self.say("error full"),
+            Reply::Ended => self.say(format_args!("closing {number}")),
+            Reply::NotFound => self.say_nobody(number),
+            _ => self.say("error down"),
         }
+    }
+
+    /// Says why there is no reply.
+    pub fn say_fault(&mut self, fault: &impl Display) -> Result<(), ServeFault> {
+        self.say(format_args!("error {fault}"))
     }
 
     /// Says which sessions there are.
@@ -68,7 +64,7 @@ impl<'o, W: Write> Answers<'o, W> {
         let rows = match seen {
             Ok(Seen::Up(rows)) => rows,
             Ok(Seen::Down) => return self.say("error down"),
-            Err(fault) => return self.say(format_args!("error {fault}")),
+            Err(fault) => return self.say_fault(&fault),
         };
         for row in &rows {
             self.say(format_args!("session {} {}", row.number, row.arg.as_str()))?;

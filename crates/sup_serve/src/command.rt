@@ -2,22 +2,19 @@
 use sup_script::read_number;
 use sup_types::Text;
 
-/// What may be asked of the server.
+/// Says what is asked of the server.
 #[derive(Clone, Copy, Debug, PartialEq, Eq)]
 pub enum Command {
-    /// A session of this name is to be opened.
+    /// Opens a session of this name.
     Open(Text),
-    /// The session with this number is sent this text.
+    /// Sends this text to the session with this number.
     Tell(u64, Text),
-    /// The session with this number is to crash.
+    /// Lets the session with this number crash.
     Crash(u64),
-    /// The session with this number is to end.
+    /// Ends the session with this number.
     Close(u64),
-    /// Which sessions are there?
     Who,
-    /// How many sessions are there?
     Count,
-    /// The server is to end.
     Quit,
 }
 

@@ -5,10 +5,19 @@
 //! client; queries take no lock. With a journal the sessions outlive the server.
 //!
 //! ```text
-//! let served = serve(&rt, rt.alloc(), Some("sessions.txt"), &mut input, &mut out, Notices::Off)?;
+//! let served = serve(&rt, &how, &mut input, &mut out)?;
 //! ```
 //!
-//! No clause says what is answered: stored cases of the program do. The prover shows of each function that it is safe.
+//! # What is proved
+//! - Each function is safe. `serve` is `Ok` only if no read failed; `Read` and `Write` come only of a read or write that failed.
+//! - The account says `every session is accounted for` only if no exit is owed and the history was audited.
+//! - A session ends only as it was asked to, or by a crash.
+//!
+//! # What is on trust
+//! The toolchain, and that threads run, messages come and files hold what was written.
+//!
+//! # What is only tested
+//! What is answered, and what a killed server and a full disk leave: by stored cases of the program.
 #![tactic(auto)]
 
 mod account;
@@ -21,5 +30,4 @@ mod serving;
 mod session;
 
 pub use fault::ServeFault;
-pub use server::Notices;
 pub use serving::serve;

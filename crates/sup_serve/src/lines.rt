@@ -9,10 +9,10 @@ use sup_script::WatchedReader;
 /// The most bytes of a line that are kept. No line that asks for something is as long.
 const MOST_KEPT: usize = 128;
 
-/// A line without its line feed: at most its first 128 bytes.
+/// Holds a line without its line feed: at most its first 128 bytes.
 pub type Line = ArrayVec<u8, MOST_KEPT>;
 
-/// The lines of an input, which is read in pieces.
+/// Reads the lines of an input, in pieces.
 #[derive(Drop)]
 pub struct Lines<'a, I> {
     input: &'a mut WatchedReader<I>,
@@ -38,16 +38,14 @@ impl<'a, I: Read> Lines<'a, I> {
     /// fails is none.
     pub fn next<R: Wait>(&mut self, rt: &R) -> Option<Line> {
         let mut line = Line::new();
-        let mut is_begun = false;
         for _ in rt.forever() {
             match self.next_byte() {
                 Some(b'\n') => return Some(line),
                 Some(byte) => {
-                    // (of a line that is too long only the beginning is kept)
+                    // (only the beginning of a long line is kept)
                     let _ = line.try_push(byte);
-                    is_begun = true;
                 }
-                None => return (is_begun && !self.input.has_failed()).then_some(line),
+                None => return (!line.is_empty() && !self.input.has_failed()).then_some(line),
             }
         }
         unreachable!()

@@ -3,41 +3,32 @@ use crate::answers::Answers;
 use crate::command::{Command, read_command};
 use crate::fault::ServeFault;
 use crate::lines::Lines;
-use crate::session::{Heard, Message, Restarted, Sessions};
+use crate::session::{Message, Restarted, Sessions};
 use futures::channel::mpsc::UnboundedReceiver;
 use futures::channel::oneshot::channel;
 use futures::executor::block_on;
-use std::alloc::{AllocGlobal, Global};
+use std::alloc::AllocGlobal;
 use std::io::{Read, Write};
 use std::random::RandomSource;
 use std::sync::Wait;
-use sup_desk::{Done, UpdateFault};
-use sup_live::{LiveClient, NotStarted, Program, Started};
+use sup_live::{LiveClient, Program};
+use sup_log::Gone;
 use sup_script::{WatchedReader, WatchedWriter};
-use sup_types::{Reply, Seen, Text};
-
-/// Whether the server says by itself how many sessions there are.
-#[derive(Clone, Copy, Debug, PartialEq, Eq)]
-pub enum Notices {
-    /// It does not.
-    Off,
-    /// It writes a line after an answer if the count has changed.
-    On,
-}
+use sup_types::{Counts, Seen, Text};
+use sup_words::Serve;
 
 /// Answers lines until the input ends, or asks to quit.
 #[derive(Drop)]
 pub struct Server<'r, 'i, 'o, H, I, W> {
     /// The runtime by which it waits for lines and for the answers of sessions.
     pub host: &'r H,
-    pub alloc: Global,
     pub input: &'i mut WatchedReader<I>,
     pub out: &'o mut WatchedWriter<W>,
     /// Which sessions were restarted.
     pub restarted: UnboundedReceiver<Restarted>,
-    /// Whether it says how many sessions a journal had, and keeps those that remain.
-    pub is_recorded: bool,
-    pub notices: Notices,
+    /// Under which number the file of an earlier history was kept, if one was.
+    pub kept: Option<u64>,
+    pub how: Serve<'r>,
 }
 
 impl<'r, 'i, 'o, H, I, W> Program<Sessions> for Server<'r, 'i, 'o, H, I, W>
@@ -46,25 +37,29 @@ where
     I: Read,
     W: Write,
 {
-    /// How many sessions it found.
+    /// Counts the sessions that it found.
     type Outcome = Result<u64, ServeFault>;
 
     fn run<C: LiveClient<Sessions>>(self, client: &mut C) -> Result<u64, ServeFault> {
         let Server {
             host,
-            alloc,
             input,
             out,
             mut restarted,
-            is_recorded,
-            notices,
+            kept,
+            how,
         } = self;
-        let mut answers = Answers::new(alloc, out);
+        let mut answers = Answers::new(host.alloc(), out);
         let mut lines = Lines::new(input);
-        let found = count(client);
+        let found = match client.count_children() {
+            Ok(Seen::Down) => return Err(ServeFault::GaveUp),
+            seen => active(seen),
+        };
         let mut told = found;
-        if is_recorded {
-            client.keep_children();
+        if let Some(path) = how.journal {
+            if let Some(number) = kept {
+                answers.say(format_args!("earlier history {path}.{number}"))?;
+            }
             answers.say(format_args!("found sessions {found}"))?;
         }
         for _ in host.forever() {
@@ -75,10 +70,10 @@ where
             };
             match read_command(line.as_slice()) {
                 Ok(Command::Quit) => return Ok(found),
-                Ok(command) => answer(host, alloc, client, &mut answers, command)?,
+                Ok(command) => answer(host, client, &mut answers, command)?,
                 Err(expected) => answers.say(format_args!("expected {expected}"))?,
             }
-            if notices == Notices::On {
+            if how.says_count {
                 told = tell_count(client, &mut answers, told)?;
             }
         }
@@ -104,16 +99,21 @@ fn say_restarted<H: Wait, W: Write>(
 /// Answers a command.
 fn answer<C: LiveClient<Sessions>, H: Wait + RandomSource + AllocGlobal, W: Write>(
     host: &H,
-    alloc: Global,
     client: &mut C,
     answers: &mut Answers<'_, W>,
     command: Command,
 ) -> Result<(), ServeFault> {
     match command {
-        Command::Open(name) => answers.say_done(0, opened(client.start_child(name, ()))),
-        Command::Close(number) => answers.say_done(number, closed(client.terminate_child(number))),
+        Command::Open(name) => match client.start_child(name, ()) {
+            Ok(started) => answers.say_reply(0, started.reply),
+            Err(refused) => answers.say_fault(&refused.fault),
+        },
+        Command::Close(number) => match client.terminate_child(number) {
+            Ok(done) => answers.say_reply(number, done.reply),
+            Err(fault) => answers.say_fault(&fault),
+        },
         Command::Tell(number, text) => {
-            let heard = tell(host, alloc, client, number, text)?;
+            let heard = tell(host, client, number, text)?;
             answers.say_heard(number, heard)
         }
         Command::Crash(number) => match client.send(number, Message::Crash) {
@@ -126,38 +126,26 @@ fn answer<C: LiveClient<Sessions>, H: Wait + RandomSource + AllocGlobal, W: Writ
     }
 }
 
-/// Returns the reply to an opening.
-fn opened(started: Result<Started<Sessions>, NotStarted<()>>) -> Result<Reply, UpdateFault> {
-    Ok(started?.reply)
-}
-
-/// Returns the reply to a closing.
-fn closed(done: Result<Done, UpdateFault>) -> Result<Reply, UpdateFault> {
-    Ok(done?.reply)
-}
-
-/// Sends a text to a session, and waits for the answer. Returns `None` if no such session lives, or it ends before it answers.
+/// Sends a text to a session, and waits for how many it has heard. Returns `None` if no such session lives, or it ends before it answers.
 fn tell<C: LiveClient<Sessions>, H: Wait + RandomSource + AllocGlobal>(
     host: &H,
-    alloc: Global,
     client: &C,
     number: u64,
     text: Text,
-) -> Result<Option<Heard>, ServeFault> {
-    let (sender, receiver) = channel(alloc)?;
+) -> Result<Option<u64>, ServeFault> {
+    let (sender, receiver) = channel(host.alloc())?;
     if client.send(number, Message::Text(text, sender)).is_err() {
         return Ok(None);
     }
     match block_on(host, receiver) {
-        Ok(Ok(heard)) => Ok(Some(heard)),
-        Ok(Err(_)) => Ok(None),
+        Ok(heard) => Ok(heard.ok()),
         Err(_) => Err(ServeFault::OutOfMemory),
     }
 }
 
-/// Returns how many sessions there are.
-fn count<C: LiveClient<Sessions>>(client: &mut C) -> u64 {
-    match client.count_children() {
+/// Returns how many sessions were seen.
+fn active(seen: Result<Seen<Counts>, Gone>) -> u64 {
+    match seen {
         Ok(Seen::Up(counts)) => counts.active,
         _ => 0,
     }
@@ -169,7 +157,7 @@ fn tell_count<C: LiveClient<Sessions>, W: Write>(
     answers: &mut Answers<'_, W>,
     told: u64,
 ) -> Result<u64, ServeFault> {
-    let now = count(client);
+    let now = active(client.count_children());
     if now != told {
         answers.say(format_args!("status sessions {now}"))?;
     }

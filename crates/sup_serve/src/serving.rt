@@ -4,7 +4,7 @@ ghost use Rattle.sup_serve.specs.declared.fault.ServeFault.TheVariants as fault;
 
 use crate::account::Account;
 use crate::fault::ServeFault;
-use crate::server::{Notices, Server};
+use crate::server::Server;
 use crate::session::Sessions;
 use futures::channel::mpsc::unbounded;
 use std::alloc::{AllocGlobal, Global};
@@ -14,10 +14,11 @@ use std::random::RandomSource;
 use std::sync::Wait;
 use std::thread::Threads;
 use std::time::Clock;
-use sup_journal::{Flush, LockFile};
+use sup_journal::{Flush, LockFile, begin_anew};
 use sup_live::Crew;
 use sup_script::{WatchedReader, WatchedWriter};
 use sup_types::{Kind, Restart, Template};
+use sup_words::Serve;
 
 /// The most sessions at a time.
 const MOST_SESSIONS: u64 = 65_536;
@@ -26,19 +27,19 @@ const MOST_SESSIONS: u64 = 65_536;
 /// written. It waits.
 ///
 /// With the path of a journal the sessions outlive the server. Their history is in that file, which is made if there is none: the
-/// sessions that it lists run again, each under its number, and a line says how many, before anything is read.
+/// sessions that it lists run again, each under its number, and a line says how many, before anything is read. If a new history is
+/// to begin in it, the old file is kept under another name first, and a line says under which.
 ///
 /// # Errors
 /// `Read` and `Write`: the input or the output failed; the sessions were asked to end, and what was answered before is written.
 /// `Journal`: it broke off, and no account is written. `OutOfMemory`: memory ran out, before or after the first line was read.
-/// `Crew`: the crew could not run, and `NoJournal`: the file could not be continued; nothing was read.
+/// `Crew`: the crew could not run, or the file could not be continued, and its whole lines are as they were; `NotAnew`: no new history
+/// could be begun; `GaveUp`: the supervisor of the history is down. Then nothing was read.
 pub fn serve<R, I, W>(
     rt: &R,
-    alloc: Global,
-    journal: Option<&str>,
+    how: &Serve<'_>,
     input: &mut WatchedReader<I>,
     out: &mut WatchedWriter<W>,
-    notices: Notices,
 ) -> Result<(), ServeFault>
 where
     R: Threads + Wait + Clock + RandomSource + AllocGlobal + Files + Sync,
@@ -49,12 +50,12 @@ where
     ensures read { IfErr result (λ e. e ≡ fault.Read → input.new.has_failed ≡ true) }
     ensures write { IfErr result (λ e. e ≡ fault.Write → out.new.has_refused ≡ true) }
 {
-    let account = serve_lines(rt, alloc, journal, input, out, notices);
-    conclude(alloc, input, out, account)
+    let account = serve_lines(rt, how, input, out);
+    conclude(rt.alloc(), input, out, account)
 }
 
-/// Returns how serving ended, by what failed meanwhile: if nothing did, the account is written. It is apart from what serves,
-/// so that its contract is proved, and its mutants are refused, without that.
+/// Returns how serving ended, by what failed meanwhile: if nothing did, the account is written. Apart from what serves, its contract is
+/// proved without that.
 fn conclude<I: Read, W: Write>(
     alloc: Global,
     input: &WatchedReader<I>,
@@ -73,10 +74,8 @@ fn conclude<I: Read, W: Write>(
     }
     match account {
         Ok(account) => account.tell(alloc, out),
-        Err(ServeFault::Crew(fault)) => Err(ServeFault::Crew(fault)),
-        Err(ServeFault::Journal(fault)) => Err(ServeFault::Journal(fault)),
-        Err(ServeFault::NoJournal(fault)) => Err(ServeFault::NoJournal(fault)),
-        Err(_) => Err(ServeFault::OutOfMemory),
+        Err(ServeFault::Read | ServeFault::Write) => Err(ServeFault::OutOfMemory),
+        Err(fault) => Err(fault),
     }
 }
 
@@ -99,11 +98,9 @@ fn template() -> Template {
 /// Runs the crew of the sessions, with the server as its program.
 fn serve_lines<R, I, W>(
     rt: &R,
-    alloc: Global,
-    journal: Option<&str>,
+    how: &Serve<'_>,
     input: &mut WatchedReader<I>,
     out: &mut WatchedWriter<W>,
-    notices: Notices,
 ) -> Result<Account, ServeFault>
 where
     R: Threads + Wait + Clock + RandomSource + AllocGlobal + Files + Sync,
@@ -111,19 +108,22 @@ where
     I: Read,
     W: Write,
 {
-    let (sender, restarted) = unbounded(alloc)?;
+    let kept = match how.journal {
+        Some(path) if how.is_anew => begin_anew(rt, rt.alloc(), path, &template())?,
+        _ => None,
+    };
+    let (sender, restarted) = unbounded(rt.alloc())?;
     let sessions = Sessions { restarted: sender };
     let server = Server {
         host: rt,
-        alloc,
         input,
         out,
         restarted,
-        is_recorded: journal.is_some(),
-        notices,
+        kept,
+        how: *how,
     };
     let crew = Crew::new(template(), &sessions).threads(4);
-    let Some(path) = journal else {
+    let Some(path) = how.journal else {
         return Account::of(crew.run(rt, server)?);
     };
     let (report, closed) = crew.run_in_file(rt, path, Flush::EachUpdate, server)?;

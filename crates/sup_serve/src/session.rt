@@ -1,4 +1,4 @@
-//! Sessions: what the children do.
+//! The sessions: what the children do.
 ghost use Rattle.std.specs.Prelude.{◌≡◌, ⊤, true, IfSome};
 ghost use Rattle.sup_serve.specs.Sessions.{ends_session};
 
@@ -9,30 +9,19 @@ use futures::{Future, Stream};
 use sup_live::{Behaviour, End, Mailbox};
 use sup_types::{Reason, Text};
 
-/// What a session answers to a text.
-#[derive(Clone, Copy, Debug)]
-pub struct Heard {
-    /// The number of the session.
-    pub number: u64,
-    /// How many texts it was sent, with this one.
-    pub messages: u64,
-}
-
-/// What a session is sent.
+/// Says what a session is sent.
 #[derive(Drop)]
 pub enum Message {
-    /// A text, and where the answer goes.
-    Text(Text, Sender<Heard>),
-    /// It is to crash.
+    /// A text, and where the answer goes: how many texts the session was sent, with this one.
+    Text(Text, Sender<u64>),
+    /// Lets it crash.
     Crash,
 }
 
-/// A session that was restarted.
+/// Says which session was restarted: the number that it had, and the one under which it runs.
 #[derive(Clone, Copy, Debug)]
 pub struct Restarted {
-    /// The number that it had.
     pub number: u64,
-    /// The number under which it runs.
     pub new: u64,
     pub name: Text,
 }
@@ -55,7 +44,7 @@ impl Behaviour for Sessions {
 
     fn begin(
         &self,
-        number: u64,
+        _number: u64,
         _name: &Text,
         _own: Option<()>,
         mailbox: Mailbox<Message>,
@@ -63,7 +52,6 @@ impl Behaviour for Sessions {
         ensures { ⊤ }
     {
         Session {
-            number,
             messages: 0,
             mailbox,
         }
@@ -78,10 +66,9 @@ impl Behaviour for Sessions {
     }
 }
 
-/// A session: it counts what it is sent.
+/// Counts what it is sent.
 #[derive(Drop)]
 pub struct Session {
-    number: u64,
     messages: u64,
     mailbox: Mailbox<Message>,
 }
@@ -95,10 +82,7 @@ impl Session {
             Message::Text(_text, answer) => {
                 self.messages = self.messages.saturating_add(1);
                 // (nobody may wait for the answer any more)
-                let _ = answer.send(Heard {
-                    number: self.number,
-                    messages: self.messages,
-                });
+                let _ = answer.send(self.messages);
                 None
             }
             Message::Crash => Some(Reason::crash()),

@@ -11,13 +11,14 @@ use Rattle.sup_words.specs.Shown.{IsShownAs}
 use Rattle.sup_words.specs.declared.words.Order.{Order}
 use Rattle.sup_words.specs.declared.words.Order.TheVariants as order
 
--- a text is answered; a load and a server are refused, with input and output left alone
+-- a text is answered, or a journal is followed, with the input left alone; a load and a server are refused, with input and output left alone
 abbrev pub IsDone : Order → Option (List ℕ) → Option (List ℕ) → Option (List ℕ) → Option (List ℕ) → Bool → ℕ → Bool → Status → Type 0
 IsDone (order.Text input detail) remaining left contents held has_failed given has_refused status =
     IsInputAnswered input remaining left contents held has_failed given has_refused status
+IsDone (order.Follow path) remaining left contents held has_failed given has_refused s = (left ≡ remaining) × (s ≡ status.Done → ⊥)
 IsDone (order.Load load path detail) remaining left contents held has_failed given has_refused s =
     (left ≡ remaining) × (held ≡ contents) × (s ≡ status.BadInput)
-IsDone (order.Serve notices path) remaining left contents held has_failed given has_refused s =
+IsDone (order.Serve how) remaining left contents held has_failed given has_refused s =
     (left ≡ remaining) × (held ≡ contents) × (s ≡ status.BadInput)
 
 -- the order of the words is done; or they have none, and the input is left alone and that is shown

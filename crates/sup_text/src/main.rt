@@ -15,21 +15,20 @@ use sup_words::{refuse_words, words_given};
 
 fn main(rt: HostRuntime) -> ExitCode {
     let mut err = rt.stderr();
-    let words = match words_given(&rt) {
-        Ok(words) => words,
-        Err(error) => return ExitCode::from(refuse_words(&error, &mut err).number()),
-    };
+    let is_person = err.is_terminal();
     let mut input = WatchedReader::new(rt.stdin());
     let mut out = WatchedWriter::new(rt.stdout());
-    let is_person = err.is_terminal();
-    let status = run_words(
-        &rt,
-        rt.alloc(),
-        words.as_slice(),
-        &mut input,
-        &mut out,
-        &mut err,
-        is_person,
-    );
+    let status = match words_given(&rt) {
+        Ok(words) => run_words(
+            &rt,
+            rt.alloc(),
+            words.as_slice(),
+            &mut input,
+            &mut out,
+            &mut err,
+            is_person,
+        ),
+        Err(error) => refuse_words(&error, &mut err),
+    };
     ExitCode::from(status.number())
 }

@@ -10,14 +10,15 @@ use std::alloc::Global;
 use std::convert::AsStr;
 use std::fs::Files;
 use std::io::{Read, Write};
-use sup_script::{Status, WatchedReader, WatchedWriter, answer_input};
+use std::time::Clock;
+use sup_script::{Status, WatchedReader, WatchedWriter, answer_input, follow_journal};
 use sup_words::{Order, read_words, show};
 
 /// Answers the text that the words ask for, of which the first is the program's name, and returns how it ended. The replies, or a
 /// help text, go to `out`; the line of a fault, and words that are refused, go to `err`. The words of a load or a server are refused
 /// as bad input. To a person, who reads `err`, a fault is explained without being asked.
-pub fn run_words<F: Files, S: AsStr, R: Read, W: Write, E: Write>(
-    files: &F,
+pub fn run_words<F: Files + Clock, S: AsStr, R: Read, W: Write, E: Write>(
+    rt: &F,
     alloc: Global,
     words: &[S],
     reader: &mut WatchedReader<R>,
@@ -42,8 +43,9 @@ pub fn run_words<F: Files, S: AsStr, R: Read, W: Write, E: Write>(
     match read_words(alloc, words) {
         Ok(Order::Text(input, detail)) => {
             let detail = detail.said_to(is_person);
-            answer_input(files, alloc, input, detail, reader, out, err)
+            answer_input(rt, alloc, input, detail, reader, out, err)
         }
+        Ok(Order::Follow(path)) => follow_journal(rt, alloc, path, out, err),
         Ok(Order::Load(..) | Order::Serve(..)) => {
             let _ = writeln!(err, "error: this program answers texts and journals alone");
             Status::BadInput

@@ -227,7 +227,9 @@ load_of kinds command rows w n r t none is are bare silent within (Ok (order.Tex
     let bad : ◌≡◌ {A = ℕ} 114 108 = ap first_byte (sym leads.1.1.0 ∙ is) in absurd (omega arith)
 load_of kinds command rows w n r t none is are bare silent within (Ok (order.Text (input.Journal p) d)) leads =
     let bad : ◌≡◌ {A = ℕ} 106 108 = ap first_byte (sym leads.1.1.0 ∙ is) in absurd (omega arith)
-load_of kinds command rows w n r t none is are bare silent within (Ok (order.Serve d path)) leads =
+load_of kinds command rows w n r t none is are bare silent within (Ok (order.Follow p)) leads =
+    let bad : ◌≡◌ {A = ℕ} 106 108 = ap first_byte (sym leads.1.1 ∙ is) in absurd (omega arith)
+load_of kinds command rows w n r t none is are bare silent within (Ok (order.Serve how)) leads =
     let bad : ◌≡◌ {A = ℕ} 115 108 = ap first_byte (sym leads.1.1 ∙ is) in absurd (omega arith)
 load_of kinds command rows w n r t none is are bare silent within (Ok (order.Load load path answer)) leads =
     let same : leads.1.0 ≡ rows = ap rows_in (sym leads.1.1 ∙ is) in

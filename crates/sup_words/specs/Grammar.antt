@@ -33,28 +33,32 @@ file_rule required = record (new_rule (codes "file")) {
   action = Some Set;
 }
 
--- a command that answers a text, which may be in a file, or has to be: it may explain a fault
-abbrev pub text_app : List ℕ → Bool → App
-text_app name in_file = with_rule (with_rule (new_app name) explain_rule) (file_rule in_file)
+-- a command that may explain a fault
+abbrev pub explained_app : List ℕ → App
+explained_app name = with_rule (new_app name) explain_rule
+
+-- one that answers a text, which may be in a file
+abbrev pub text_app : List ℕ → App
+text_app name = with_rule (explained_app name) (file_rule false)
+
+-- the same of a journal, which is in a file: it may be followed
+abbrev pub journal_app : App
+journal_app = with_rule (with_rule (explained_app (codes "journal")) (flag_rule (codes "follow"))) (file_rule true)
 
 abbrev pub status_rule : Rule
 status_rule = flag_rule (codes "status")
 
--- an option that may be given once, with a path
-abbrev pub path_rule : List ℕ → Rule
-path_rule name = record (new_rule name) {
-  long = Some name;
+-- `--journal`, which may be given once, with a path
+abbrev pub journal_rule : Rule
+journal_rule = record (new_rule (codes "journal")) {
+  long = Some (codes "journal");
   value_names = 1;
   action = Some Set;
 }
 
--- `--journal`, which takes the path of a file
-abbrev pub journal_rule : Rule
-journal_rule = path_rule (codes "journal")
-
--- the server: it may say by itself how many sessions there are, and may have a journal
+-- the server: it may say by itself how many sessions there are, and may have a journal, in which a new history may begin
 abbrev pub serve_app : App
-serve_app = with_rule (with_rule (new_app (codes "serve")) status_rule) journal_rule
+serve_app = with_rule (with_rule (with_rule (new_app (codes "serve")) status_rule) journal_rule) (flag_rule (codes "anew"))
 
 -- the load, with its four numbers, and perhaps a journal; it may explain a fault
 abbrev pub load_app : App
@@ -69,5 +73,5 @@ bare_app = record (new_app (codes "supload")) {
 
 abbrev pub supload_app : App
 supload_app = with_subcommand (with_subcommand (with_subcommand (with_subcommand (with_subcommand bare_app
-    (text_app (codes "script") false).top) (text_app (codes "replay") false).top) (text_app (codes "journal") true).top)
+    (text_app (codes "script")).top) (text_app (codes "replay")).top) journal_app.top)
     load_app.top) serve_app.top

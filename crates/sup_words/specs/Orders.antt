@@ -1,5 +1,5 @@
 -- Which words lead where: what each order takes of them, and the kind of error where they are none.
-use Rattle.std.specs.Prelude.{◌≡◌, ◌⊎◌, ◌<◌, ◌^◌, ℕ, List, [], ◌∷◌, Option, None, Some, Result, Ok, Err, MatchResult, codes, is_some, option_map, true}
+use Rattle.std.specs.Prelude.{◌≡◌, ◌⊎◌, ◌<◌, ◌^◌, ℕ, Bool, List, [], ◌∷◌, Option, None, Some, Result, Ok, Err, MatchResult, codes, false, is_some, option_map, true}
 use Rattle.std.specs.Borrow.{Bor}
 use Rattle.std.specs.Str.Parse.{IsNumeral, digits_value, without_leading_plus}
 use Rattle.clap.specs.Faults.{fault_of}
@@ -9,7 +9,7 @@ use Rattle.clap.specs.Values.{kind_of}
 use Rattle.clap.specs.Walk.{Row, Text, first_of, one_of}
 use Rattle.clap.specs.declared.error.Error.{Error}
 use Rattle.clap.specs.declared.error.kind.ErrorKind.{ErrorKind}
-use Rattle.clap.specs.declared.error.kind.ErrorKind.TheVariants.{InvalidSubcommand, OutOfMemory, ValueValidation}
+use Rattle.clap.specs.declared.error.kind.ErrorKind.TheVariants.{InvalidSubcommand, OutOfMemory}
 use Rattle.sup_words.specs.Grammar.{supload_app}
 use Rattle.sup_script.specs.declared.runs.answer.Detail.{Detail}
 use Rattle.sup_script.specs.declared.runs.answer.Detail.TheVariants as detail
@@ -17,8 +17,6 @@ use Rattle.sup_script.specs.declared.runs.answer.Input.{Input}
 use Rattle.sup_script.specs.declared.runs.answer.Input.TheVariants as input
 use Rattle.sup_words.specs.declared.words.Order.{Order}
 use Rattle.sup_words.specs.declared.words.Order.TheVariants as order
-use Rattle.sup_words.specs.declared.words.Notices.{Notices}
-use Rattle.sup_words.specs.declared.words.Notices.TheVariants as notices
 
 -- the command that clap found among the words, with a row for each of its options
 abbrev pub Command : Type 0
@@ -29,10 +27,10 @@ pub record IsDetail (rows : List Row) (answer : Detail) : Type 0 where
   pub given : one_of (codes "explain") rows ≡ Some (codes "true") → answer ≡ detail.Explained
   pub left_out : one_of (codes "explain") rows ≡ Some (codes "false") → answer ≡ detail.Number
 
--- notices are given where `--status` was
-pub record IsNotices (rows : List Row) (answer : Notices) : Type 0 where
-  pub given : one_of (codes "status") rows ≡ Some (codes "true") → answer ≡ notices.On
-  pub left_out : one_of (codes "status") rows ≡ Some (codes "false") → answer ≡ notices.Off
+-- the flag of this name was given, or it was not
+pub record IsFlag (rows : List Row) (name : Text) (is_given : Bool) : Type 0 where
+  pub given : one_of name rows ≡ Some (codes "true") → is_given ≡ true
+  pub left_out : one_of name rows ≡ Some (codes "false") → is_given ≡ false
 
 -- the option of this name has a text, whose digits write n, perhaps behind a plus
 pub record HasNumber (rows : List Row) (name : Text) (n : ℕ) : Type 0 where
@@ -67,13 +65,17 @@ abbrev pub IsInput : Command → List Row → Input → Type 0
 IsInput command rows (input.Script path) = (command ≡ Some (codes "script", rows)) × IsSource (first_of (codes "file") rows) path
 IsInput command rows (input.History path) = (command ≡ Some (codes "replay", rows)) × IsSource (first_of (codes "file") rows) path
 IsInput command rows (input.Journal path) = (command ≡ Some (codes "journal", rows)) × IsJournalAt (first_of (codes "file") rows) path.now
+    × IsFlag rows (codes "follow") false
 
 -- the order is the one that the command names, with what its options say
 abbrev pub IsOrder : Command → Order → Type 0
 IsOrder command (order.Text text answer) = (rows : List Row) × IsInput command rows text × IsDetail rows answer
+IsOrder command (order.Follow path) = (rows : List Row) × (command ≡ Some (codes "journal", rows)) × IsJournalAt (first_of (codes "file") rows) path.now
+    × IsFlag rows (codes "follow") true
 IsOrder command (order.Load load path answer) = (rows : List Row) × (command ≡ Some (codes "load", rows))
     × AreNumbers rows load.workers load.children load.readers load.turns × IsPath rows (codes "journal") path × IsDetail rows answer
-IsOrder command (order.Serve answer path) = (rows : List Row) × (command ≡ Some (codes "serve", rows)) × IsNotices rows answer × IsPath rows (codes "journal") path
+IsOrder command (order.Serve how) = (rows : List Row) × (command ≡ Some (codes "serve", rows)) × IsPath rows (codes "journal") how.journal
+    × IsFlag rows (codes "anew") how.is_anew × IsFlag rows (codes "status") how.says_count
 
 -- the command is given a file
 abbrev pub HasFile : Command → Type 0
@@ -82,7 +84,7 @@ HasFile command = (name : Text) × (rows : List Row) × (command ≡ Some (name,
 -- no order is the command's
 pub record IsNoOrder (command : Command) (kind : ErrorKind) : Type 0 where
   pub none : (o : Order) → IsOrder command o → ⊥
-  pub told : IsAmong kind (ValueValidation ∷ InvalidSubcommand ∷ [])
+  pub told : kind ≡ InvalidSubcommand
 
 -- why there is no order: memory ran out, or clap refuses the words, or it takes them and they are no order all the same
 abbrev pub IsRefusal : Kinds → Command → ErrorKind → Type 0
@@ -104,6 +106,10 @@ command_at words = subcommand_of supload_app words
 -- the same of words
 abbrev pub WordsLeadTo : List Text → Result Order Error → Type 0
 WordsLeadTo words = LeadsTo (kinds_at words) (command_at words)
+
+-- this text, with nothing explained, unless memory ran out
+abbrev pub IsTextOf : Input → Result Order Error → Type 0
+IsTextOf text result = MatchResult result (λ o. o ≡ order.Text text detail.Number) (λ e. kind_of e ≡ OutOfMemory)
 
 -- the load of these numbers, without a journal, and nothing is explained, unless memory ran out
 abbrev pub IsLoadOf : ℕ → ℕ → ℕ → ℕ → Result Order Error → Type 0

@@ -12,6 +12,7 @@ IsShown contents held has_refused status.Done = (text : List ℕ) × Appends con
 IsShown contents held has_refused status.BadInput = held ≡ contents
 IsShown contents held has_refused status.Failed = has_refused ≡ true
 IsShown contents held has_refused status.OtherFault = held ≡ contents
+IsShown contents held has_refused status.GaveUp = ⊥
 
 -- by the kind of their error: a help text or the version is written where it is asked for, and nothing where memory is wanting or the
 -- words are refused

@@ -3,27 +3,25 @@
 ghost use Rattle.std.specs.Prelude.{◌≡◌, IfOk, false};
 ghost use Rattle.clap.specs.Words.{app_of, rule_of};
 ghost use Rattle.clap.specs.declared.builder.command.Command.TheViews.{out-Command as fields_of};
-ghost use Rattle.sup_words.specs.Grammar.{file_rule, flag_rule, load_app, number_rule, path_rule, serve_app, supload_app, text_app};
+ghost use Rattle.sup_words.specs.Grammar.{explained_app, file_rule, flag_rule, journal_app, journal_rule, load_app, number_rule, serve_app, supload_app, text_app};
 
 use crate::help::{
-    ABOUT, FAULTS, JOURNAL, JOURNAL_HELP, LOAD, LOAD_FAULTS, LOAD_HELP, REPLAY, REPLAY_HELP,
-    SCRIPT, SCRIPT_HELP, SERVE, SERVE_FAULTS, SERVE_HELP, STATUSES, VERSION,
+    ABOUT, ANEW, CHILDREN, FAULTS, FOLLOW, JOURNAL, JOURNAL_FILE, JOURNAL_HELP, KEPT_FILE, LOAD,
+    LOAD_FAULTS, LOAD_HELP, NEW_FILE, READERS, REPLAY, REPLAY_HELP, SAYS_COUNT, SCRIPT,
+    SCRIPT_HELP, SERVE, SERVE_FAULTS, SERVE_HELP, STATUSES, TEXT_FILE, TURNS, VERSION, WORKERS,
 };
 use clap::builder::ValueParser;
 use clap::{Arg, ArgAction, Command};
 use std::alloc::{AllocError, Global};
 
-/// What the file of a script or of a history is.
-const TEXT: &str = "The text; standard input, if it is `-` or left out";
-
-/// Builds an option that takes the path of a file.
-fn path<'a>(alloc: Global, name: &'a str, value: &'a str, help: &'a str) -> Arg<'a>
-    ensures rule { rule_of result ≡ path_rule name.entry.now }
+/// Builds the option that takes the path of a journal.
+fn journal<'a>(alloc: Global, help: &'a str) -> Arg<'a>
+    ensures rule { rule_of result ≡ journal_rule }
     ensures local { result.global ≡ false }
 {
-    Arg::new(alloc, name)
-        .long(name)
-        .value_name(value)
+    Arg::new(alloc, "journal")
+        .long("journal")
+        .value_name("FILE")
         .help(help)
         .action(ArgAction::Set)
 }
@@ -79,53 +77,47 @@ fn load_command<'a>(alloc: Global) -> Result<Command<'a>, AllocError>
         .about(LOAD)
         .long_about(LOAD_HELP)
         .after_help(LOAD_FAULTS)
-        .arg(number(
-            alloc,
-            "workers",
-            "W",
-            "Threads that run bodies: 1 to 64",
-            (1, 64),
-        ))?
-        .arg(number(
-            alloc,
-            "children",
-            "N",
-            "Children to start: 1 to 65536",
-            (1, 65_536),
-        ))?
-        .arg(number(alloc, "readers", "R", "Threads that ask: 0 to 64", (0, 64)))?
-        .arg(number(
-            alloc,
-            "turns",
-            "T",
-            "Questions of each thread: 1 to 1000000",
-            (1, 1_000_000),
-        ))?
-        .arg(path(
-            alloc,
-            "journal",
-            "FILE",
-            "A new file to which the history is written",
-        ))?
+        .arg(number(alloc, "workers", "W", WORKERS, (1, 64)))?
+        .arg(number(alloc, "children", "N", CHILDREN, (1, 65_536)))?
+        .arg(number(alloc, "readers", "R", READERS, (0, 64)))?
+        .arg(number(alloc, "turns", "T", TURNS, (1, 1_000_000)))?
+        .arg(journal(alloc, NEW_FILE))?
         .arg(flag(alloc, "explain", "Explains a fault"))
 }
 
-/// Builds a command that reads a file or standard input, with a short and a long help text.
+/// Builds a command that answers a text, with a short and a long help text, but for its file.
 fn text_command<'a>(
     alloc: Global,
     name: &'a str,
     about: (&'a str, &'a str),
-    text: &'a str,
-    in_file: bool,
 ) -> Result<Command<'a>, AllocError>
-    ensures { IfOk result (λ c. (app_of c ≡ text_app name.entry.now in_file) × ((fields_of c).has_globals ≡ false)) }
+    ensures { IfOk result (λ c. (app_of c ≡ explained_app name.entry.now) × ((fields_of c).has_globals ≡ false)) }
 {
     Command::new(alloc, name)
         .about(about.0)
         .long_about(about.1)
         .after_help(FAULTS)
-        .arg(flag(alloc, "explain", "Explains a fault in a line"))?
-        .arg(file(alloc, text, in_file))
+        .arg(flag(alloc, "explain", "Explains a fault in a line"))
+}
+
+/// Builds a command that answers a text in a file or of standard input.
+fn input_command<'a>(
+    alloc: Global,
+    name: &'a str,
+    about: (&'a str, &'a str),
+) -> Result<Command<'a>, AllocError>
+    ensures { IfOk result (λ c. (app_of c ≡ text_app name.entry.now) × ((fields_of c).has_globals ≡ false)) }
+{
+    text_command(alloc, name, about)?.arg(file(alloc, TEXT_FILE, false))
+}
+
+/// Builds the command that answers or follows a journal.
+fn journal_command<'a>(alloc: Global) -> Result<Command<'a>, AllocError>
+    ensures { IfOk result (λ c. (app_of c ≡ journal_app) × ((fields_of c).has_globals ≡ false)) }
+{
+    text_command(alloc, "journal", (JOURNAL, JOURNAL_HELP))?
+        .arg(flag(alloc, "follow", FOLLOW))?
+        .arg(file(alloc, JOURNAL_FILE, true))
 }
 
 /// Builds the command that serves sessions.
@@ -136,17 +128,9 @@ fn serve_command<'a>(alloc: Global) -> Result<Command<'a>, AllocError>
         .about(SERVE)
         .long_about(SERVE_HELP)
         .after_help(SERVE_FAULTS)
-        .arg(flag(
-            alloc,
-            "status",
-            "Says after an answer how many sessions there are, if that has changed",
-        ))?
-        .arg(path(
-            alloc,
-            "journal",
-            "FILE",
-            "A file in which the sessions outlive the server",
-        ))
+        .arg(flag(alloc, "status", SAYS_COUNT))?
+        .arg(journal(alloc, KEPT_FILE))?
+        .arg(flag(alloc, "anew", ANEW))
 }
 
 /// Builds the whole command line, with its five commands.
@@ -159,15 +143,9 @@ pub(crate) fn command<'a>(alloc: Global) -> Result<Command<'a>, AllocError>
         .version(VERSION)
         .after_help(STATUSES)
         .subcommand_required(true)
-        .subcommand(text_command(alloc, "script", (SCRIPT, SCRIPT_HELP), TEXT, false)?)?
-        .subcommand(text_command(alloc, "replay", (REPLAY, REPLAY_HELP), TEXT, false)?)?
-        .subcommand(text_command(
-            alloc,
-            "journal",
-            (JOURNAL, JOURNAL_HELP),
-            "The journal; standard input, if it is `-`",
-            true,
-        )?)?
+        .subcommand(input_command(alloc, "script", (SCRIPT, SCRIPT_HELP))?)?
+        .subcommand(input_command(alloc, "replay", (REPLAY, REPLAY_HELP))?)?
+        .subcommand(journal_command(alloc)?)?
         .subcommand(load_command(alloc)?)?
         .subcommand(serve_command(alloc)?)
 }

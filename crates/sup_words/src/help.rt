@@ -5,6 +5,31 @@ pub(crate) const ABOUT: &str =
 
 pub(crate) const VERSION: &str = "0.2.0";
 
+// What each option and file is.
+pub(crate) const TEXT_FILE: &str = "The text; standard input, if it is `-` or left out";
+
+pub(crate) const JOURNAL_FILE: &str = "The journal; standard input, if it is `-`";
+
+pub(crate) const FOLLOW: &str = "Shows each line with its reply, and then what comes to the file";
+
+pub(crate) const WORKERS: &str = "Threads that run bodies: 1 to 64";
+
+pub(crate) const CHILDREN: &str = "Children to start: 1 to 65536";
+
+pub(crate) const READERS: &str = "Threads that ask: 0 to 64";
+
+pub(crate) const TURNS: &str = "Questions of each thread: 1 to 1000000";
+
+pub(crate) const NEW_FILE: &str = "A new file to which the history is written";
+
+pub(crate) const KEPT_FILE: &str = "A file in which the sessions outlive the server";
+
+pub(crate) const SAYS_COUNT: &str =
+    "Says after an answer how many sessions there are, if that has changed";
+
+pub(crate) const ANEW: &str =
+    "Begins a new history in FILE, and keeps the old one as FILE.1, FILE.2 and so on";
+
 pub(crate) const SCRIPT: &str =
     "Reads a script, in a file or on standard input, and writes its replies on standard output";
 
@@ -61,10 +86,8 @@ Each further line is an entry: HANDLE SERIAL MOMENT OPERATION ANSWER. The operat
 `exit NUMBER REASON`, `retry NUMBER`, `terminate NUMBER` or `stop`; the answer is what the start function answered:
 `running`, `ignore` or `failed CODE`. Nothing is written before all was read.
 
-One space stands between two words of a line, and none at its beginning or end. A text has 1 to 40 visible
-characters of ASCII, so it has no space. A number has digits alone, no sign and no leading zero, and is at most
-18446744073709551615; a code is at most 4294967295. Every line ends with a line feed, the last one too. A journal whose
-last line is torn, and one of any length, is answered by `supload journal`.
+Spaces, texts and numbers are as in a script (`supload script --help`); a code is at most 4294967295. Every line ends with
+a line feed, the last one too. A journal whose last line is torn, and one of any length, is answered by `supload journal`.
 
 Example:
   supload replay <<END
@@ -90,6 +113,9 @@ A journal is a history text (`supload replay --help` says what its lines are) th
 that may have broken off in its last line. Writes the reply of each entry, one a line, on standard output, in memory for the
 rows alone. The last line is `entries E torn B` and the reply to `count`: how many entries there were, how many bytes of a
 torn last line were left out, and which children there are; or `error down`.
+
+With --follow each whole line is written with its reply, `1 4 52 exit 3 crash running -> restarted 3 9`, and then each that comes
+to FILE within a tenth of a second, also if a new history begins in FILE. It ends with a fault, or if it is ended.
 
 Example:
   supload journal sessions.txt
@@ -141,8 +167,9 @@ A name and a text have 1 to 40 visible characters of ASCII. An answer may be `er
 many sessions were opened, restarted, ended and kept, and whether every session is accounted for.
 
 With --journal the sessions are kept in FILE, which is made if there is none: started again with it, the server says how
-many sessions it found, and they run again under their numbers, with nothing counted. A file is for one server at a time,
-and for at most 512 in all.
+many sessions it found, and they run again under their numbers, with nothing counted. A file is for one server at a time.
+A supervisor that is down stays down in FILE: the next server ends at once, with fault 17 and status 5. With --anew it
+begins a new history in FILE, and says where the old one is: FILE.1, FILE.2 or so on, the first name that is free.
 
 Example:
   supload serve <<END
@@ -159,26 +186,25 @@ writes
 pub(crate) const SERVE_FAULTS: &str =
     "A fault is the line `fault N` on standard error, with its number, and a line under it that says what is wrong:
    1  out of memory, or a thread was refused
-   5  all handles were made: the file has had 512 servers
+   5  all handles were made
    6  there is no place for a reader
    7  the journal is of no server of sessions
    9  a line of the journal is wrong
   10  standard input could not be read
   11  standard output could not be written
   13  the journal could not be written
-  14  the journal's file could not be made, read or cut
+  14  the journal's file could not be made, read, cut or kept, or another program has it
+  17  the supervisor of the journal is down
 
-Exit status:
-  0  the input ended, or asked to quit
-  2  the words are wrong
-  3  fault 10 or 11
-  4  any other fault";
+Exit status: 0 when the input has ended or asked to quit, 2 if the words are wrong, 3 after fault 10 or 11, 5 after fault 17,
+which no further start cures, and 4 after any other.";
 
 pub(crate) const STATUSES: &str = "Exit status:
   0  all was answered
   2  the words or a line are wrong, or the input is too long
   3  reading or writing failed
   4  any other fault, such as no memory
+  5  the history of a server has ended
 A fault is a line on standard error that begins with `fault N`, with its number; of the input it is `fault N line L`.
 
 `./supload prove` proves and builds the program for script, replay and journal, and `./supload prove all` that for all
@@ -195,11 +221,7 @@ pub(crate) const FAULTS: &str =
   12  more than 16777216 bytes came, which only a journal may have
 With --explain further lines show the line, what is wrong with it and what was expected; on a terminal also without it.
 
-Exit status:
-  0  all was answered
-  2  fault 7, 9 or 12, or the words are wrong
-  3  fault 10 or 11
-  4  fault 1";
+Exit status: 0 if all was answered, 2 after fault 7, 9 or 12 or if the words are wrong, 3 after fault 10 or 11, 4 after fault 1.";
 
 pub(crate) const LOAD_FAULTS: &str =
     "A fault is the line `fault N` on standard error, with its number:
@@ -214,8 +236,4 @@ pub(crate) const LOAD_FAULTS: &str =
 With --explain or --journal further lines say what is wrong and, if the load broke off, how many children were not started
 and how many exits were not taken; on a terminal also without these.
 
-Exit status:
-  0  the load was run
-  2  the words are wrong
-  3  fault 11
-  4  any other fault";
+Exit status: 0 if the load was run, 2 if the words are wrong, 3 after fault 11, and 4 after any other.";

@@ -8,7 +8,15 @@
 //! }
 //! ```
 //!
-//! Which words lead where is what `clap`'s reference semantics make of them, by one grammar (`specs/Grammar.antt`).
+//! # What is proved
+//! Which words lead to which order is what `clap`'s reference semantics make of them, by one grammar (`specs/Grammar.antt`), and an error
+//! has the kind that they give, unless memory ran out. `script` and `replay` alone, and `load` with its numbers in any order, are these.
+//!
+//! # What is on trust
+//! The toolchain, and what `clap` states.
+//!
+//! # What is only tested
+//! The help texts, and what is said of words that are refused: by stored cases of the program.
 #![tactic(auto)]
 
 mod build;
@@ -19,4 +27,4 @@ mod words;
 
 pub use load::Load;
 pub use refusal::{refuse_words, show};
-pub use words::{Notices, Order, read_words, words_given};
+pub use words::{Order, Serve, read_words, words_given};

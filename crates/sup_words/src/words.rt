@@ -1,15 +1,14 @@
 //! The words of the command line.
 
-ghost use Rattle.std.specs.Prelude.{◌≡◌, ◌⊎◌, ℕ, List, [], ◌∷◌, None, Some, Ok, MatchBool, MatchOption, MatchResult, codes, map};
+ghost use Rattle.std.specs.Prelude.{◌≡◌, ℕ, List, [], ◌∷◌, None, Some, MatchOption, codes, map};
 ghost use Rattle.clap.specs.Kinds.{IsAmong};
 ghost use Rattle.clap.specs.Walk.{first_of};
 ghost use Rattle.clap.specs.Words.{found_of, kind_of, rows_of, subcommand_rows_of};
-ghost use Rattle.clap.specs.declared.error.kind.ErrorKind.TheVariants.{OutOfMemory};
+ghost use Rattle.clap.specs.declared.error.kind.ErrorKind.TheVariants.{InvalidSubcommand, OutOfMemory};
 ghost use Rattle.sup_words.specs.Ranges.{IsWithin};
-ghost use Rattle.sup_words.specs.Orders.{AreNumbers, IsDetail, IsJournalAt, IsLoadOf, IsNoOrder, IsNotices, IsOrder, IsPath, IsSource, WordsLeadTo};
+ghost use Rattle.sup_words.specs.Orders.{AreNumbers, Command as ACommand, IsDetail, IsFlag, IsJournalAt, IsLoadOf, IsOrder, IsPath, IsSource, IsTextOf, WordsLeadTo};
+ghost use Rattle.sup_words.specs.declared.words.Order.{Order as AnOrder};
 ghost use Rattle.sup_words.specs.Settings.{Given, IsWhole, words_of};
-ghost use Rattle.sup_words.specs.declared.words.Order.TheVariants as order;
-ghost use Rattle.sup_script.specs.declared.runs.answer.Detail.TheVariants as detail;
 ghost use Rattle.sup_script.specs.declared.runs.answer.Input.TheVariants as input;
 
 use crate::build::command;
@@ -27,17 +26,23 @@ use sup_script::{Detail, Input};
 pub enum Order<'a> {
     /// To answer a script, a history text or a journal, and to say so much of a fault.
     Text(Input<'a>, Detail),
+    /// To show the journal at this path, and what comes to it.
+    Follow(&'a str),
     /// To run a crew beside readers, with a journal on the file at this path, if there is one, and to say so much of a fault.
     Load(Load, Option<&'a str>, Detail),
-    /// To serve sessions, with a journal in the file at this path, if there is one.
-    Serve(Notices, Option<&'a str>),
+    /// To serve sessions.
+    Serve(Serve<'a>),
 }
 
-/// Says whether a server tells by itself how many sessions there are.
+/// Says how sessions are served.
 #[derive(Clone, Copy, Debug, PartialEq, Eq)]
-pub enum Notices {
-    On,
-    Off,
+pub struct Serve<'a> {
+    /// The path of the journal, if there is one.
+    pub journal: Option<&'a str>,
+    /// Whether a new history begins in the journal.
+    pub is_anew: bool,
+    /// Whether the server says by itself how many sessions there are.
+    pub says_count: bool,
 }
 
 /// Returns the words of the command line, the program's name first. InvalidData: a word is not UTF-8.
@@ -48,81 +53,73 @@ pub fn words_given(rt: &(impl Env + AllocGlobal)) -> io::Result<Vec<String>> {
 /// Reads the words of the command line, of which the first is the program's name. A help text, the version and words that
 /// are refused are an error of `clap`, which says where it is to be written.
 pub fn read_words<'a, S: AsStr>(alloc: Global, words: &'a [S]) -> Result<Order<'a>, Error>
-    ensures script { (name : List ℕ) → map S.text words.now ≡ name ∷ codes "script" ∷ [] → result ≡ Ok (order.Text (input.Script None) detail.Number) }
-    ensures replay { (name : List ℕ) → map S.text words.now ≡ name ∷ codes "replay" ∷ [] → result ≡ Ok (order.Text (input.History None) detail.Number) }
+    ensures script { (name : List ℕ) → map S.text words.now ≡ name ∷ codes "script" ∷ [] → IsTextOf (input.Script None) result }
+    ensures replay { (name : List ℕ) → map S.text words.now ≡ name ∷ codes "replay" ∷ [] → IsTextOf (input.History None) result }
     ensures words { WordsLeadTo (map S.text words.now) result }
     ensures load { (name : List ℕ) (given : Given) (w n r t : ℕ) → IsWhole given w n r t → map S.text words.now ≡ name ∷ codes "load" ∷ words_of given
         → IsLoadOf w n r t result }
 {
-    if is_command(words, "script") {
-        return Ok(Order::Text(Input::Script(None), Detail::Number));
-    }
-    if is_command(words, "replay") {
-        return Ok(Order::Text(Input::History(None), Detail::Number));
-    }
-    read_options(alloc, words)
+    lead(alloc, words)
 }
 
-/// Returns whether the words are the program's name and this command.
-fn is_command<S: AsStr>(words: &[S], command: &str) -> bool
-    ensures { MatchBool result ((name : List ℕ) × (map S.text words.now ≡ name ∷ command.now ∷ []))
-        ((name : List ℕ) → map S.text words.now ≡ name ∷ command.now ∷ [] → ⊥) }
-{
-    words.len() == 2 && words[1].as_str() == command
-}
-
-/// Reads words that are more than a command.
-fn read_options<'a, S: AsStr>(alloc: Global, words: &'a [S]) -> Result<Order<'a>, Error>
+/// Reads the words by the grammar.
+fn lead<'a, S: AsStr>(alloc: Global, words: &'a [S]) -> Result<Order<'a>, Error>
     ensures { WordsLeadTo (map S.text words.now) result }
 {
     let matches = command(alloc)?.try_get_matches_from(words)?;
-    read_matches(alloc, &matches)
-}
-
-/// Returns the order that `clap` found among the words.
-fn read_matches<'a>(alloc: Global, matches: &ArgMatches<'a>) -> Result<Order<'a>, Error>
-    ensures { MatchResult result (IsOrder (subcommand_rows_of matches.now))
-        (λ e. (kind_of e ≡ OutOfMemory) ⊎ IsNoOrder (subcommand_rows_of matches.now) (kind_of e)) }
-{
-    match matches.subcommand() {
-        Some(("script", words)) => {
-            let file = read_file(words);
-            Ok(Order::Text(Input::Script(file), read_detail(words)))
-        }
-        Some(("replay", words)) => {
-            let file = read_file(words);
-            Ok(Order::Text(Input::History(file), read_detail(words)))
-        }
-        Some(("journal", words)) => match read_path(words, "file") {
-            Some(file) => Ok(Order::Text(Input::Journal(journal_at(file)), read_detail(words))),
-            None => Err(refused(alloc, ErrorKind::ValueValidation, "a file is missing")),
-        },
-        Some(("load", words)) => match read_load(words) {
-            Some(load) => {
-                let journal = read_path(words, "journal");
-                Ok(Order::Load(load, journal, read_detail(words)))
-            }
-            None => Err(refused(alloc, ErrorKind::ValueValidation, "a number is missing")),
-        },
-        Some(("serve", words)) => Ok(Order::Serve(
-            read_notices(words),
-            read_path(words, "journal"),
-        )),
-        _ => Err(refused(
-            alloc,
-            ErrorKind::InvalidSubcommand,
-            "there is no such command",
-        )),
+    match read_matches(&matches) {
+        Some(order) => Ok(order),
+        None => Err(refused(alloc)),
     }
 }
 
-/// Makes an error of this kind, or `OutOfMemory`.
-fn refused(alloc: Global, kind: ErrorKind, text: &str) -> Error
-    ensures { IsAmong (kind_of result) (kind ∷ OutOfMemory ∷ []) }
+/// Returns the order that `clap` found among the words, if it is one.
+fn read_matches<'a>(matches: &ArgMatches<'a>) -> Option<Order<'a>>
+    ensures { MatchOption result ((o : AnOrder) → IsOrder (subcommand_rows_of matches.now) o → ⊥) (IsOrder (subcommand_rows_of matches.now)) }
 {
-    match Command::new(alloc, "supload").error(kind, text) {
+    match matches.subcommand()? {
+        ("script", words) => {
+            let file = read_file(words);
+            Some(Order::Text(Input::Script(file), read_detail(words)))
+        }
+        ("replay", words) => {
+            let file = read_file(words);
+            Some(Order::Text(Input::History(file), read_detail(words)))
+        }
+        ("journal", words) => Some(read_journal(words, journal_at(read_path(words, "file")?))),
+        ("load", words) => {
+            let journal = read_path(words, "journal");
+            Some(Order::Load(read_load(words)?, journal, read_detail(words)))
+        }
+        ("serve", words) => Some(Order::Serve(Serve {
+            journal: read_path(words, "journal"),
+            is_anew: read_flag(words, "anew"),
+            says_count: read_flag(words, "status"),
+        })),
+        _ => None,
+    }
+}
+
+/// Makes the error of words that are no order, though `clap` took them, or `OutOfMemory`.
+fn refused(alloc: Global) -> Error
+    ensures { IsAmong (kind_of result) (InvalidSubcommand ∷ OutOfMemory ∷ []) }
+{
+    let mut command = Command::new(alloc, "supload");
+    match command.error(ErrorKind::InvalidSubcommand, "there is no such command") {
         Ok(error) => error,
         Err(error) => Error::from(error),
+    }
+}
+
+/// Returns what is asked for of the journal at this path.
+fn read_journal<'a>(words: &ArgMatches<'a>, path: &'a str) -> Order<'a>
+    ensures { (command : ACommand) → command ≡ Some (codes "journal", rows_of (found_of words.now)) →
+        IsJournalAt (first_of (codes "file") (rows_of (found_of words.now))) path.entry.now → IsOrder command result }
+{
+    if read_flag(words, "follow") {
+        Order::Follow(path)
+    } else {
+        Order::Text(Input::Journal(path), read_detail(words))
     }
 }
 
@@ -130,22 +127,18 @@ fn refused(alloc: Global, kind: ErrorKind, text: &str) -> Error
 fn read_detail(words: &ArgMatches) -> Detail
     ensures { IsDetail (rows_of (found_of words.now)) result }
 {
-    if words.get_flag("explain") {
+    if read_flag(words, "explain") {
         Detail::Explained
     } else {
         Detail::Number
     }
 }
 
-/// Returns whether the server says by itself how many sessions there are.
-fn read_notices(words: &ArgMatches) -> Notices
-    ensures { IsNotices (rows_of (found_of words.now)) result }
+/// Returns whether the flag of this name was given.
+fn read_flag(words: &ArgMatches, name: &str) -> bool
+    ensures { IsFlag (rows_of (found_of words.now)) name.now result }
 {
-    if words.get_flag("status") {
-        Notices::On
-    } else {
-        Notices::Off
-    }
+    words.get_flag(name)
 }
 
 /// Returns the numbers of a load. `clap` has read them within their ranges.

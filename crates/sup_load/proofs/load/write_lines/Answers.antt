@@ -33,20 +33,20 @@ returns-clause-lines g c =
     let bytes6 : List ℕ = named (codes "\nreads ") sums.reads ++ bytes7 in
     let bytes5 : List ℕ = named (codes " held ") sums.held ++ bytes6 in
     let bytes4 : List ℕ = named (codes " left ") sums.left ++ bytes5 in
-    let bytes3 : List ℕ = named (codes " gave_up ") sums.given_up ++ bytes4 in
-    let bytes2 : List ℕ = named (codes " restarts ") sums.restarts ++ bytes3 in
-    let bytes1 : List ℕ = named (codes " strays ") sums.strays ++ bytes2 in
-    let bytes0 : List ℕ = named (codes " exits ") sums.exits ++ bytes1 in
+    let bytes3 : List ℕ = named (codes " gave_up ") sums.tally.given_up ++ bytes4 in
+    let bytes2 : List ℕ = named (codes " restarts ") sums.tally.restarts ++ bytes3 in
+    let bytes1 : List ℕ = named (codes " strays ") sums.tally.strays ++ bytes2 in
+    let bytes0 : List ℕ = named (codes " exits ") sums.tally.exits ++ bytes1 in
     let held = g.W.Write.contents in
     let end = held c.write_text.new.out.writer in
     subst (Appends (held c.args.out.now.writer) end)
-    (sym (by_field (codes "made", sums.made) ((codes "exits", sums.exits) ∷ (codes "strays", sums.strays) ∷ (codes "restarts", sums.restarts)
-    ∷ (codes "gave_up", sums.given_up) ∷ (codes "left", sums.left) ∷ (codes "held", sums.held) ∷ []) (line_with ((codes "reads", sums.reads) ∷ []))))
-    (Appends-trans (held c.args.out.now.writer) (held c.write_number.new.out.writer) end (named (codes "made ") sums.made) bytes0 c.in_ok-write_number.ensures.lines
-    (Appends-trans (held c.write_number.new.out.writer) (held c.write_number-2.new.out.writer) end (named (codes " exits ") sums.exits) bytes1 c.in_ok-write_number-2.ensures.lines
-    (Appends-trans (held c.write_number-2.new.out.writer) (held c.write_number-3.new.out.writer) end (named (codes " strays ") sums.strays) bytes2 c.in_ok-write_number-3.ensures.lines
-    (Appends-trans (held c.write_number-3.new.out.writer) (held c.write_number-4.new.out.writer) end (named (codes " restarts ") sums.restarts) bytes3 c.in_ok-write_number-4.ensures.lines
-    (Appends-trans (held c.write_number-4.new.out.writer) (held c.write_number-5.new.out.writer) end (named (codes " gave_up ") sums.given_up) bytes4 c.in_ok-write_number-5.ensures.lines
+    (sym (by_field (codes "made", sums.tally.made) ((codes "exits", sums.tally.exits) ∷ (codes "strays", sums.tally.strays) ∷ (codes "restarts", sums.tally.restarts)
+    ∷ (codes "gave_up", sums.tally.given_up) ∷ (codes "left", sums.left) ∷ (codes "held", sums.held) ∷ []) (line_with ((codes "reads", sums.reads) ∷ []))))
+    (Appends-trans (held c.args.out.now.writer) (held c.write_number.new.out.writer) end (named (codes "made ") sums.tally.made) bytes0 c.in_ok-write_number.ensures.lines
+    (Appends-trans (held c.write_number.new.out.writer) (held c.write_number-2.new.out.writer) end (named (codes " exits ") sums.tally.exits) bytes1 c.in_ok-write_number-2.ensures.lines
+    (Appends-trans (held c.write_number-2.new.out.writer) (held c.write_number-3.new.out.writer) end (named (codes " strays ") sums.tally.strays) bytes2 c.in_ok-write_number-3.ensures.lines
+    (Appends-trans (held c.write_number-3.new.out.writer) (held c.write_number-4.new.out.writer) end (named (codes " restarts ") sums.tally.restarts) bytes3 c.in_ok-write_number-4.ensures.lines
+    (Appends-trans (held c.write_number-4.new.out.writer) (held c.write_number-5.new.out.writer) end (named (codes " gave_up ") sums.tally.given_up) bytes4 c.in_ok-write_number-5.ensures.lines
     (Appends-trans (held c.write_number-5.new.out.writer) (held c.write_number-6.new.out.writer) end (named (codes " left ") sums.left) bytes5 c.in_ok-write_number-6.ensures.lines
     (Appends-trans (held c.write_number-6.new.out.writer) (held c.write_number-7.new.out.writer) end (named (codes " held ") sums.held) bytes6 c.in_ok-write_number-7.ensures.lines
     (Appends-trans (held c.write_number-7.new.out.writer) (held c.write_number-8.new.out.writer) end (named (codes "\nreads ") sums.reads) bytes7 c.in_ok-write_number-8.ensures.lines

@@ -22,9 +22,9 @@ returns c =
     let told : app_of c.after_help.result ≡ versioned (new_app (codes "supload")) =
     ap app_of_fields c.after_help.ensures ∙ (ap app_of_fields c.version.ensures ∙ ap versioned named) in
     let start : app_of c.subcommand_required.result ≡ bare_app = ap app_of_fields c.subcommand_required.ensures ∙ ap asking told in
-    let script = c.in_ok-text_command.ensures in
-    let replay = c.in_ok-text_command-2.ensures in
-    let journal = c.in_ok-text_command-3.ensures in
+    let script = c.in_ok-input_command.ensures in
+    let replay = c.in_ok-input_command-2.ensures in
+    let journal = c.in_ok-journal_command.ensures in
     let load = c.in_ok-load_command.ensures in
     let serve = c.in_ok-serve_command.ensures in
     let one = c.in_ok-subcommand.ensures.shape script.1 ∙ ap₂ with_subcommand start (ap top_of script.0) in

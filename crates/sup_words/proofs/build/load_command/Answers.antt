@@ -26,8 +26,8 @@ returns c =
     let none3 = c.in_ok-arg-3.ensures.globals ∙ ap₂ (λ a b. a || b) none2 c.number-3.ensures.local in
     let four = c.in_ok-arg-4.ensures.shape c.number-4.ensures.local ∙ ap₂ with_rule three c.number-4.ensures.rule in
     let none4 = c.in_ok-arg-4.ensures.globals ∙ ap₂ (λ a b. a || b) none3 c.number-4.ensures.local in
-    let five = c.in_ok-arg-5.ensures.shape c.path.ensures.local ∙ ap₂ with_rule four c.path.ensures.rule in
-    let none5 = c.in_ok-arg-5.ensures.globals ∙ ap₂ (λ a b. a || b) none4 c.path.ensures.local in
+    let five = c.in_ok-arg-5.ensures.shape c.journal.ensures.local ∙ ap₂ with_rule four c.journal.ensures.rule in
+    let none5 = c.in_ok-arg-5.ensures.globals ∙ ap₂ (λ a b. a || b) none4 c.journal.ensures.local in
     IfOk-weaker c.arg-6.result _ _ (λ r h. (
       h.shape c.flag.ensures.local ∙ ap₂ with_rule five c.flag.ensures.rule,
       h.globals ∙ ap₂ (λ a b. a || b) none5 c.flag.ensures.local,

@@ -1,18 +1,16 @@
--- The flag is what clap's row of `explain` says.
-use Rattle.std.proofs.Common.{◌∙◌, refl, sym, codes}
+-- A fault is explained by the flag.
+use Rattle.std.proofs.Common.{◌∙◌, refl, sym}
 use Rattle.std.proofs.lemmas.Bool.{false≢true}
-use Rattle.clap.proofs.WalkLemmas.{one_text-rows}
-use Rattle.clap.specs.Words.{found_of}
 use Rattle.sup_words.proofs.words.read_detail.Goals as goal
 
-pub returns-then-get_flag : goal.returns-then-get_flag
-returns-then-get_flag c = record {
+pub returns-then-read_flag : goal.returns-then-read_flag
+returns-then-read_flag c = record {
   given = λ e. refl;
-  left_out = λ e. absurd (false≢true (sym (c.get_flag.ensures.other (one_text-rows (found_of c.args.words.now) (codes "explain") ∙ e)) ∙ c.if-get_flag.true));
+  left_out = λ e. absurd (false≢true (sym (c.read_flag.ensures.left_out e) ∙ c.if-read_flag.true));
 }
 
-pub returns-else-get_flag : goal.returns-else-get_flag
-returns-else-get_flag c = record {
-  given = λ e. absurd (false≢true (sym c.if-get_flag.false ∙ c.get_flag.ensures.value (one_text-rows (found_of c.args.words.now) (codes "explain") ∙ e)));
+pub returns-else-read_flag : goal.returns-else-read_flag
+returns-else-read_flag c = record {
+  given = λ e. absurd (false≢true (sym c.if-read_flag.false ∙ c.read_flag.ensures.given e));
   left_out = λ e. refl;
 }

@@ -6,8 +6,18 @@ use Rattle.clap.specs.Simple.{App, subcommand_of, is_simple}
 use Rattle.clap.specs.Words.{app_of, subcommand_rows_of}
 use Rattle.sup_words.specs.Grammar.{supload_app}
 use Rattle.sup_words.specs.Orders.{command_at, kinds_at}
-use Rattle.sup_words.proofs.Leads.{grammar_is_free, grammar_is_simple, leads, refused_by}
-use Rattle.sup_words.proofs.words.read_options.Goals as goal
+use Rattle.sup_words.proofs.Leads.{grammar_is_free, grammar_is_simple, leads, leads_nowhere, refused_by}
+use Rattle.sup_words.proofs.words.lead.Goals as goal
+
+pub returns-in-Some : goal.returns-in-Some
+unfolding kinds_at command_at
+returns-in-Some g c =
+    let words = map g.S.AsStr.text c.args.words.now in
+    let app : app_of c.in_ok-command.field-0 ≡ supload_app = search rules in
+    let none = c.in_ok-matches.ensures.kinds (ap is_simple_and_free app ∙ grammar_is_free) in
+    let rows = (c.in_ok-matches.ensures.matches (ap is_simple app ∙ grammar_is_simple)).1 in
+    leads (fault_of supload_app words) (subcommand_of supload_app words) (subcommand_rows_of c.in_ok-matches.matches) c.in-Some.order
+    (ap (λ a. fault_of a words) (sym app) ∙ none) (rows ∙ ap (λ a. subcommand_of a words) app) c.in-Some.ensures
 
 pub returns : goal.returns
 unfolding kinds_at command_at
@@ -16,8 +26,8 @@ returns g c =
     let app : app_of c.in_ok-command.field-0 ≡ supload_app = search rules in
     let none = c.in_ok-matches.ensures.kinds (ap is_simple_and_free app ∙ grammar_is_free) in
     let rows = (c.in_ok-matches.ensures.matches (ap is_simple app ∙ grammar_is_simple)).1 in
-    leads (fault_of supload_app words) (subcommand_of supload_app words) (subcommand_rows_of c.in_ok-matches.matches) c.read_matches.result
-    (ap (λ a. fault_of a words) (sym app) ∙ none) (rows ∙ ap (λ a. subcommand_of a words) app) c.read_matches.ensures
+    leads_nowhere (fault_of supload_app words) (subcommand_of supload_app words) (subcommand_rows_of c.in_ok-matches.matches) c.refused.result
+    (ap (λ a. fault_of a words) (sym app) ∙ none) (rows ∙ ap (λ a. subcommand_of a words) app) c.in-None.ensures c.refused.ensures
 
 pub returns-in_err-matches : goal.returns-in_err-matches
 unfolding kinds_at command_at
