@@ -10,33 +10,27 @@ use sup_format::HistoryFault;
 use sup_types::Text;
 use thiserror::Error;
 
-/// Says why no journal was opened or begun. The whole lines of a file stay as they were.
+/// Says why no journal was opened or begun. The whole lines of a file stay as they were. `File` is also of its lock or its folder.
 #[derive(Clone, Copy, Debug, PartialEq, Eq, Error)]
 pub enum OpenFault {
     #[error("out of memory")]
     OutOfMemory,
-    /// Another program has the journal's lock.
     #[error("another program has the journal")]
     InUse,
-    /// The file, its lock or its folder was not opened, read or stored.
     #[error("the journal could not be opened or read: {0}")]
     File(Cause),
-    /// The file's torn last line was not cut off.
     #[error("the journal could not be cut: {0}")]
     Cut(Cause),
-    /// A whole line of the file is wrong.
     #[error("line {} of the journal's file is wrong", .0.line)]
     WrongLine(HistoryFault),
     /// The file's first line is for another template, or of another version: the first of its parts that differs, there and here.
     #[error("{0} is {1} in the journal, {2} here: use its template, or begin a new history")]
     OtherTemplate(Text, Text, Text),
-    /// The file's first line is none that a journal has.
     #[error("the file is no journal")]
     NoJournal,
     /// The writer took a part of the first line of a new journal, or nothing.
     #[error("the journal's writer refused its first line: {0}")]
     Refused(JournalFault),
-    /// The desk could not be made, or an entry could not be entered again.
     #[error("{0}")]
     Desk(RecoverFault),
 }

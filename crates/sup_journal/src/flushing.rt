@@ -4,7 +4,6 @@
 /// operating system, and that of [`Synced`](crate::Synced) waits until the file's bytes are stored.
 #[derive(Clone, Copy, Debug, Default, PartialEq, Eq)]
 pub enum Flush {
-    /// The journal never flushes.
     #[default]
     Never,
     /// After each record of more than one entry.

@@ -29,11 +29,8 @@ use sup_types::{Template, Text};
 /// Keeps a journal in a file, whose bytes are stored when it is flushed.
 pub type FileJournal<F, A = Global> = TextJournal<Unknown, Synced<F>, A>;
 
-/// Opens the file of a journal, or makes it, by [`open_file`], and then does what [`continue_journal`] does with it. The journal keeps
-/// the lock until it is dropped. No contract says what the file holds.
-///
-/// # Errors
-/// Those of both.
+/// Opens the file of a journal, or makes it, by [`open_file`], and continues it by [`continue_journal`], with the errors of both. The
+/// journal keeps the lock until it is dropped.
 pub fn open_journal<N: Name, W: Wait + Drop, R: Files, A: Allocator + Copy>(
     files: &R,
     alloc: A,
@@ -53,16 +50,13 @@ where
 
 /// Reads a file from its beginning, enters the entries of its whole lines in the recovery, and continues at its end. The file must
 /// have been opened to read and to append, and nothing was read of it. A torn last line is cut off. An empty file, and one with only
-/// a part of this template's first line, begins anew: it is cut to nothing and takes that line. The file is read piece by piece, and
-/// each entry is entered as it is read: this takes memory for a piece and for the longest line.
+/// a part of this template's first line, is cut to nothing and takes that line. This takes memory for a piece and the longest line.
 ///
 /// # Errors
-/// After each of them the whole lines of the file are as they were.
-/// - `OtherTemplate`, `NoJournal`: the file begins otherwise than with this template's first line.
-/// - `WrongLine`: a whole line is wrong; its number and its fault. `Desk`: an entry was not entered. `File`: the file was not read.
-/// - `OutOfMemory`: at any time. A file that begins anew may be cut to nothing by then.
-/// - `Cut`: the file begins anew or its last line is torn, and it was not cut.
-/// - `Refused`: the first line of a file that begins anew was refused. The file has a part of it, or nothing.
+/// After each the whole lines of the file are as they were.
+/// - `OtherTemplate`, `NoJournal`: the file begins otherwise than with this template's first line. `WrongLine`: a whole line is wrong.
+/// - `Desk`: an entry was not entered. `File`: the file was not read. `Cut`: its torn last line was not cut.
+/// - `OutOfMemory`, `Refused`: also of the first line of a file that begins anew, which then has a part of it, or nothing.
 pub fn continue_journal<
     N: Name,
     W: Wait + Drop,
@@ -218,8 +212,7 @@ fn enter_all<N: Name, W: Wait + Drop, F: Read, A: Allocator>(
     }
 }
 
-/// Reads what a journal wrote: the history that its whole lines spell. A torn last line is left out. The error is the first fault
-/// by line, as with `read_history`.
+/// Reads the history that the whole lines of a journal spell. The error is the first fault by line, as with `read_history`.
 pub fn read_journal<A: Allocator + Copy>(alloc: A, text: &[u8]) -> Result<History<A>, HistoryFault>
     ensures { (whole : List ℕ) × IsEndedPart text.now whole
         × MatchResult result (λ history. Spells whole history.template history.entries.items) (λ e. HistoryStops whole e.line e.fault) }

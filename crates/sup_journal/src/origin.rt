@@ -1,8 +1,7 @@
 //! What a writer held at first.
 use std::marker::Brand;
 
-/// Says what the writer of a journal held when the journal was made, if that is known. The type says it, since a journal behind a
-/// lock is known by its type alone.
+/// Says by its type what the writer of a journal held when the journal was made, if that is known: behind a lock only the type is.
 pub trait Origin {
     ghost use Rattle.std.specs.Prelude.{ℕ, List, Option};
 

@@ -34,10 +34,9 @@ impl NotOpened {
     }
 }
 
-/// Makes a desk whose journal is the file at this path, runs the program on it and closes it. Returns the program's outcome, and
-/// the journal with a ticket for all of the history. The desk continues the history that the file has, and the file is made if
-/// there is none (`open_journal`). From then on each update is in the file before anyone sees it, flushed as `flush` says. The desk
-/// has 1 to 1,024 handles, including those of the history. Its caller writes no proof.
+/// Makes a desk whose journal is the file at this path, as `open_journal` does, runs the program on it and closes it. Returns the
+/// program's outcome, and the journal with a ticket for all of the history. Each update is in the file before anyone sees it, flushed
+/// as `flush` says. The desk has 1 to 1,024 handles, including those of the history. Its caller writes no proof.
 ///
 /// # Errors
 /// Those of `open_journal`, and `Desk` if no desk is made: then no file is. The program is not run then.

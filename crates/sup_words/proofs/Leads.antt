@@ -4,7 +4,7 @@ use Rattle.std.specs.Borrow.{Bor}
 use Rattle.std.specs.Box.{box_value}
 use Rattle.std.proofs.lemmas.Bool.{false≢true}
 use Rattle.std.specs.Result.{IsErr, IsErrAnd}
-use Rattle.std.specs.Prelude.{◌⊎◌, option_map, Box, MatchOption, Result, Ok, Err}
+use Rattle.std.specs.Prelude.{option_map, Box, MatchOption, Result, Ok, Err}
 use Rattle.clap.specs.Faults.{is_simple_and_free}
 use Rattle.clap.specs.Kinds.{HasKind, IsAmong, Kinds}
 use Rattle.clap.specs.Matches.{subcommand_name_of}
@@ -19,7 +19,7 @@ use Rattle.clap.specs.declared.error.kind.ErrorKind.TheVariants.{InvalidSubcomma
 use Rattle.clap.proofs.OnLiterals.{clap_on_literals}
 use Rattle.sup_words.specs.Grammar.{supload_app}
 use Rattle.sup_words.specs.Ranges.{IsWithin}
-use Rattle.sup_words.specs.Orders.{AreNumbers, Command, IsDetail, IsNoOrder, IsOrder, IsRefusal, IsSource, IsTextOf, LeadsTo, WordsLeadTo, command_at, kinds_at}
+use Rattle.sup_words.specs.Orders.{AreNumbers, Command, IsDetail, IsOrder, IsRefusal, IsSource, IsTextOf, LeadsTo, WordsLeadTo, command_at, kinds_at}
 use Rattle.sup_script.specs.declared.runs.answer.Detail.{Detail}
 use Rattle.sup_script.specs.declared.runs.answer.Detail.TheVariants as detail
 use Rattle.sup_script.specs.declared.runs.answer.Input.TheVariants as input

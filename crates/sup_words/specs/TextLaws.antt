@@ -1,10 +1,9 @@
 -- What an order that answers a text comes to, for both programs.
 use Rattle.std.proofs.Common.{◌≡◌, ◌⊎◌, ℕ, Bool, List, Option, None, Some, refl, sym, ap, subst, codes, inl, inr}
 use Rattle.std.specs.Borrow.{Bor}
-use Rattle.std.specs.Prelude.{Result, Ok, is_some}
+use Rattle.std.specs.Prelude.{Ok, is_some}
 use Rattle.clap.specs.Kinds.{Kinds}
 use Rattle.clap.specs.Walk.{Row, Text, first_of}
-use Rattle.clap.specs.declared.error.Error.{Error}
 use Rattle.sup_script.specs.Running.Answers.{IsInputAnswered, IsReplayAnswered, IsScriptAnswered, IsUnnamed}
 use Rattle.sup_script.specs.declared.runs.answer.Detail.{Detail}
 use Rattle.sup_script.specs.declared.runs.answer.Detail.TheVariants as detail
