@@ -24,10 +24,8 @@ pub enum StopFault {
     Handle(#[from] HandleFault),
     #[error("{0}")]
     Crew(#[from] CrewFault),
-    /// An update was refused.
     #[error("{0}")]
     Update(#[from] UpdateFault),
-    /// A reader was refused.
     #[error("a reader could not learn or enter")]
     Gone,
     /// The journal's file was there already, or could not be made, or its first line was refused.
@@ -56,10 +54,8 @@ impl StopFault {
 /// Says why the lines of a load are not written whole, or do not say all.
 #[derive(Clone, Copy, Debug, PartialEq, Eq, Error)]
 pub enum LoadFault {
-    /// The load was stopped.
     #[error("{0}")]
     Stopped(StopFault),
-    /// The writer answered an error, or took nothing of bytes that were not empty.
     #[error("the output could not be written")]
     WriteFault,
 }

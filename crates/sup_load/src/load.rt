@@ -29,7 +29,7 @@ use sup_script::{ScriptStarter, WatchedWriter};
 use sup_types::{Kind, Reason, Restart, Starter, Template, Text};
 use sup_words::Load;
 
-/// The notes that the inbox of a load holds at most.
+/// How many notes the inbox of a load holds at most.
 const INBOX: usize = 1024;
 
 /// How often a post is tried, and how often the driver finds nothing before it gives up.
@@ -169,8 +169,7 @@ impl<'r, R: Threads + Wait + Eprint + Sync> Runner<'r, R> {
         }
     }
 
-    /// Runs the load with this journal, on a desk with a place for each thread that runs bodies, asks or drives, or tells a person how
-    /// far it is.
+    /// Runs the load with this journal, on a desk with a place for each thread that runs bodies, asks, drives, or informs a person.
     fn with_journal<J: Journal + Drop + Send>(
         &self,
         template: Template,
@@ -223,8 +222,7 @@ impl<'r, R: Threads + Wait + Eprint + Sync> Runner<'r, R> {
         self.beside_readers(desk, handles, asker)
     }
 
-    /// Runs the crew while each of these handles asks in a thread of its own, and the asker in another, which says to a person how far
-    /// the load is.
+    /// Runs the crew while each of these handles, and the asker for a person, asks in a thread of its own.
     fn beside_readers<'d, N, J>(
         &self,
         desk: &'d Desk<N, ScriptStarter, &R, J>,
@@ -305,8 +303,7 @@ fn join_readers<R: Threads>(
     (answered, outcome)
 }
 
-/// Returns what the report says, with the questions that were answered. The fault is the run's, else Gone where a reader was
-/// refused.
+/// Returns what the report says, with the questions that were answered. The fault is the run's, else Gone if a reader was refused.
 fn sums_of<N: Name>(report: &Report<N>, asked: (u64, Result<(), Gone>)) -> Sums
     ensures tally { result.tally ≡ report.now.tally }
     ensures sums { (moment : ℕ) (plan : List AText) → IsRunOfItsOwn (λ number arg reason. reason ≡ Normal) N.template N.press moment plan report.now →

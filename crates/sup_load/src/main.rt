@@ -1,8 +1,5 @@
 //! `supload`: a supervisor at the command line. It answers a script, a history text or a journal, runs a crew beside readers, or
-//! serves sessions.
-//!
-//! The whole program is [`program::run_words`], over any reader and writers; `main` only collects the words and the
-//! three streams.
+//! serves sessions. The whole program is [`program::run_words`], over any reader and writers.
 #![tactic(auto)]
 
 mod fault;

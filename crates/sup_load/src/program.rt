@@ -51,9 +51,7 @@ fn server_status(fault: &ServeFault) -> Status
 
 /// Does what the words ask for, of which the first is the program's name, and returns how it ended. The replies, or a help text, go to
 /// `out`; the line of a fault, and words that are refused, go to `err`. A failed write to `err` changes nothing. To a person, who reads
-/// `err`, a fault in a text is explained without being asked.
-///
-/// It waits, for the threads and locks of a load or a server alone.
+/// `err`, a fault in a text is explained without being asked. It waits for the threads and locks of a load or a server alone.
 pub fn run_words<T, S, R, W, E>(
     rt: &T,
     alloc: Global,
@@ -113,8 +111,8 @@ where
     }
 }
 
-/// Runs a load, with a journal at this path, if there is one. The fault that stopped it, if there is one, is a line on standard error,
-/// followed by an explanation if that is asked for, to a person, and with a journal.
+/// Runs a load, with a journal at this path, if there is one. The fault that stopped it, if one did, is a line on `err`. An explanation
+/// follows if it is asked for, to a person, and with a journal.
 fn answer_load<T, W: Write, E: Write>(
     runner: &Runner<'_, T>,
     journal: Option<&str>,
@@ -143,8 +141,7 @@ where
     load_status(outcome)
 }
 
-/// Serves sessions. The fault that stopped the server, if there is one, is a line on standard error, and the line under it says what is
-/// wrong.
+/// Serves sessions. The fault that stopped the server, if one did, is a line on `err`, and the line under it says what is wrong.
 fn answer_serve<T, R, W, E>(
     rt: &T,
     how: &Serve<'_>,

@@ -1,8 +1,5 @@
 //! The commands `script`, `replay` and `journal` of `supload`, in a program of their own. It stands on the crates of texts and of the
-//! command line alone, so it is proved and built in minutes. `./supload` runs it for these commands.
-//!
-//! The whole program is [`program::run_words`], over any files, reader and writers; `main` only collects the words and the three
-//! streams.
+//! command line alone, so it is proved and built in minutes. The whole program is [`program::run_words`].
 #![tactic(auto)]
 
 mod program;

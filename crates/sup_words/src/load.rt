@@ -3,7 +3,7 @@
 ghost use Rattle.std.specs.Prelude.{◌≡◌, ◌≤◌, MatchOption};
 ghost use Rattle.sup_words.specs.Ranges.{IsWithin};
 
-/// How much is to be done.
+/// Says how much is to be done.
 #[derive(Clone, Copy, Debug, PartialEq, Eq)]
 pub struct Load {
     /// How many threads run children: 1 to 64.
@@ -21,7 +21,7 @@ pub struct Load {
 }
 
 impl Load {
-    /// Returns this much, where it is within the ranges.
+    /// Returns this much, if it is within the ranges.
     pub fn new(workers: usize, children: u64, readers: usize, turns: u64) -> Option<Load>
         ensures { MatchOption result (IsWithin workers children readers turns → ⊥)
             (λ load. (load.workers ≡ workers) × (load.children ≡ children) × (load.readers ≡ readers) × (load.turns ≡ turns)) }

@@ -57,7 +57,7 @@ fn show_help<W: Write, E: Write>(
     }
 }
 
-/// Tells why the words of the command line could not be had: one is not UTF-8, or there was no memory.
+/// Writes why the words of the command line could not be had: one is not UTF-8, or there was no memory.
 pub fn refuse_words<E: Write>(error: &io::Error, err: &mut E) -> Status {
     if error.kind() == io::ErrorKind::InvalidData {
         let _ = writeln!(err, "error: a word of the command line is not UTF-8");
@@ -67,7 +67,7 @@ pub fn refuse_words<E: Write>(error: &io::Error, err: &mut E) -> Status {
     Status::OtherFault
 }
 
-/// Tells a fault by its number and name, and by what the writer answered.
+/// Writes a fault by its number and name, and by what the writer answered.
 fn tell<E: Write>(fault: Fault, cause: Option<io::ErrorKind>, err: &mut E) {
     let number = fault.number();
     let _ = match cause {
