@@ -28,7 +28,6 @@ pub enum OpenFault {
     OtherTemplate(Text, Text, Text),
     #[error("the file is no journal")]
     NoJournal,
-    /// The writer took a part of the first line of a new journal, or nothing.
     #[error("the journal's writer refused its first line: {0}")]
     Refused(JournalFault),
     #[error("{0}")]

@@ -8,7 +8,6 @@ pub enum Flush {
     Never,
     /// After each record of more than one entry.
     EachBatch,
-    /// After each record.
     EachUpdate,
 }
 

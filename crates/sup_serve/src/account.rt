@@ -14,7 +14,6 @@ pub struct Account {
     opened: u64,
     restarted: u64,
     ended: u64,
-    /// How many a journal keeps for the next server.
     kept: u64,
     adds_up: bool,
 }

@@ -5,13 +5,9 @@ use sup_types::Text;
 /// Says what is asked of the server.
 #[derive(Clone, Copy, Debug, PartialEq, Eq)]
 pub enum Command {
-    /// Opens a session of this name.
     Open(Text),
-    /// Sends this text to the session with this number.
     Tell(u64, Text),
-    /// Lets the session with this number crash.
     Crash(u64),
-    /// Ends the session with this number.
     Close(u64),
     Who,
     Count,

@@ -20,11 +20,9 @@ use sup_words::Serve;
 /// Answers lines until the input ends, or asks to quit.
 #[derive(Drop)]
 pub struct Server<'r, 'i, 'o, H, I, W> {
-    /// The runtime by which it waits for lines and for the answers of sessions.
     pub host: &'r H,
     pub input: &'i mut WatchedReader<I>,
     pub out: &'o mut WatchedWriter<W>,
-    /// Which sessions were restarted.
     pub restarted: UnboundedReceiver<Restarted>,
     /// Under which number the file of an earlier history was kept, if one was.
     pub kept: Option<u64>,

@@ -14,7 +14,6 @@ use sup_types::{Reason, Text};
 pub enum Message {
     /// A text, and where the answer goes: how many texts the session was sent, with this one.
     Text(Text, Sender<u64>),
-    /// Lets it crash.
     Crash,
 }
 
@@ -29,7 +28,6 @@ pub struct Restarted {
 /// Makes sessions. One ends because it was asked to, or it crashes.
 #[derive(Drop)]
 pub struct Sessions {
-    /// Where the server learns which of them were restarted.
     pub restarted: UnboundedSender<Restarted>,
 }
 
