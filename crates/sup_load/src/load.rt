@@ -29,12 +29,6 @@ use sup_script::{ScriptStarter, WatchedWriter};
 use sup_types::{Kind, Reason, Restart, Starter, Template, Text};
 use sup_words::Load;
 
-/// How many notes the inbox of a load holds at most.
-const INBOX: usize = 1024;
-
-/// How often a post is tried, and how often the driver finds nothing before it gives up.
-const CREW_TURNS: u64 = 1_000_000_000;
-
 /// Counts what a load did.
 #[derive(Clone, Copy)]
 pub struct Sums {
@@ -234,7 +228,7 @@ impl<'r, R: Threads + Wait + Eprint + Sync> Runner<'r, R> {
         J: Journal + Drop + Send,
         ensures { IfOk result (λ s. AreCounts N.template s) }
     {
-        let progress = Progress::new();
+        let progress = Progress::default();
         let told = &progress;
         let (rt, alloc, load) = (self.rt, self.alloc, self.load);
         thread::scope(
@@ -281,8 +275,8 @@ fn plan(alloc: Global, load: Load) -> Result<Plan, AllocError>
     Ok(Plan {
         children,
         workers: load.workers,
-        inbox: INBOX,
-        turns: CREW_TURNS,
+        inbox: 1024,
+        turns: 1_000_000_000,
         moment: 0,
     })
 }

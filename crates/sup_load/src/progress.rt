@@ -8,21 +8,13 @@ use sup_desk::{Asker, Name};
 use sup_types::Seen;
 
 /// Lets a thread tell how far a load is until it is over.
-#[derive(Drop)]
+#[derive(Default, Drop)]
 pub struct Progress {
     bell: Parker,
     is_over: AtomicBool,
 }
 
 impl Progress {
-    /// Makes the progress of a load that begins.
-    pub fn new() -> Progress {
-        Progress {
-            bell: Parker::new(),
-            is_over: AtomicBool::new(false),
-        }
-    }
-
     /// Says that the load is over.
     pub fn end(&self) {
         self.is_over.store(true, Ordering::SeqCst);

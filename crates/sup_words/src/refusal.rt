@@ -23,28 +23,14 @@ pub fn show<W: Write, E: Write>(
     ensures shown { IsShown (W.contents out.old.writer) (W.contents out.new.writer) out.new.has_refused result }
     ensures cause { result ≡ Failed → out.new.has_refused ≡ true }
 {
-    if !error.use_stderr() {
-        return show_help(alloc, error, out, err);
+    if error.use_stderr() {
+        let _ = write!(err, "{error}");
+        return match error.kind() {
+            ErrorKind::OutOfMemory => Status::OtherFault,
+            _ => Status::BadInput,
+        };
     }
-    let _ = write!(err, "{error}");
-    if error.kind() == ErrorKind::OutOfMemory {
-        Status::OtherFault
-    } else {
-        Status::BadInput
-    }
-}
-
-/// Writes a help text or the version.
-fn show_help<W: Write, E: Write>(
-    alloc: Global,
-    text: &Error,
-    out: &mut WatchedWriter<W>,
-    err: &mut E,
-) -> Status
-    ensures shown { IsShown (W.contents out.old.writer) (W.contents out.new.writer) out.new.has_refused result }
-    ensures asked { result ≡ BadInput → ⊥ }
-{
-    let Ok(text) = format!(in alloc; "{text}") else {
+    let Ok(text) = format!(in alloc; "{error}") else {
         tell(Fault::OutOfMemory, None, err);
         return Status::OtherFault;
     };
