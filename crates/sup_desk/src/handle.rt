@@ -252,6 +252,11 @@ impl<'d, N: Name, D> HandleOf<'d, N, D> {
         self.caller.number()
     }
 
+    /// Returns the desk that it calls.
+    pub fn desk(&self) -> &'d D {
+        self.desk
+    }
+
     /// Returns how many updates it made.
     pub fn calls(&self) -> u64
         ensures { result ≡ length self.now.calls }

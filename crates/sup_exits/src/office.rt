@@ -1,9 +1,8 @@
 //! Offices: what the exits of one crew have in common.
 use std::marker::Brand;
 
-/// Names a ledger, and says for which reasons the children may end whose exits it has, and which moments
-/// the crew's clock may give, in seconds. A value behind a lock is known by its type alone, so the type says to which ledger it
-/// belongs.
+/// Names a ledger, and says for which reasons the children may end whose exits it has. A value behind a lock is known by its type alone, so
+/// the type says to which ledger it belongs.
 pub trait Office {
     ghost use Rattle.std.specs.Prelude.{Bool};
     ghost use Rattle.atomic_table.specs.Seated.{TableId};

@@ -1,4 +1,5 @@
 pub mod Added
+pub mod Batched
 pub mod Joining
 pub mod Listing
 pub mod Ending

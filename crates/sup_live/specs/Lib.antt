@@ -1,9 +1,11 @@
 pub mod Accounts
+pub mod Batches
 pub mod Callers
 pub mod Clients
 pub mod Ends
 pub mod Faults
 pub mod Leads
+pub mod Mailboxes
 pub mod ReplyLaws
 pub mod Restarts
 pub mod Starts

@@ -1,5 +1,5 @@
 //! Children as tasks.
-ghost use Rattle.std.specs.Prelude.{◌≡◌, IfSome, MatchResult, if◌then◌else◌};
+ghost use Rattle.std.specs.Prelude.{◌≡◌, IfSome, if◌then◌else◌};
 ghost use Rattle.sup_exits.specs.Endings.{killed, not_run};
 ghost use Rattle.sup_live.specs.Ends.{EndsBy};
 
@@ -7,15 +7,19 @@ use crate::behaviour::{Behaviour, End};
 use crate::host::Host;
 use crate::hub::Hub;
 use futures::Future;
-use futures::future::{Abortable, Aborted};
+use futures::future::{Abortable, Pending};
 use futures::task::{Context, Poll};
 use sup_exits::{Due, Office};
 use sup_types::{Reason, Word};
 
+/// Is ready once a child is let go.
+pub(crate) type Gate = Abortable<Pending<()>>;
+
 /// A child that is alive. However it is let go, its exit waits to be entered.
 pub struct Alive<'h, B: Behaviour, P: Host> {
     pub(crate) hub: &'h Hub<B, P>,
-    pub(crate) child: Option<Abortable<B::Child>>,
+    pub(crate) gate: Gate,
+    pub(crate) child: Option<B::Child>,
     pub(crate) due: Option<Due<P>>,
     /// Whether it was polled.
     pub(crate) began: bool,
@@ -41,16 +45,6 @@ pub(crate) fn not_run() -> Reason
     }
 }
 
-/// The end of the child, or that of one whose time was over.
-fn end_of<O>(ended: Result<End<O>, Aborted>) -> End<O>
-    ensures { MatchResult ended (λ end. result.reason ≡ end.reason) (λ _. result.reason ≡ killed) }
-{
-    match ended {
-        Ok(end) => end,
-        Err(_) => killed().into(),
-    }
-}
-
 /// The reason of a child that was let go: `killed`, or `not_run` where it never ran.
 fn let_go(ran: bool) -> Reason
     ensures { result ≡ (if ran then killed else not_run) }
@@ -62,6 +56,7 @@ impl<'h, B: Behaviour, P: Host> Drop for Alive<'h, B, P> {
     fn drop(self) {
         let Alive {
             hub,
+            gate: _,
             child,
             due,
             began,
@@ -76,22 +71,26 @@ impl<'h, B: Behaviour, P: Host> Drop for Alive<'h, B, P> {
 impl<'h, B: Behaviour, P: Host> Future for Alive<'h, B, P> {
     type Output = ();
 
-    ghost can_poll = { λ l. IfSome l.child (λ child. B.Child.can_poll child.task × EndsBy B.Child.gives P.may_end child.task) };
+    ghost can_poll = { λ l. IfSome l.child (λ child. B.Child.can_poll child × EndsBy B.Child.gives P.may_end child) };
 
     fn poll(&mut self, cx: &mut Context<'_>) -> Poll<()> {
         self.began = true;
         let Some(child) = &mut self.child else {
             return Poll::Ready(());
         };
-        match child.poll(cx) {
-            Poll::Pending => Poll::Pending,
-            Poll::Ready(ended) => {
-                self.child = None;
-                if let Some(due) = self.due.take() {
-                    self.hub.exited(due, end_of(ended));
-                }
-                Poll::Ready(())
+        // The gate first: a child that is let go hears of nothing more.
+        let end = if self.gate.poll(cx).is_ready() {
+            killed().into()
+        } else {
+            match child.poll(cx) {
+                Poll::Ready(end) => end,
+                Poll::Pending => return Poll::Pending,
             }
+        };
+        self.child = None;
+        if let Some(due) = self.due.take() {
+            self.hub.exited(due, end);
         }
+        Poll::Ready(())
     }
 }

@@ -5,7 +5,7 @@ ghost use Rattle.sup_live.specs.Ends.{EndsBy};
 
 use crate::mailbox::Mailbox;
 use futures::Future;
-use sup_types::{Reason, Text};
+use sup_types::{Reason, Reply, Text};
 
 /// How a child ended: for which reason, and what it leaves to the child that takes its place, if it is restarted.
 #[derive(Drop)]
@@ -23,6 +23,17 @@ impl<O> From<Reason> for End<O> {
     fn from(reason: Reason) -> End<O> {
         End { reason, own: None }
     }
+}
+
+/// Why nobody takes over what a child owned.
+#[derive(Clone, Copy, Debug, PartialEq, Eq)]
+pub enum Untaken {
+    /// This was the reply to its exit, to a later try of its restart, or to its termination, or the supervisor went down by it.
+    Replied(Reply),
+    /// There was no memory to run the child.
+    NotRun,
+    /// Its exit was not entered, or its restart was not tried again, before the crew closed.
+    Closed,
 }
 
 /// What children do. It is shared by the threads that begin children.
@@ -56,4 +67,9 @@ pub trait Behaviour {
     /// Says that the child with this number was restarted, and runs under the new number. The driver calls it. An impl that leaves
     /// it out does nothing.
     fn restarted(&self, _number: u64, _new: u64, _arg: &Text) {}
+
+    /// Takes what the child with this number and argument owned and nobody takes over, once. The driver calls it or, for a child that
+    /// could not be run or had ended when it was terminated, the client, outside all locks. An impl that leaves it out lets that go. So
+    /// does the crew with what a child has with it that is let go, or whose task the executor refuses.
+    fn left(&self, _number: u64, _arg: &Text, _why: Untaken, _own: Self::Own) {}
 }

@@ -8,32 +8,30 @@ ghost use Rattle.sup_desk.specs.Asking.{IsAnswered};
 ghost use Rattle.sup_desk.specs.Knowledge.{IsUpdated, entries_of};
 ghost use Rattle.sup_desk.specs.declared.journal.JournalFault.{JournalFault as Fault};
 ghost use Rattle.sup_desk.specs.Results.{IsUpdateResult};
+ghost use Rattle.sup_live.specs.Batches.{IsStartedAll};
 ghost use Rattle.sup_live.specs.Starts.{given_back, started_as};
 ghost use Rattle.sup_live.specs.Clients.{HasAsked};
+ghost use Rattle.sup_live.specs.Mailboxes.{message_of};
 
+use crate::ask::{Answer, NotAnswered};
 use crate::behaviour::Behaviour;
-use crate::mailbox::{ChildRef, Gone};
-use crate::started::{NotStarted, Started};
+use crate::ends::{CrewState, Ended, Ends};
+use crate::mailbox::{ChildRef, Unsent};
+use crate::started::{NotStarted, Started, StartedAll};
+use std::alloc::AllocError;
+use std::collections::VecDeque;
+use std::sync::Arc;
 use std::time::Duration;
 use sup_desk::{Asker, Done, HandleFault, Name, QueryFault, UpdateFault};
 use sup_log::{NoPlace, Ticket, View};
-use sup_types::{Counts, Operation, Row, Seen, Template, Text};
+use sup_types::{Counts, Operation, Reply, Row, Seen, Template, Text};
 
-/// A client of a live crew whose children do what `B` says. It starts children, sends to them, ends them and asks about them, and it
-/// stays in its thread. Its updates are entered at moments that the crew's clock gives, and wait for the desk's lock. Its queries take no
-/// lock and never wait.
-///
-/// A client knows a front of the history: all that it has seen, learnt or done. An update is answered at the end of a front that
-/// begins with it, and so is a query. A refused update leaves the history and every published answer as they were. A journal that
-/// breaks off refuses the update and all later ones.
-pub trait LiveClient<B: Behaviour>: Drop {
-    ghost use Rattle.std.specs.Prelude.{ℕ, Bool};
+/// What is asked of a live crew. Queries take no lock and never wait. Who asks knows a front of the history: all that it has seen, learnt or
+/// done. A query is answered at a front that begins with it.
+pub trait Queries: Drop {
     ghost use Rattle.logbook.specs.Pages.{Book};
-    ghost use Rattle.sup_types.specs.declared.text.Text.{Text};
-    ghost use Rattle.sup_types.specs.declared.history.Answer.{Answer};
     ghost use Rattle.sup_types.specs.declared.template.Template.{Template};
     ghost use Rattle.sup_desk.specs.Knowledge.{Knowledge};
-    ghost use Rattle.sup_desk.specs.declared.journal.JournalFault.{JournalFault};
 
     /// Which supervisor it is of.
     ghost press: { Book };
@@ -41,17 +39,8 @@ pub trait LiveClient<B: Behaviour>: Drop {
     /// The template of its children.
     ghost template: { Template };
 
-    /// What the start function may answer to an argument at a moment.
-    ghost may_answer: { Text → ℕ → Answer → Type 0 };
-
-    /// How the journal may fail.
-    ghost may_fail: { JournalFault → Type 0 };
-
     /// What it knows: its number, its front, and the updates that it made.
     ghost knows: { Self → Knowledge };
-
-    /// How many updates its handle had made before the client was made.
-    ghost since: { Self → ℕ };
 
     /// The name of the crew's desk, which its askers have.
     type Name: Name;
@@ -68,57 +57,6 @@ pub trait LiveClient<B: Behaviour>: Drop {
     /// Returns the template of the crew's children (OTP's manual of `supervisor`, `get_childspec/2`). It asks nothing.
     fn template(&self) -> &Template
         ensures { result.now ≡ template };
-
-    /// Starts a child with this argument, which owns this. At `Started` it runs, and is sent to by its address. Room for its exit
-    /// is made first. What it was to own comes back if no child was made.
-    fn start_child(&mut self, arg: Text, own: B::Own) -> Result<Started<B>, NotStarted<B::Own>>
-        ensures ok { IfOk result (λ d. (moment : ℕ) × IsUpdated may_answer template press (knows self.old) (Operation.Start arg) moment (record { number = (knows self.new).number; editions = d.ticket.editions; front = d.ticket.front; calls = (knows self.new).calls }) d.reply d.ticket) }
-        ensures seen { IfOk result (λ d. IsPrefix d.ticket.front (knows self.new).front) }
-        ensures child { IfOk result (λ d. IfSome d.child (λ address. started_as d.reply ≡ address.number ∷ [])) }
-        ensures own { MatchResult result (λ d. d.own ≡ given_back own d.reply) (λ e. e.own ≡ own) }
-        ensures front { IsPrefix (knows self.old).front (knows self.new).front }
-        ensures calls { OnErr result (((knows self.new).calls ≡ (knows self.old).calls) × ((knows self.new).number ≡ (knows self.old).number)) }
-        ensures gone { IfErr result (λ e. e.fault ≡ UpdateFault.Gone → ⊥) }
-        ensures full { IfErr result (λ e. e.fault ≡ UpdateFault.HistoryFull → (length (knows self.new).front ≡ template.entries) × (entries_of (knows self.new).front (knows self.new).number ≡ (knows self.new).calls)) }
-        ensures room { IfErr result (λ e. e.fault ≡ UpdateFault.OutOfMemory → (knows self.new ≡ knows self.old) ⊎ (length (knows self.new).front < template.entries)) }
-        ensures journal { IfErr result (λ e. (f : Fault) → e.fault ≡ UpdateFault.Journal f → may_fail f) };
-
-    /// Ends the child with this number. At `Ended` it is asked to end, and is let go when its grace is over. Its exit is entered
-    /// later, and changes nothing.
-    fn terminate_child(&mut self, number: u64) -> Result<Done, UpdateFault>
-        ensures result { (moment : ℕ) × IsUpdateResult may_answer template press (knows self.old) (Operation.Terminate number) moment (knows self.new) result }
-        ensures journal { IfErr result (λ e. (f : Fault) → e ≡ UpdateFault.Journal f → may_fail f) };
-
-    /// Ends the child as [`LiveClient::terminate_child`] does, and at `Ended` returns once the child is gone, as OTP's does. Until
-    /// then the thread sleeps: as long as the child runs, at most until it is let go when its grace is over, or when
-    /// the crew closes. It does not wait for a child that another thread has yet to make, which is asked to end as soon as it
-    /// is there. A child has no client, so none can wait for its own end. One whose `poll` waits for this thread would.
-    fn terminate_child_and_wait(&mut self, number: u64) -> Result<Done, UpdateFault>
-        ensures result { (moment : ℕ) × IsUpdateResult may_answer template press (knows self.old) (Operation.Terminate number) moment (knows self.new) result }
-        ensures journal { IfErr result (λ e. (f : Fault) → e ≡ UpdateFault.Journal f → may_fail f) };
-
-    /// Ends all children, and the supervisor. They are asked to end.
-    fn stop(&mut self) -> Result<Done, UpdateFault>
-        ensures result { (moment : ℕ) × IsUpdateResult may_answer template press (knows self.old) Operation.Stop moment (knows self.new) result }
-        ensures journal { IfErr result (λ e. (f : Fault) → e ≡ UpdateFault.Journal f → may_fail f) };
-
-    /// Sends to the child with this number. The message comes back if no such child is alive, if it was asked to end, or if memory
-    /// runs out.
-    final fn send(&self, number: u64, message: B::Message) -> Result<(), B::Message>
-        ensures { IfErr result (λ back. back ≡ message) }
-    {
-        match self.address(number) {
-            Some(address) => match address.send(message) {
-                Ok(()) => Ok(()),
-                Err(Gone(message)) => Err(message),
-            },
-            None => Err(message),
-        }
-    }
-
-    /// Returns the address of the child with this number, if it is alive. What is sent by it takes no lock of the crew.
-    fn address(&self, number: u64) -> Option<ChildRef<B::Message>>
-        ensures { IfSome result (λ address. address.number ≡ number) };
 
     /// Returns how many children there are at one front, which begins with all that the client had seen, learnt or done.
     fn count_children(&mut self) -> Result<Seen<Counts>, sup_log::Gone>
@@ -137,7 +75,7 @@ pub trait LiveClient<B: Behaviour>: Drop {
         }
     }
 
-    /// Sleeps until the counts are not these, the supervisor is down, or the time has passed. Returns the counts at a front as that of
+    /// Sleeps until the counts are not these, the supervisor is down, the crew has failed, or the time has passed. Returns the counts at a front as that of
     /// [`LiveClient::count_children`]. Each update, and each exit that is entered, wakes it to look. A clock that can't be read ends
     /// the wait.
     fn await_change(
@@ -179,19 +117,136 @@ pub trait LiveClient<B: Behaviour>: Drop {
     /// `NoPlace` if no place is free.
     fn asker(&self) -> Result<Asker<Self::Name>, NoPlace>
         ensures { (Self.Name.press ≡ press) × (Self.Name.template ≡ template) };
+}
+
+/// A client of a live crew whose children do what `B` says. It starts children, sends to them, ends them and asks about them, and it
+/// stays in its thread. Its updates are entered at moments that the crew's clock gives, and wait for the desk's lock. Its queries take no
+/// lock and never wait.
+///
+/// A client knows a front of the history: all that it has seen, learnt or done. An update is answered at the end of a front that
+/// begins with it, and so is a query. A refused update leaves the history and every published answer as they were. A journal that
+/// breaks off refuses the update and all later ones.
+pub trait LiveClient<B: Behaviour>: Queries {
+    ghost use Rattle.std.specs.Prelude.{ℕ, Bool};
+    ghost use Rattle.sup_types.specs.declared.text.Text.{Text};
+    ghost use Rattle.sup_types.specs.declared.history.Answer.{Answer};
+    ghost use Rattle.sup_desk.specs.declared.journal.JournalFault.{JournalFault};
+
+    /// What the start function may answer to an argument at a moment.
+    ghost may_answer: { Text → ℕ → Answer → Type 0 };
+
+    /// How the journal may fail.
+    ghost may_fail: { JournalFault → Type 0 };
+
+    /// How many updates its handle had made before the client was made.
+    ghost since: { Self → ℕ };
+
+    /// Starts a child with this argument, which owns this. At `Started` it runs, and is sent to by its address. Room for its exit
+    /// is made first. What it was to own comes back if no child was made.
+    fn start_child(&mut self, arg: Text, own: B::Own) -> Result<Started<B>, NotStarted<B::Own>>
+        ensures ok { IfOk result (λ d. (moment : ℕ) × IsUpdated may_answer Self.template Self.press (Self.knows self.old) (Operation.Start arg) moment (record { number = (Self.knows self.new).number; editions = d.ticket.editions; front = d.ticket.front; calls = (Self.knows self.new).calls }) d.reply d.ticket) }
+        ensures seen { IfOk result (λ d. IsPrefix d.ticket.front (Self.knows self.new).front) }
+        ensures child { IfOk result (λ d. IfSome d.child (λ address. started_as d.reply ≡ address.number ∷ [])) }
+        ensures own { MatchResult result (λ d. d.own ≡ given_back own d.reply) (λ e. e.own ≡ own) }
+        ensures front { IsPrefix (Self.knows self.old).front (Self.knows self.new).front }
+        ensures calls { OnErr result (((Self.knows self.new).calls ≡ (Self.knows self.old).calls) × ((Self.knows self.new).number ≡ (Self.knows self.old).number)) }
+        ensures gone { IfErr result (λ e. e.fault ≡ UpdateFault.Gone → ⊥) }
+        ensures full { IfErr result (λ e. e.fault ≡ UpdateFault.HistoryFull → (length (Self.knows self.new).front ≡ Self.template.entries) × (entries_of (Self.knows self.new).front (Self.knows self.new).number ≡ (Self.knows self.new).calls)) }
+        ensures room { IfErr result (λ e. e.fault ≡ UpdateFault.OutOfMemory → (Self.knows self.new ≡ Self.knows self.old) ⊎ (length (Self.knows self.new).front < Self.template.entries)) }
+        ensures journal { IfErr result (λ e. (f : Fault) → e.fault ≡ UpdateFault.Journal f → may_fail f) };
+
+    /// Starts a child for each of these arguments, in order, which owns what stands beside it. They are entered in one step: everyone who
+    /// asks sees all of them or none. What is entered leaves the list, and the others stay in it, with the fault. Room for all exits is
+    /// made first, so memory that is refused for it enters nothing.
+    fn start_all(&mut self, list: &mut VecDeque<(Text, B::Own)>) -> StartedAll<B::Message, B::Own>
+        ensures { IsStartedAll may_answer may_fail Self.template Self.press (Self.knows self.old) list.old.items (Self.knows self.new) list.new.items result };
+
+    /// Ends the child with this number. At `Ended` it is asked to end, and is let go when its grace is over. Its exit is entered
+    /// later, and changes nothing.
+    fn terminate_child(&mut self, number: u64) -> Result<Done, UpdateFault>
+        ensures result { (moment : ℕ) × IsUpdateResult may_answer Self.template Self.press (Self.knows self.old) (Operation.Terminate number) moment (Self.knows self.new) result }
+        ensures journal { IfErr result (λ e. (f : Fault) → e ≡ UpdateFault.Journal f → may_fail f) };
+
+    /// Ends the child as [`LiveClient::terminate_child`] does, and at `Ended` returns once the child is gone, as OTP's does. Until then the
+    /// thread sleeps: as long as the child runs, at most until it is let go when its grace is over, or when the crew closes. A child has no
+    /// client, so none can wait for its own end. One whose `poll` waits for this thread would.
+    final fn terminate_child_and_wait(&mut self, number: u64) -> Result<Done, UpdateFault>
+        ensures result { (moment : ℕ) × IsUpdateResult may_answer Self.template Self.press (Self.knows self.old) (Operation.Terminate number) moment (Self.knows self.new) result }
+        ensures journal { IfErr result (λ e. (f : Fault) → e ≡ UpdateFault.Journal f → may_fail f) }
+    {
+        let ended = self.terminate_child(number);
+        if let Ok(done) = &ended
+            && let Reply::Ended = done.reply
+        {
+            self.await_end(number);
+        }
+        ended
+    }
+
+    /// Sleeps until no child with this number is there that was asked to end. If there is none, it returns at once.
+    fn await_end(&self, number: u64);
+
+    /// Ends all children, and the supervisor. They are asked to end.
+    fn stop(&mut self) -> Result<Done, UpdateFault>
+        ensures result { (moment : ℕ) × IsUpdateResult may_answer Self.template Self.press (Self.knows self.old) Operation.Stop moment (Self.knows self.new) result }
+        ensures journal { IfErr result (λ e. (f : Fault) → e ≡ UpdateFault.Journal f → may_fail f) };
+
+    /// Sends to the child with this number. The message comes back if no such child is alive, if it was asked to end, or if it has no room
+    /// for it.
+    final fn send(&self, number: u64, message: B::Message) -> Result<(), Unsent<B::Message>>
+        ensures { IfErr result (λ unsent. message_of unsent ≡ message) }
+    {
+        match self.address(number) {
+            Some(address) => address.send(message),
+            None => Err(Unsent::Gone(message)),
+        }
+    }
+
+    /// Sends to the child with this number a message that is made with something to answer by, and waits for the answer, for this time at
+    /// most. Until then the thread sleeps. A child that ends, or a crew that does, ends the wait.
+    fn ask<T: Drop, G: FnOnce(Answer<T>) -> B::Message>(
+        &self,
+        number: u64,
+        make: G,
+        limit: Duration,
+    ) -> Result<T, NotAnswered<B::Message>>
+        requires { G.IsAlwaysCallable make };
+
+    /// Returns what the crew is, for all of its clients.
+    fn ends(&self) -> &Arc<Ends>;
+
+    /// Returns what the crew is. It asks nothing, and may lag behind a reply: the driver notes that the supervisor gave up after that was
+    /// published. [`LiveClient::ended`] waits for it.
+    final fn state(&self) -> CrewState {
+        self.ends().state()
+    }
+
+    /// Returns a future that is ready once the crew is down, closes or has failed. Its place among those that wait is taken now, so no
+    /// poll of it fails for want of memory.
+    final fn ended(&self) -> Result<Ended, AllocError> {
+        Ends::ended(self.ends())
+    }
+
+    /// Returns the address of the child with this number, if it is alive. What is sent by it takes no lock of the crew.
+    fn address(&self, number: u64) -> Option<ChildRef<B::Message>>
+        ensures { IfSome result (λ address. address.number ≡ number) };
 
     /// Returns another client of the crew, which has made no update: its handle is one that an earlier run left, if there is any.
     fn another(&self) -> Result<Self, HandleFault>
     where
         Self: Sized,
-        ensures { IfOk result (λ other. since other ≡ length (knows other).calls) };
+        ensures { IfOk result (λ other. since other ≡ length (Self.knows other).calls) };
 
     /// Lets the children that are listed when the crew closes stay listed: the supervisor is not stopped, they are asked to end, and
     /// their exits are among those that were not entered. A later crew over the same history runs them again.
-    fn keep_children(&self);
+    final fn keep_children(&self) {
+        self.ends().keep_children();
+    }
 
     /// Lets the crew close: its supervisor stops, unless the children are kept, and all children end.
-    fn close(&self);
+    final fn close(&self) {
+        self.ends().close();
+    }
 }
 
 /// What is done with a live crew whose children do what `B` says: in the thread that runs the crew or, by a peer, in a thread of its own.

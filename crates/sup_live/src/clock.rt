@@ -39,14 +39,6 @@ impl Moment {
     }
 }
 
-/// Gives the moments of a crew's updates.
-pub trait Timer {
-    ghost use Rattle.std.specs.Prelude.{ℕ, Bool};
-
-    /// Returns the moment now.
-    fn now<R: Clock>(&self, rt: &R) -> Moment;
-}
-
 /// Where the moments of a crew's updates come from. They may be any.
 #[derive(Clone, Copy)]
 pub enum Moments<'c> {
@@ -75,10 +67,9 @@ impl<'c> Moments<'c> {
             Err(_) => Moments::Monotonic,
         }
     }
-}
 
-impl<'c> Timer for Moments<'c> {
-    fn now<R: Clock>(&self, rt: &R) -> Moment {
+    /// Returns the moment now.
+    pub(crate) fn now<R: Clock>(&self, rt: &R) -> Moment {
         let millis = match self {
             Moments::Monotonic => monotonic(rt),
             Moments::Later(by) => monotonic(rt).saturating_add(*by),

@@ -2,28 +2,43 @@
 ghost use Rattle.std.specs.Prelude.{◌≡◌, length, IfOk};
 
 use crate::alive::Alive;
+use crate::ask::{Answer, NotAnswered, left_of};
+use crate::batch::{Places, begin_all, enter_all};
 use crate::behaviour::Behaviour;
-use crate::client::LiveClient;
+use crate::client::{LiveClient, Queries};
+use crate::ends::{Cause, Ends};
 use crate::host::Host;
 use crate::left::{Caller, Returned};
-use crate::mailbox::ChildRef;
-use crate::started::{NotStarted, Started};
+use crate::mailbox::{ChildRef, Told};
+use crate::started::{NotStarted, Started, StartedAll};
 use crate::yard::Yard;
 use futures::Future;
+use std::collections::VecDeque;
 use std::marker::Model;
-use std::sync::Wait;
-use std::time::{Clock, Duration, Instant};
-use sup_desk::{Asker, Desk, Done, HandleFault, HandleOf, Journal, Name, QueryFault, UpdateFault};
+use std::sync::{Arc, Wait};
+use std::time::{Duration, Instant};
+use sup_desk::{Asker, Desk, Done, Handle, HandleFault, Journal, Name, QueryFault, UpdateFault};
 use sup_exits::{Account, Office};
 use sup_log::{NoPlace, Ticket, View};
-use sup_types::{Counts, Reply, Row, Seen, Starter, Template, Text};
+use sup_types::{Counts, Operation, Reply, Row, Seen, Starter, Template, Text};
 
 /// A client of a crew. It does not give its handle out while it is one: an exit that was entered past the crew would be a second
 /// one. When it is let go, its handle is returned.
-pub(crate) struct Client<'t, 'o, 'h, 'd, N: Name, D, B: Behaviour, P: Host, F: Future> {
+pub(crate) struct Client<
+    't,
+    'o,
+    'h,
+    'd,
+    N: Name,
+    S: Starter + Drop,
+    Q: Wait + Drop,
+    J: Journal + Drop,
+    B: Behaviour,
+    P: Host,
+    F: Future,
+> {
     returned: &'o Returned<N, P>,
-    desk: &'d D,
-    handle: HandleOf<'d, N, D>,
+    handle: Handle<'d, N, S, Q, J>,
     yard: &'t Yard<'h, B, P, F>,
     /// The account of the children that it starts.
     account: Account,
@@ -31,32 +46,34 @@ pub(crate) struct Client<'t, 'o, 'h, 'd, N: Name, D, B: Behaviour, P: Host, F: F
     since: u64,
 }
 
-/// A client of a crew over a desk of this kind.
-pub(crate) type DeskClient<'t, 'o, 'h, 'd, N, S, Q, J, B, P> = Client<
+/// A client whose crew's tasks are children.
+pub(crate) type CrewClient<'t, 'o, 'h, 'd, N, S, Q, J, B, P> = Client<
     't,
     'o,
     'h,
     'd,
     N,
-    Desk<N, S, Q, J>,
+    S,
+    Q,
+    J,
     B,
     P,
     Alive<'h, B, P>,
 >;
 
-/// Returns how much of this time is left since the start.
-fn left_of<R: Clock>(rt: &R, start: Option<Instant>, limit: Duration) -> Duration {
-    match start {
-        Some(start) => match start.elapsed(rt) {
-            Ok(passed) => limit.saturating_sub(passed),
-            Err(_) => Duration::ZERO,
-        },
-        None => Duration::ZERO,
-    }
-}
-
-impl<'t, 'o, 'h, 'd, N: Name, D, B: Behaviour, P: Host, F: Future> Model
-    for Client<'t, 'o, 'h, 'd, N, D, B, P, F> {
+impl<
+    't,
+    'o,
+    'h,
+    'd,
+    N: Name,
+    S: Starter + Drop,
+    Q: Wait + Drop,
+    J: Journal + Drop,
+    B: Behaviour,
+    P: Host,
+    F: Future,
+> Model for Client<'t, 'o, 'h, 'd, N, S, Q, J, B, P, F> {
     ghost use Rattle.std.specs.Prelude.{◌≡◌, ◌≤◌, [], length};
     ghost use Rattle.sup_live.specs.Callers.{Used};
     ghost use Rattle.sup_live.specs.Starts.{HasStarted};
@@ -80,7 +97,7 @@ impl<
     B: Behaviour,
     P: Host,
     F: Future,
-> Client<'t, 'o, 'h, 'd, N, Desk<N, S, Q, J>, B, P, F> {
+> Client<'t, 'o, 'h, 'd, N, S, Q, J, B, P, F> {
     /// Makes a client to the children of the yard, by a handle of an earlier run that none has used yet or, if there is none, by a new one.
     pub(crate) fn open(
         desk: &'d Desk<N, S, Q, J>,
@@ -101,7 +118,6 @@ impl<
         let since = handle.calls();
         Ok(Client {
             returned,
-            desk,
             handle,
             yard,
             account,
@@ -110,12 +126,22 @@ impl<
     }
 }
 
-impl<'t, 'o, 'h, 'd, N: Name, D, B: Behaviour, P: Host, F: Future> Drop
-    for Client<'t, 'o, 'h, 'd, N, D, B, P, F> {
+impl<
+    't,
+    'o,
+    'h,
+    'd,
+    N: Name,
+    S: Starter + Drop,
+    Q: Wait + Drop,
+    J: Journal + Drop,
+    B: Behaviour,
+    P: Host,
+    F: Future,
+> Drop for Client<'t, 'o, 'h, 'd, N, S, Q, J, B, P, F> {
     fn drop(self) {
         let Client {
             returned,
-            desk: _,
             handle,
             yard,
             account,
@@ -138,18 +164,12 @@ impl<
     J: Journal + Drop,
     B: Behaviour,
     P: Host,
-> LiveClient<B> for Client<'t, 'o, 'h, 'd, N, Desk<N, S, Q, J>, B, P, Alive<'h, B, P>> {
+> Queries for Client<'t, 'o, 'h, 'd, N, S, Q, J, B, P, Alive<'h, B, P>> {
     ghost press = { N.press };
 
     ghost template = { N.template };
 
-    ghost may_answer = { S.may_answer };
-
-    ghost may_fail = { J.may_fail };
-
     ghost knows = { λ c. c.knows };
-
-    ghost since = { λ c. c.since };
 
     type Name = N;
 
@@ -161,70 +181,8 @@ impl<
         self.handle.front()
     }
 
-    fn start_child(&mut self, arg: Text, own: B::Own) -> Result<Started<B>, NotStarted<B::Own>> {
-        let hub = self.yard.hub;
-        let Ok(place) = hub.make_room() else {
-            let fault = UpdateFault::OutOfMemory;
-            return Err(NotStarted { fault, own });
-        };
-        let moment = self.yard.now();
-        match self.handle.start_child(&hub.rt, moment.seconds(), arg) {
-            Ok(Done { reply, ticket }) => {
-                let (handle, account) = (&mut self.handle, &mut self.account);
-                let (child, own) = self
-                    .yard
-                    .begin_started(handle, account, moment, arg, own, place, &reply);
-                hub.tell_change();
-                Ok(Started {
-                    reply,
-                    ticket,
-                    child,
-                    own,
-                })
-            }
-            Err(fault) => {
-                hub.free_room(place);
-                Err(NotStarted { fault, own })
-            }
-        }
-    }
-
-    fn terminate_child(&mut self, number: u64) -> Result<Done, UpdateFault> {
-        let (hub, moment) = (self.yard.hub, self.yard.now());
-        let done = self
-            .handle
-            .terminate_child(&hub.rt, moment.seconds(), number)?;
-        if let Reply::Ended = done.reply {
-            hub.end(number, moment);
-            hub.tell_change();
-        }
-        Ok(done)
-    }
-
-    fn terminate_child_and_wait(&mut self, number: u64) -> Result<Done, UpdateFault> {
-        let ended = self.terminate_child(number);
-        if let Ok(done) = &ended
-            && let Reply::Ended = done.reply
-        {
-            self.yard.hub.await_end(number);
-        }
-        ended
-    }
-
-    fn stop(&mut self) -> Result<Done, UpdateFault> {
-        let (hub, moment) = (self.yard.hub, self.yard.now());
-        let done = self.handle.stop(&hub.rt, moment.seconds())?;
-        hub.end_all(moment);
-        hub.tell_change();
-        Ok(done)
-    }
-
     fn template(&self) -> &Template {
         self.handle.template()
-    }
-
-    fn address(&self, number: u64) -> Option<ChildRef<B::Message>> {
-        self.yard.hub.address(number)
     }
 
     #[tactic(auto, using(crate::specs::ReplyLaws::seen_more))]
@@ -244,7 +202,8 @@ impl<
             let noted = changed.notifications();
             let now = self.count_children()?;
             let left = left_of(rt, start, limit);
-            if now != seen || now == Seen::Down || left.is_zero() {
+            let has_failed = self.yard.hub.has_failed();
+            if now != seen || now == Seen::Down || has_failed || left.is_zero() {
                 return Ok(now);
             }
             changed.sleep(rt, noted, left);
@@ -273,18 +232,159 @@ impl<
     }
 
     fn asker(&self) -> Result<Asker<N>, NoPlace> {
-        self.desk.asker(&self.yard.hub.rt)
+        self.handle.desk().asker(&self.yard.hub.rt)
+    }
+}
+
+impl<
+    't,
+    'o,
+    'h,
+    'd,
+    N: Name,
+    S: Starter + Drop,
+    Q: Wait + Drop,
+    J: Journal + Drop,
+    B: Behaviour,
+    P: Host,
+> LiveClient<B> for Client<'t, 'o, 'h, 'd, N, S, Q, J, B, P, Alive<'h, B, P>> {
+    ghost may_answer = { S.may_answer };
+
+    ghost may_fail = { J.may_fail };
+
+    ghost since = { λ c. c.since };
+
+    fn start_child(&mut self, arg: Text, own: B::Own) -> Result<Started<B>, NotStarted<B::Own>> {
+        let hub = self.yard.hub;
+        let Ok(place) = hub.make_rooms(1) else {
+            let fault = UpdateFault::OutOfMemory;
+            return Err(NotStarted { fault, own });
+        };
+        let moment = self.yard.now();
+        let started = self.handle.start_child(&hub.rt, moment.seconds(), arg);
+        hub.note(&Operation::Start(arg), &started);
+        match started {
+            Ok(Done { reply, ticket }) => {
+                let (handle, account) = (&mut self.handle, &mut self.account);
+                let (child, own) = self
+                    .yard
+                    .begin_started(handle, account, moment, arg, own, place, &reply);
+                hub.tell_change();
+                Ok(Started {
+                    reply,
+                    ticket,
+                    child,
+                    own,
+                })
+            }
+            Err(fault) => {
+                hub.free_rooms(place, 1);
+                Err(NotStarted { fault, own })
+            }
+        }
+    }
+
+    fn start_all(&mut self, list: &mut VecDeque<(Text, B::Own)>) -> StartedAll<B::Message, B::Own> {
+        let (hub, count) = (self.yard.hub, list.len());
+        let mut started = Vec::new(hub.alloc);
+        let room = match started.reserve(count) {
+            Ok(()) => hub.make_rooms(count).ok(),
+            Err(_) => None,
+        };
+        let Some(queue) = room else {
+            return StartedAll {
+                started,
+                ticket: None,
+                fault: Some(UpdateFault::OutOfMemory),
+            };
+        };
+        let (moment, handle) = (self.yard.now(), &mut self.handle);
+        let second = moment.seconds();
+        let (replies, ticket, fault) = enter_all(hub, handle, second, list);
+        let (entered, stamp) = (replies.len(), ticket.as_ref().map_or(0, Ticket::stamp));
+        let entry = stamp.wrapping_sub(entered as u64).wrapping_add(1);
+        let first = Places { entry, queue };
+        let (handle, account) = (&mut self.handle, &mut self.account);
+        begin_all(
+            self.yard,
+            handle,
+            account,
+            moment,
+            replies,
+            first,
+            list,
+            &mut started,
+        );
+        hub.free_rooms(queue.wrapping_add(entered), list.len());
+        hub.tell_change();
+        StartedAll {
+            started,
+            ticket,
+            fault,
+        }
+    }
+
+    fn terminate_child(&mut self, number: u64) -> Result<Done, UpdateFault> {
+        let (hub, moment) = (self.yard.hub, self.yard.now());
+        let ended = self
+            .handle
+            .terminate_child(&hub.rt, moment.seconds(), number);
+        hub.note(&Operation::Terminate(number), &ended);
+        if let Ok(done) = &ended
+            && let Reply::Ended = done.reply
+        {
+            self.yard.end(number, moment, Told::Terminated);
+            hub.tell_change();
+        }
+        ended
+    }
+
+    fn stop(&mut self) -> Result<Done, UpdateFault> {
+        let (hub, moment) = (self.yard.hub, self.yard.now());
+        let stopped = self.handle.stop(&hub.rt, moment.seconds());
+        hub.note(&Operation::Stop, &stopped);
+        if let Ok(done) = &stopped
+            && let Reply::Stopped = done.reply
+        {
+            hub.went_down(Cause::Stopped);
+            hub.end_all(moment);
+            hub.tell_change();
+        }
+        stopped
+    }
+
+    fn await_end(&self, number: u64) {
+        self.yard.hub.await_end(number);
+    }
+
+    fn address(&self, number: u64) -> Option<ChildRef<B::Message>> {
+        self.yard.hub.address(number)
+    }
+
+    fn ask<T: Drop, G: FnOnce(Answer<T>) -> B::Message>(
+        &self,
+        number: u64,
+        make: G,
+        limit: Duration,
+    ) -> Result<T, NotAnswered<B::Message>> {
+        let hub = self.yard.hub;
+        let asked = match hub.address(number) {
+            Some(address) => address.ask(&hub.rt, hub.alloc, make, limit),
+            None => Err(NotAnswered::NoChild),
+        };
+        match asked {
+            Err(NotAnswered::NoChild | NotAnswered::Ended) if hub.why().is_some() => {
+                Err(NotAnswered::CrewEnded(hub.state()))
+            }
+            asked => asked,
+        }
+    }
+
+    fn ends(&self) -> &Arc<Ends> {
+        &self.yard.hub.ends
     }
 
     fn another(&self) -> Result<Self, HandleFault> {
-        Client::open(self.desk, self.yard, self.returned)
-    }
-
-    fn keep_children(&self) {
-        self.yard.hub.keep_children();
-    }
-
-    fn close(&self) {
-        self.yard.hub.close();
+        Client::open(self.handle.desk(), self.yard, self.returned)
     }
 }

@@ -6,20 +6,21 @@ ghost use Rattle.sup_live.specs.Starts.{HasReplies};
 ghost use Rattle.sup_live.specs.Leads.{are_driven, IsLed};
 ghost use Rattle.sup_live.specs.Restarts.{number_restarted, numbers_of};
 
-use crate::behaviour::Behaviour;
+use crate::behaviour::{Behaviour, Untaken};
 use crate::clock::Moment;
+use crate::ends::{Cause, CrewState};
 use crate::host::Host;
 use crate::hub::Hub;
 use crate::lead::{Hands, answer_all, enter};
 use crate::restarts::{BATCH, Restarts, Retry, Tally};
-use crate::yard::Crew;
+use crate::yard::CrewYard;
 use std::alloc::{AllocError, Global};
 use std::collections::VecDeque;
 use std::sync::Wait;
 use std::time::Duration;
 use sup_desk::{Desk, Handle, HandleOf, Journal, Name, UpdateFault};
 use sup_exits::{Account, Child, Office, OwedExit};
-use sup_types::{Operation, OutOfMemory, Row, Seen, Starter, Status};
+use sup_types::{Operation, OutOfMemory, Reply, Row, Seen, Starter, Status};
 
 /// For how long the driver sleeps at most while something is to be done later.
 const DOZE_MILLIS: u64 = 100;
@@ -108,7 +109,7 @@ impl<'d, N: Name, S: Starter + Drop, Q: Wait + Drop, J: Journal + Drop, P: Host>
     /// tried again at this moment.
     fn resume<B: Behaviour>(
         &mut self,
-        yard: &Crew<'_, B, P>,
+        yard: &CrewYard<'_, B, P>,
         moment: Moment,
         row: Row,
         place: usize,
@@ -138,29 +139,51 @@ impl<'d, N: Name, S: Starter + Drop, Q: Wait + Drop, J: Journal + Drop, P: Host>
     #[tactic(auto, using(crate::specs::ReplyLaws::seen_more))]
     pub(crate) fn resume_all<B: Behaviour>(
         &mut self,
-        yard: &Crew<'_, B, P>,
+        yard: &CrewYard<'_, B, P>,
     ) -> Result<(), OutOfMemory> {
         let rows = match self.hands.handle.which_children() {
             Ok(Seen::Up(rows)) => rows,
-            Ok(Seen::Down) => return Ok(()),
+            Ok(Seen::Down) => {
+                yard.hub.went_down(Cause::Before);
+                return Ok(());
+            }
             Err(_) => return Err(OutOfMemory),
         };
         let moment = yard.now();
         for row in rows {
-            let place = yard.hub.make_room()?;
+            let place = yard.hub.make_rooms(1)?;
             self.resume(yard, moment, row, place)?;
         }
         Ok(())
     }
 
-    /// Tries again the restarts whose moment has come. One that is refused stays the first.
-    fn retry_due<B: Behaviour>(&mut self, yard: &Crew<'_, B, P>, moment: Moment) {
+    /// Returns whether the history lists this child no more.
+    #[tactic(auto, using(crate::specs::ReplyLaws::seen_more))]
+    fn is_unlisted(&mut self, number: u64) -> bool
+        ensures { self.new.restarts ≡ self.old.restarts }
+    {
+        matches!(self.hands.handle.child(number), Ok(Seen::Up(None)))
+    }
+
+    /// Tries again the restarts whose moment has come. One that is refused stays the first. One whose child is listed no more, since it was
+    /// terminated, is not tried, and none is of a supervisor that is down.
+    fn retry_due<B: Behaviour>(&mut self, yard: &CrewYard<'_, B, P>, moment: Moment) {
+        if let CrewState::Down(_) = yard.hub.state() {
+            return self.restarts.forget_all(yard, Reply::Down);
+        }
         for _ in 0..self.restarts.len() {
             let Some(retry) = self.restarts.first_due(moment) else {
                 return;
             };
-            let (rt, number) = (&yard.hub.rt, retry.child.number);
-            match self.hands.handle.retry(rt, moment.seconds(), number) {
+            let (hub, number) = (yard.hub, retry.child.number);
+            if self.is_unlisted(number) {
+                self.restarts.pop();
+                yard.forget(number, retry.place, Untaken::Replied(Reply::Ended));
+                continue;
+            }
+            let tried = self.hands.handle.retry(&hub.rt, moment.seconds(), number);
+            hub.note(&Operation::Retry(number), &tried);
+            match tried {
                 Ok(done) => {
                     let (hands, restarts) = (&mut self.hands, &mut self.restarts);
                     restarts.pop();
@@ -169,15 +192,16 @@ impl<'d, N: Name, S: Starter + Drop, Q: Wait + Drop, J: Journal + Drop, P: Host>
                         ..retry
                     };
                     restarts.answer(yard, hands, of, done.reply, true);
-                    yard.hub.tell_change();
+                    hub.tell_change();
                 }
-                Err(fault) => return self.refused(fault),
+                Err(fault) => return self.refused(yard.hub, fault),
             }
         }
     }
 
     /// Takes note of a refusal: after one of memory there is another turn, and all else stops the driver.
-    fn refused(&mut self, fault: UpdateFault) {
+    fn refused<B: Behaviour>(&mut self, hub: &Hub<B, P>, fault: UpdateFault) {
+        hub.fail(fault);
         if let UpdateFault::OutOfMemory = fault {
             self.is_starved = true;
         } else {
@@ -187,8 +211,8 @@ impl<'d, N: Name, S: Starter + Drop, Q: Wait + Drop, J: Journal + Drop, P: Host>
 
     /// Takes exits, enters them, and does what the replies ask for. Returns whether any was entered. Those that were not are held, and
     /// come first next time.
-    fn enter<B: Behaviour>(&mut self, yard: &Crew<'_, B, P>, moment: Moment) -> bool {
-        if self.fault.is_some() || yard.hub.is_suspended() {
+    fn enter<B: Behaviour>(&mut self, yard: &CrewYard<'_, B, P>, moment: Moment) -> bool {
+        if self.fault.is_some() || yard.hub.ends.is_suspended() {
             return false;
         }
         let limit = self.restarts.room();
@@ -198,7 +222,7 @@ impl<'d, N: Name, S: Starter + Drop, Q: Wait + Drop, J: Journal + Drop, P: Host>
         if count == 0 {
             return false;
         }
-        let (rt, alloc, held) = (&yard.hub.rt, yard.alloc, &mut self.held);
+        let (rt, alloc, held) = (&yard.hub.rt, yard.hub.alloc, &mut self.held);
         let (handle, operations) = (&mut self.hands.handle, &mut self.operations);
         let second = moment.seconds();
         let (replies, fault) = enter(rt, alloc, handle, second, held, count, operations);
@@ -206,7 +230,7 @@ impl<'d, N: Name, S: Starter + Drop, Q: Wait + Drop, J: Journal + Drop, P: Host>
         let (hands, restarts) = (&mut self.hands, &mut self.restarts);
         answer_all(yard, moment, replies, hands, held, restarts);
         if let Some(fault) = fault {
-            self.refused(fault);
+            self.refused(yard.hub, fault);
         }
         if any {
             yard.hub.tell_change();
@@ -229,14 +253,14 @@ impl<'d, N: Name, S: Starter + Drop, Q: Wait + Drop, J: Journal + Drop, P: Host>
     }
 
     /// Takes one turn. Returns whether the crew is to close.
-    fn turn<B: Behaviour>(&mut self, yard: &Crew<'_, B, P>) -> bool {
+    fn turn<B: Behaviour>(&mut self, yard: &CrewYard<'_, B, P>) -> bool {
         let moment = yard.now();
         let any = self.enter(yard, moment);
         if self.fault.is_none() {
             self.retry_due(yard, moment);
         }
         let next = yard.hub.expire(moment);
-        if self.fault.is_some() || yard.hub.is_closing() {
+        if self.fault.is_some() || yard.hub.ends.is_closing() || yard.hub.has_failed() {
             return true;
         }
         if !any {
@@ -246,13 +270,15 @@ impl<'d, N: Name, S: Starter + Drop, Q: Wait + Drop, J: Journal + Drop, P: Host>
     }
 
     /// Stops the supervisor, if it is up. While memory is refused it tries again.
-    fn stop<B: Behaviour>(&mut self, yard: &Crew<'_, B, P>) {
-        if self.fault.is_some() || self.restarts.is_down || yard.hub.is_suspended() {
+    fn stop<B: Behaviour>(&mut self, yard: &CrewYard<'_, B, P>) {
+        if self.fault.is_some() || self.restarts.is_down || yard.hub.ends.is_suspended() {
             return;
         }
         let hub = yard.hub;
         for _ in hub.rt.forever() {
-            match self.hands.handle.stop(&hub.rt, yard.now().seconds()) {
+            let stopped = self.hands.handle.stop(&hub.rt, yard.now().seconds());
+            hub.note(&Operation::Stop, &stopped);
+            match stopped {
                 Ok(_) => {
                     hub.tell_change();
                     self.restarts.is_down = true;
@@ -268,7 +294,7 @@ impl<'d, N: Name, S: Starter + Drop, Q: Wait + Drop, J: Journal + Drop, P: Host>
     }
 
     /// Enters exits until the goal is reached.
-    fn enter_until<B: Behaviour>(&mut self, yard: &Crew<'_, B, P>, goal: Goal) {
+    fn enter_until<B: Behaviour>(&mut self, yard: &CrewYard<'_, B, P>, goal: Goal) {
         let hub = yard.hub;
         for _ in hub.rt.forever() {
             let moment = yard.now();
@@ -291,13 +317,14 @@ impl<'d, N: Name, S: Starter + Drop, Q: Wait + Drop, J: Journal + Drop, P: Host>
 
     /// Closes the crew: stops the supervisor, asks all children to end, lets them go when their grace is over, and enters
     /// their exits. If the children are kept, it does not stop the supervisor, and enters nothing.
-    fn close<B: Behaviour>(&mut self, yard: &Crew<'_, B, P>) {
+    fn close<B: Behaviour>(&mut self, yard: &CrewYard<'_, B, P>) {
         self.stop(yard);
         let moment = yard.now();
         yard.hub.end_all(moment);
         self.enter_until(yard, Goal::Ended(yard.hub.until(moment)));
         yard.shut_down();
         self.enter_until(yard, Goal::Gone);
+        yard.forget_all();
         if self.is_starved && self.fault.is_none() {
             self.fault = Some(UpdateFault::OutOfMemory);
         }
@@ -305,7 +332,7 @@ impl<'d, N: Name, S: Starter + Drop, Q: Wait + Drop, J: Journal + Drop, P: Host>
 
     /// Drives the crew until it is to close, and closes it: stops the supervisor, asks all children to end, lets them go when
     /// their grace is over, and enters their exits until all workers have gone.
-    pub fn drive<B: Behaviour>(&mut self, yard: &Crew<'_, B, P>) {
+    pub fn drive<B: Behaviour>(&mut self, yard: &CrewYard<'_, B, P>) {
         for _ in yard.hub.rt.forever() {
             if self.turn(yard) {
                 break;

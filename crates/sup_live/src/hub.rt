@@ -11,44 +11,48 @@ ghost use Rattle.sup_live.specs.Totals.{IsAccounted};
 
 use crate::behaviour::{Behaviour, End};
 use crate::clock::Moment;
+use crate::ends::{Cause, CrewState, Ends};
 use crate::host::Host;
-use crate::mailbox::ChildRef;
-use crate::registry::Registry;
+use crate::mailbox::{ChildRef, Told};
+use crate::plan::Plan;
+use crate::registry::{Entry, Registry};
 use std::alloc::Global;
-use std::collections::VecDeque;
-use std::sync::atomic::{AtomicBool, AtomicU64, Ordering};
-use std::sync::{Condvar, Mutex, Wait};
-use std::thread::Parker;
+use std::collections::{HashMap, VecDeque};
+use std::sync::atomic::{AtomicU64, Ordering};
+use std::sync::{Arc, Condvar, Mutex, Wait};
 use std::time::Duration;
+use sup_desk::{Done, UpdateFault};
 use sup_exits::{Account, Child, Due, Exit, ExitQueue, Ledger, Office, OwedExit, Totals};
-use sup_types::OutOfMemory;
+use sup_types::{Operation, OutOfMemory, Text};
 
 /// What the threads of a crew share: the queues of exits, the ledger of the children, and the registry of those that are alive. No
 /// contract can say what its counts hold while other threads count as well.
 #[derive(Drop)]
 pub struct Hub<B: Behaviour, P: Host> {
     /// What the crew runs by.
-    pub rt: P,
+    pub(crate) rt: P,
+    /// Where the crew takes memory.
+    pub(crate) alloc: Global,
     /// The children that were made, and whether their exits were paid.
-    pub ledger: Ledger,
+    pub(crate) ledger: Ledger,
     /// Notified after each change of the history that queries can see.
-    pub changed: Condvar,
+    pub(crate) changed: Condvar,
+    /// What the crew is.
+    pub(crate) ends: Arc<Ends>,
     queues: Vec<Mutex<ExitQueue<P>>>,
     pub(crate) registry: Mutex<Registry<B>>,
     /// Notified when a child is gone that was asked to end.
     gone: Condvar,
     /// For how long a child may run after it was asked to end.
     grace: Duration,
+    /// How many messages may wait for a child.
+    pub(crate) mailbox: usize,
     /// How many children were made, and how many have ended.
     made: AtomicU64,
     ended: AtomicU64,
     workers: AtomicU64,
     /// How many times the queues were visited.
     visits: AtomicU64,
-    closing: AtomicBool,
-    /// Whether the children that are listed when the crew closes stay listed.
-    keeping: AtomicBool,
-    bell: Parker,
     ghost booked: { ledger.id ≡ P.ledger },
     ghost some: { 0 < vec_len queues },
 }
@@ -91,35 +95,33 @@ fn tell<P: Host>(
 }
 
 impl<B: Behaviour, P: Host> Hub<B, P> {
-    /// Makes a hub of a ledger that I names, for this number of workers, with a queue for each. Children may run for this grace after
-    /// they were asked to end.
-    pub fn new(
+    /// Makes a hub of a ledger that P names, by this plan, with a queue for each worker.
+    pub(crate) fn new(
         rt: P,
         alloc: Global,
         ledger: Ledger,
-        grace: Duration,
-        workers: usize,
+        plan: &Plan,
     ) -> Result<Hub<B, P>, OutOfMemory>
         requires ledger { ledger.id ≡ P.ledger }
-        requires workers { 0 < workers }
-        ensures { IfOk result (λ hub. hub.grace ≡ grace) }
+        requires workers { 0 < plan.now.workers }
+        ensures { IfOk result (λ hub. hub.grace ≡ plan.now.grace) }
     {
-        let queues = queues_of(alloc, workers)?;
+        let queues = queues_of(alloc, plan.workers)?;
         Ok(Hub {
             rt,
+            alloc,
             ledger,
             changed: Condvar::new(),
+            ends: Ends::new(alloc, plan.keeps.unwrap_or(false))?,
             queues,
             registry: Mutex::new(Registry::new(alloc)),
             gone: Condvar::new(),
-            grace,
+            grace: plan.grace,
+            mailbox: plan.mailbox,
             made: AtomicU64::new(0),
             ended: AtomicU64::new(0),
-            workers: AtomicU64::new(workers as u64),
+            workers: AtomicU64::new(plan.workers as u64),
             visits: AtomicU64::new(0),
-            closing: AtomicBool::new(false),
-            keeping: AtomicBool::new(false),
-            bell: Parker::new(),
         })
     }
 
@@ -128,28 +130,84 @@ impl<B: Behaviour, P: Host> Hub<B, P> {
         &self.queues[place % self.queues.len()]
     }
 
-    /// Makes room for the exit of one child more, and says in which queue.
-    pub fn make_room(&self) -> Result<usize, OutOfMemory> {
-        let made = self.made.load(Ordering::SeqCst);
-        let place = (made % self.queues.len() as u64) as usize;
-        self.queue(place).lock(&self.rt).make_room()?;
-        Ok(place)
+    /// Makes room for the exits of this many children more, one after another in the queues from the place that it returns. If memory is
+    /// refused, it makes none.
+    pub(crate) fn make_rooms(&self, count: usize) -> Result<usize, OutOfMemory> {
+        let first = self.made.load(Ordering::SeqCst) as usize;
+        for at in 0..count {
+            let place = first.wrapping_add(at);
+            if self.queue(place).lock(&self.rt).make_room().is_err() {
+                self.free_rooms(first, at);
+                return Err(OutOfMemory);
+            }
+        }
+        Ok(first)
     }
 
-    /// Gives the room of one child back, in the queue at this place.
-    pub fn free_room(&self, place: usize) {
-        self.queue(place).lock(&self.rt).free_room();
+    /// Gives the rooms of this many children back, one after another in the queues from this place.
+    pub(crate) fn free_rooms(&self, first: usize, count: usize) {
+        for at in 0..count {
+            let place = first.wrapping_add(at);
+            self.queue(place).lock(&self.rt).free_room();
+        }
     }
 
-    /// Forgets a child that has ended, with what it left, and gives its room back, in the queue at this place.
-    pub fn forget(&self, number: u64, place: usize) {
-        let _ = self.take_left(number);
-        self.free_room(place);
+    /// Returns a child that has ended, and forgets it.
+    pub(crate) fn take(&self, number: u64) -> Option<Entry<B>> {
+        self.registry.lock(&self.rt).take(number)
     }
 
-    /// Returns what a child left that has ended, and forgets the child.
-    pub fn take_left(&self, number: u64) -> Option<B::Own> {
-        self.registry.lock(&self.rt).take_left(number)
+    /// Returns what a child left that has ended, for the one of this number which takes its place, and forgets it.
+    pub(crate) fn take_over(&self, number: u64, new: u64) -> Option<B::Own> {
+        self.registry.lock(&self.rt).take_over(number, new)
+    }
+
+    /// Returns all children, once their tasks have gone, and forgets them.
+    pub(crate) fn take_all(&self) -> HashMap<u64, Entry<B>> {
+        self.registry.lock(&self.rt).take_all(self.alloc)
+    }
+
+    /// Returns what the crew is.
+    pub(crate) fn state(&self) -> CrewState {
+        self.ends.state()
+    }
+
+    /// Notes that the supervisor is down.
+    pub(crate) fn went_down(&self, cause: Cause) {
+        self.ends.note(CrewState::Down(cause));
+    }
+
+    /// Notes that the crew has failed, if this fault stays: then nothing more is entered. All who wait are woken.
+    pub(crate) fn fail(&self, fault: UpdateFault) {
+        if fault != UpdateFault::OutOfMemory && self.ends.note(CrewState::Failed(fault)) {
+            self.tell_change();
+            self.ring();
+        }
+    }
+
+    /// Returns whether the crew has failed.
+    pub(crate) fn has_failed(&self) -> bool {
+        matches!(self.state(), CrewState::Failed(_))
+    }
+
+    /// Tells the watcher of an update that was entered, or notes a fault that stays.
+    pub(crate) fn note(&self, operation: &Operation, done: &Result<Done, UpdateFault>) {
+        match done {
+            Ok(Done { reply, ticket }) => self.rt.entered(ticket.stamp(), operation, reply),
+            Err(fault) => self.fail(*fault),
+        }
+    }
+
+    /// Returns why children are to end now, if the crew is not up.
+    pub(crate) fn why(&self) -> Option<Told> {
+        match self.state() {
+            CrewState::Up => None,
+            CrewState::Down(Cause::GaveUp) => Some(Told::GaveUp),
+            CrewState::Down(Cause::ShutDown) => Some(Told::ShutDown),
+            CrewState::Down(_) => Some(Told::Stopped),
+            CrewState::Closing => Some(Told::Closing),
+            CrewState::Failed(_) => Some(Told::Failed),
+        }
     }
 
     /// Makes a child by this account, whose exit has room in the queue at this place: the exit is owed from now on.
@@ -178,7 +236,7 @@ impl<B: Behaviour, P: Host> Hub<B, P> {
 
     /// Takes exits that wait until this number is held, for which there is room. Those of one queue come in their order, and each
     /// call begins with the next queue.
-    pub fn take_exits(&self, held: &mut VecDeque<OwedExit<P>>, limit: usize)
+    pub(crate) fn take_exits(&self, held: &mut VecDeque<OwedExit<P>>, limit: usize)
         requires { limit ≤ deque_capacity held.old }
         ensures kept { IsPrefix held.old.items held.new.items }
         ensures len { deque_len held.new ≤ max limit (deque_len held.old) }
@@ -195,7 +253,7 @@ impl<B: Behaviour, P: Host> Hub<B, P> {
     }
 
     /// Returns the address of the child with this number, if it is alive.
-    pub fn address(&self, number: u64) -> Option<ChildRef<B::Message>>
+    pub(crate) fn address(&self, number: u64) -> Option<ChildRef<B::Message>>
         ensures { IfSome result (λ address. address.number ≡ number) }
     {
         self.registry.lock(&self.rt).address(number)
@@ -203,7 +261,7 @@ impl<B: Behaviour, P: Host> Hub<B, P> {
 
     /// Returns until when a child may run that is asked to end at this moment: for its grace, and in any case no longer than to the
     /// last moment that there is.
-    pub fn until(&self, moment: Moment) -> Moment
+    pub(crate) fn until(&self, moment: Moment) -> Moment
         ensures { result.millis ≡ min (moment.millis + min (as_nanos self.now.grace / 1000000) (2 ^ 64 - 1)) (2 ^ 64 - 1) }
     {
         moment.after(self.grace)
@@ -214,23 +272,27 @@ impl<B: Behaviour, P: Host> Hub<B, P> {
         self.grace.as_millis() == 0
     }
 
-    /// Asks a child to end, and the driver to see that it does. What it left, if it has ended, is dropped.
-    pub fn end(&self, number: u64, moment: Moment) {
+    /// Asks a child to end, and the driver to see that it does. Returns its argument and what it left, if it has ended.
+    pub(crate) fn end(&self, number: u64, moment: Moment, why: Told) -> Option<(Text, B::Own)> {
         let (until, at_once) = (self.until(moment), self.has_no_grace());
-        // Dropped once the lock is free.
-        let _left = self.registry.lock(&self.rt).end(number, until, at_once);
+        let left = self
+            .registry
+            .lock(&self.rt)
+            .end(number, until, at_once, why);
         self.ring();
+        left
     }
 
     /// Asks all children to end, and the driver to see that they do.
-    pub fn end_all(&self, moment: Moment) {
+    pub(crate) fn end_all(&self, moment: Moment) {
         let (until, at_once) = (self.until(moment), self.has_no_grace());
-        self.registry.lock(&self.rt).end_all(until, at_once);
+        let why = self.why().unwrap_or(Told::Closing);
+        self.registry.lock(&self.rt).end_all(until, at_once, why);
         self.ring();
     }
 
     /// Sleeps until a child that was asked to end is gone. If there is none, it returns at once.
-    pub fn await_end(&self, number: u64) {
+    pub(crate) fn await_end(&self, number: u64) {
         let registry = self.registry.lock(&self.rt);
         let _registry = self
             .gone
@@ -239,7 +301,7 @@ impl<B: Behaviour, P: Host> Hub<B, P> {
 
     /// Lets the children go that were asked to end, and whose time is over at this moment. Returns when the time of the next is over,
     /// if another was asked to end.
-    pub fn expire(&self, moment: Moment) -> Option<Moment> {
+    pub(crate) fn expire(&self, moment: Moment) -> Option<Moment> {
         self.registry.lock(&self.rt).expire(moment)
     }
 
@@ -250,62 +312,41 @@ impl<B: Behaviour, P: Host> Hub<B, P> {
 
     /// Wakes the driver.
     pub(crate) fn ring(&self) {
-        self.bell.unpark();
+        self.ends.bell.unpark();
     }
 
     /// Sleeps until it is woken. Only the driver sleeps here.
-    pub fn sleep(&self) {
-        self.bell.park(&self.rt);
+    pub(crate) fn sleep(&self) {
+        self.ends.bell.park(&self.rt);
     }
 
     /// Sleeps until it is woken, or for this time. Only the driver sleeps here.
-    pub fn doze(&self, time: Duration) {
-        self.bell.park_timeout(&self.rt, time);
+    pub(crate) fn doze(&self, time: Duration) {
+        self.ends.bell.park_timeout(&self.rt, time);
     }
 
     /// Notes that one worker went, or could not be started.
-    pub fn worker_went(&self) {
+    pub(crate) fn worker_went(&self) {
         self.workers.fetch_sub(1, Ordering::SeqCst);
         self.ring();
     }
 
     /// Returns whether no worker is left.
-    pub fn have_all_gone(&self) -> bool {
+    pub(crate) fn have_all_gone(&self) -> bool {
         self.workers.load(Ordering::SeqCst) == 0
     }
 
     /// Returns whether each child that was made has ended.
-    pub fn have_all_ended(&self) -> bool {
+    pub(crate) fn have_all_ended(&self) -> bool {
         let ended = self.ended.load(Ordering::SeqCst);
         ended == self.made.load(Ordering::SeqCst)
-    }
-
-    /// Lets the children that are listed when the crew closes stay listed.
-    pub fn keep_children(&self) {
-        self.keeping.store(true, Ordering::SeqCst);
-    }
-
-    /// Returns whether the crew is to close and keeps its children, so that nothing more is entered.
-    pub fn is_suspended(&self) -> bool {
-        self.is_closing() && self.keeping.load(Ordering::SeqCst)
-    }
-
-    /// Lets the crew close: the driver stops the supervisor, unless its children are kept, and all children end.
-    pub fn close(&self) {
-        self.closing.store(true, Ordering::SeqCst);
-        self.ring();
-    }
-
-    /// Returns whether the crew is to close.
-    pub fn is_closing(&self) -> bool {
-        self.closing.load(Ordering::SeqCst)
     }
 
     /// Returns the exits that were not entered, and how many children were made and how many of them owe an exit, by the account that all
     /// others were joined to, and the exits that were taken and not entered. Each child that was made has one exit, which was
     /// entered or is in the list, or still owes it: if memory is refused for the list, those that are not in it are owed. If an account
     /// is missing, it is not known how many are.
-    pub fn settle(
+    pub(crate) fn settle(
         self,
         alloc: Global,
         account: Account,

@@ -10,7 +10,7 @@ use crate::behaviour::Behaviour;
 use crate::clock::Moment;
 use crate::host::Host;
 use crate::restarts::{Restarts, Retry};
-use crate::yard::Crew;
+use crate::yard::CrewYard;
 use std::alloc::{AllocError, Global};
 use std::collections::VecDeque;
 use std::sync::Wait;
@@ -48,21 +48,24 @@ fn list<I: Office>(
     Ok(())
 }
 
+/// Tells the watcher how the first exits were entered, by the stamp of the last.
+fn tell_all<P: Host>(rt: &P, held: &VecDeque<OwedExit<P>>, replies: &[Reply], stamp: u64) {
+    let mut place = stamp.wrapping_sub(replies.len() as u64);
+    for (exit, reply) in held.iter().zip(replies) {
+        let Exit { child, reason } = exit.exit();
+        place = place.wrapping_add(1);
+        rt.entered(place, &Operation::Exit(child.number, reason), reply);
+    }
+}
+
 /// Enters the first exits, in order and in one step, at this moment, in seconds. Returns the replies to those that were entered, and
 /// why the others were not.
-pub(crate) fn enter<
-    N: Name,
-    S: Starter + Drop,
-    Q: Wait + Drop,
-    I: Office,
-    J: Journal + Drop,
-    R: Wait,
->(
-    rt: &R,
+pub(crate) fn enter<N: Name, S: Starter + Drop, Q: Wait + Drop, J: Journal + Drop, P: Host>(
+    rt: &P,
     alloc: Global,
     handle: &mut Handle<'_, N, S, Q, J>,
     second: u64,
-    held: &VecDeque<OwedExit<I>>,
+    held: &VecDeque<OwedExit<P>>,
     count: usize,
     operations: &mut VecDeque<Operation>,
 ) -> (Vec<Reply>, Option<UpdateFault>)
@@ -75,15 +78,28 @@ pub(crate) fn enter<
         return (Vec::new(alloc), Some(UpdateFault::OutOfMemory));
     }
     match handle.apply_all(rt, alloc, second, operations) {
-        Ok(Dones { replies, .. }) => (replies, None),
-        Err(Part { replies, fault, .. }) => (replies, Some(fault)),
+        Ok(Dones { replies, ticket }) => {
+            tell_all(rt, held, replies.as_slice(), ticket.stamp());
+            (replies, None)
+        }
+        Err(
+            Part {
+                replies,
+                ticket,
+                fault,
+            },
+        ) => {
+            let stamp = ticket.map_or(0, |ticket| ticket.stamp());
+            tell_all(rt, held, replies.as_slice(), stamp);
+            (replies, Some(fault))
+        }
     }
 }
 
 /// Does what the replies to the first exits ask for: pays each exit, begins the child that was restarted, if one was, and leaves the
 /// rest to the restarts.
 pub(crate) fn answer_all<N: Name, D, B: Behaviour, P: Host>(
-    yard: &Crew<'_, B, P>,
+    yard: &CrewYard<'_, B, P>,
     moment: Moment,
     replies: Vec<Reply>,
     hands: &mut Hands<'_, N, D>,

@@ -1,36 +1,48 @@
 //! A live crew: the children of a shared supervisor run while others are started, sent to, ended and asked about.
 //!
-//! A [`Behaviour`] makes a child: a future of the kit's `futures`, which reads its [`Mailbox`] and is ready with the reason of
-//! its end. A [`Program`] has a client, of any type `C: LiveClient<B>`: by it, it starts children, sends to them, ends them, asks
-//! about them, and makes other clients and askers. [`on_crew`] makes a desk, runs a program in the calling thread, and audits the history.
-//! [`on_crew_with`] also runs peers, each in a thread of its own by a client of its own. Beside them a driver enters the exits, runs
-//! children that were restarted at once under their new number, and tries failed restarts again. Few worker threads poll all
-//! children. Whoever runs a crew so writes no proof.
+//! # What it is
+//! A [`Behaviour`] makes a child: a future of the kit's `futures`, which reads its [`Mailbox`] and is ready with the reason of its end. A
+//! [`Crew`] runs a [`Program`] in the calling thread, and its peers in threads of their own, each by a client, of any type
+//! `C: LiveClient<B>`. A driver enters the exits, runs children that were restarted under their new number, and tries failed restarts
+//! again; few worker threads poll all children. When all programs have returned the crew closes, audits its history, and reports.
 //!
 //! ```text
-//! let report = on_crew(&rt, template, Plan::new(4), &Sessions, Server { host: &rt })?;
+//! let report = Crew::new(template, &Sessions).threads(4).watch(&figures).run(&rt, Server { host: &rt })?;
 //! if report.adds_up() && report.is_audited() {
-//!     // each child that was made has one exit, and the history is the calls of the crew's clients
+//!     // each child that was made has one exit, and the history is the calls of the crew's callers
 //! }
 //! ```
 //!
-//! [`run_over`] runs a crew over a desk that was made by hand, and [`on_journaled_crew`] makes one with a journal. Children that the history lists from an earlier run begin again under their numbers.
+//! A program learns of the crew's end by [`LiveClient::ended`], a child by [`Mailbox::why`], and a [`Watch`] of each entry. What a child
+//! owned and nobody takes over comes back to [`Behaviour::left`].
 //!
-//! What the layer above may rely on: an update by a client has the contract of a handle's, and a query that of an asker's. What
-//! the driver entered, and what became of each child and of each exit, [`run_over`] says.
+//! # Proved
+//! An update by a client has the contract of a handle's, a query that of an asker's, and [`LiveClient::start_all`] that of a batch. What
+//! the driver entered, and what became of each child and of each exit, [`CrewReport`] says ([`Crew::run_over`] has it in words).
 //!
-//! That a child is polled, that a message comes, that a thread wakes, and that a crew closes is promised by no contract: the
-//! kit's executor and channels are trusted for it, and tests show it. So no contract says that a child ends:
-//! [`CrewReport::adds_up`] is whether no exit is owed.
+//! # On trust
+//! The kit's executor, channels and threads: that a child is polled, that a message comes, that a thread wakes, that a crew closes. So no
+//! contract says that a child ends: [`CrewReport::adds_up`] is whether no exit is owed.
+//!
+//! # Only tested
+//! Who is woken by which end, and in time; why a child is told to end; that each owned thing comes back, once; that the watcher is told of
+//! each entry; rooms, limits of time, and memory that is refused in any thread.
+//!
+//! # How it is used
+//! [`Crew::run`], [`Crew::run_recorded`] with a journal and [`Crew::run_in_file`] make a desk; [`Crew::run_over`] takes one that was made by
+//! hand. Children that the history lists from an earlier run begin again under their numbers. Whoever runs a crew writes no proof.
 #![tactic(auto)]
 
 mod alive;
+mod ask;
+mod batch;
 mod behaviour;
 mod builder;
 mod client;
 mod clock;
 mod crew_client;
 mod driver;
+mod ends;
 mod host;
 mod hub;
 mod lead;
@@ -44,17 +56,20 @@ mod restarts;
 mod run;
 mod started;
 mod threads;
+mod watch;
 mod yard;
 
-pub use crate::behaviour::{Behaviour, End};
-pub use crate::clock::{Moment, Moments, Timer};
-pub use crate::mailbox::{ChildRef, Gone, Mailbox};
-pub use crate::restarts::Tally;
+pub use ask::{Answer, NotAnswered};
+pub use behaviour::{Behaviour, End, Untaken};
 pub use builder::Crew;
-pub use client::{LiveClient, Nobody, Program};
+pub use client::{LiveClient, Nobody, Program, Queries};
+pub use clock::{Moment, Moments};
+pub use ends::{Cause, CrewState, Ended};
+pub use mailbox::{ChildRef, Mailbox, Told, Unsent};
 pub use peers::NotRun;
 pub use plan::{LiveFault, Plan};
-pub use report::CrewReport;
-pub use run::run_over;
-pub use started::{NotStarted, Started};
+pub use report::{CrewReport, RunCaller};
+pub use restarts::Tally;
+pub use started::{Begun, NotStarted, Started, StartedAll};
 pub use sup_exits::Exit;
+pub use watch::{Count, Figures, Watch};

@@ -3,10 +3,10 @@ ghost use Rattle.std.specs.Prelude.{◌≡◌, ◌≤◌, [], IfOk, vec_len, vec
 
 use crate::behaviour::Behaviour;
 use crate::client::Program;
-use crate::crew_client::{Client, DeskClient};
+use crate::crew_client::{Client, CrewClient};
 use crate::host::Host;
 use crate::left::Returned;
-use crate::yard::Crew;
+use crate::yard::CrewYard;
 use std::alloc::{AllocError, Global};
 use std::sync::Wait;
 use std::thread::{JoinHandle, Scope};
@@ -27,7 +27,7 @@ pub enum NotRun {
 
 /// Runs a program by this client, which then leaves, and returns what came of it.
 pub(crate) fn run_by<'t, 'o, 'h, 'd, N, S, Q, J, B, P, T>(
-    client: DeskClient<'t, 'o, 'h, 'd, N, S, Q, J, B, P>,
+    client: CrewClient<'t, 'o, 'h, 'd, N, S, Q, J, B, P>,
     program: T,
 ) -> T::Outcome
 where
@@ -62,7 +62,7 @@ pub(crate) fn room_for<T: Drop>(
 pub(crate) fn start_peers<'s, 'h: 's, 'd: 's, E, N, S, Q, J, B, P, U>(
     scope: &Scope<'s, E>,
     desk: &'d Desk<N, S, Q, J>,
-    yard: &'s Crew<'h, B, P>,
+    yard: &'s CrewYard<'h, B, P>,
     returned: &'s Returned<N, P>,
     peers: Vec<U>,
     room: PeerThreads<U::Outcome>,

@@ -19,8 +19,10 @@ pub struct Plan {
     /// For how many more clients and askers a desk of the crew's own has places, beside the program's client and those of the peers.
     /// Each place costs each update a little.
     pub places: u64,
-    /// Whether the children that are listed when the crew closes stay listed.
-    pub keeps: bool,
+    /// How many messages may wait for a child.
+    pub mailbox: usize,
+    /// Whether the children that are listed when the crew closes stay listed. Where it is not said, they do if the history is in a file.
+    pub keeps: Option<bool>,
 }
 
 impl Plan {
@@ -28,7 +30,7 @@ impl Plan {
     ghost use Rattle.std.specs.Duration.{as_nanos};
 
     /// Makes a plan with this many workers: 1 to 64. A restart that failed is tried again at once, as OTP does. A child may run for five
-    /// seconds after it was asked to end, as by OTP's default. There are no more places.
+    /// seconds after it was asked to end, as by OTP's default. There are no more places, and mailboxes have no limit.
     pub fn new(workers: usize) -> Plan
         ensures counts { (result.workers ≡ workers) × (result.places ≡ 0) }
         ensures times { (as_nanos result.retry_after ≡ 0) × (as_nanos result.grace ≡ 5000000000) }
@@ -38,7 +40,8 @@ impl Plan {
             retry_after: Duration::ZERO,
             grace: Duration::from_secs(5),
             places: 0,
-            keeps: false,
+            mailbox: usize::MAX,
+            keeps: None,
         }
     }
 }

@@ -3,15 +3,18 @@ ghost use Rattle.std.specs.Prelude.{◌≡◌, IfSome};
 
 use crate::behaviour::Behaviour;
 use crate::clock::Moment;
-use crate::mailbox::{ChildRef, Room};
+use crate::mailbox::{ChildRef, Room, Told};
 use futures::future::AbortHandle;
 use std::alloc::{AllocError, Global};
 use std::collections::{HashMap, VecDeque};
+use std::mem;
 use std::sync::Arc;
+use sup_types::Text;
 
 /// A child that is alive, or has ended and its exit was not answered yet: its room, what lets it go, and what it left.
 #[derive(Drop)]
-struct Entry<B: Behaviour> {
+pub(crate) struct Entry<B: Behaviour> {
+    arg: Text,
     room: Arc<Room<B::Message>>,
     abort: AbortHandle,
     left: Option<B::Own>,
@@ -21,11 +24,17 @@ struct Entry<B: Behaviour> {
 impl<B: Behaviour> Entry<B> {
     /// Asks the child to end. One that is let go at once is not polled any more, so it does not hear of it. Returns whether it was not
     /// asked before.
-    fn ask(&self, at_once: bool) -> bool {
+    fn ask(&self, at_once: bool, why: Told) -> bool {
         if at_once {
             self.abort.abort();
         }
-        self.room.tell()
+        self.room.tell(why)
+    }
+
+    /// Returns the argument, and what the child left, if it left anything.
+    pub(crate) fn into_left(self) -> Option<(Text, B::Own)> {
+        let Entry { arg, left, .. } = self;
+        Some((arg, left?))
     }
 }
 
@@ -77,6 +86,7 @@ impl<B: Behaviour> Registry<B> {
     pub(crate) fn open(
         &mut self,
         number: u64,
+        arg: Text,
         room: Arc<Room<B::Message>>,
         abort: AbortHandle,
     ) -> Result<(), AllocError> {
@@ -85,6 +95,7 @@ impl<B: Behaviour> Registry<B> {
         self.deadlines
             .reserve(deadlines.saturating_sub(self.deadlines.len()))?;
         let entry = Entry {
+            arg,
             room,
             abort,
             left: None,
@@ -106,9 +117,21 @@ impl<B: Behaviour> Registry<B> {
         entry.room.is_told()
     }
 
-    /// Returns what a child left that has ended, and forgets the child.
-    pub(crate) fn take_left(&mut self, number: u64) -> Option<B::Own> {
-        self.children.remove(&number)?.left
+    /// Returns a child that has ended, and forgets it.
+    pub(crate) fn take(&mut self, number: u64) -> Option<Entry<B>> {
+        self.children.remove(&number)
+    }
+
+    /// Returns what a child left that has ended, for the one of this number which takes its place, and forgets it.
+    pub(crate) fn take_over(&mut self, number: u64, new: u64) -> Option<B::Own> {
+        let entry = self.children.remove(&number)?;
+        entry.room.succeed(new);
+        entry.left
+    }
+
+    /// Returns all children, and forgets them.
+    pub(crate) fn take_all(&mut self, alloc: Global) -> HashMap<u64, Entry<B>> {
+        mem::replace(&mut self.children, HashMap::new(alloc))
     }
 
     /// Returns whether the child is alive.
@@ -125,35 +148,33 @@ impl<B: Behaviour> Registry<B> {
         Some(ChildRef { number, room })
     }
 
-    /// Asks a child to end, until this moment at the latest, or lets it go at once. Returns what it left, if it has ended: nobody will
-    /// take that.
-    pub(crate) fn end(&mut self, number: u64, until: Moment, at_once: bool) -> Option<B::Own> {
+    /// Asks a child to end, until this moment at the latest, or lets it go at once. Returns its argument and what it left, if it has ended:
+    /// nobody will take that over.
+    pub(crate) fn end(
+        &mut self,
+        number: u64,
+        until: Moment,
+        at_once: bool,
+        why: Told,
+    ) -> Option<(Text, B::Own)> {
         let entry = self.children.get_mut(&number)?;
         if entry.has_ended {
-            return entry.left.take();
+            return Some((entry.arg, entry.left.take()?));
         }
-        if entry.ask(at_once) {
-            set(
-                &self.children,
-                &mut self.deadlines,
-                Deadline { number, until },
-            );
+        if entry.ask(at_once, why) {
+            let deadline = Deadline { number, until };
+            set(&self.children, &mut self.deadlines, deadline);
         }
         None
     }
 
-    /// Asks all children to end, until this moment at the latest, or lets them go at once. None is restarted any more, so what others
-    /// left that have ended is dropped.
-    pub(crate) fn end_all(&mut self, until: Moment, at_once: bool) {
-        self.children.retain(|_, entry| !entry.has_ended);
+    /// Asks all children to end, until this moment at the latest, or lets them go at once.
+    pub(crate) fn end_all(&mut self, until: Moment, at_once: bool, why: Told) {
         for (number, entry) in self.children.iter() {
-            if entry.ask(at_once) {
+            if !entry.has_ended && entry.ask(at_once, why) {
                 let number = *number;
-                set(
-                    &self.children,
-                    &mut self.deadlines,
-                    Deadline { number, until },
-                );
+                let deadline = Deadline { number, until };
+                set(&self.children, &mut self.deadlines, deadline);
             }
         }
     }

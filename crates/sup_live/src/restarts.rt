@@ -4,12 +4,12 @@ ghost use mathlib.Core.List.{IsPrefix};
 ghost use Rattle.sup_live.specs.Restarts.{restarted_as, numbers_of};
 ghost use Rattle.std.specs.VecDeque.{deque_len, deque_capacity};
 
-use crate::behaviour::Behaviour;
+use crate::behaviour::{Behaviour, Untaken};
 use crate::clock::Moment;
+use crate::ends::Cause;
 use crate::host::Host;
-use crate::hub::Hub;
 use crate::lead::Hands;
-use crate::yard::Crew;
+use crate::yard::CrewYard;
 use std::alloc::{AllocError, Global};
 use std::collections::VecDeque;
 use std::time::Duration;
@@ -81,7 +81,7 @@ impl Restarts {
     /// is made and runs, with the argument, what the one before left, and the room in the queue.
     pub(crate) fn answer<N: Name, D, B: Behaviour, P: Host>(
         &mut self,
-        yard: &Crew<'_, B, P>,
+        yard: &CrewYard<'_, B, P>,
         hands: &mut Hands<'_, N, D>,
         of: Retry,
         reply: Reply,
@@ -96,7 +96,7 @@ impl Restarts {
         ensures restarted { (hands.new.restarted.ledger ≡ P.ledger) × (hands.new.restarted.parts ≡ 1) × (hands.new.restarted.paid ≡ []) }
         ensures made { numbers_of hands.new.restarted.made ≡ numbers_of hands.old.restarted.made ++ restarted_as reply }
     {
-        let (hub, Retry { child, place, at }) = (yard.hub, of);
+        let Retry { child, place, at } = of;
         let tally = &mut self.tally;
         match reply {
             Reply::Restarted(before, number) => {
@@ -106,7 +106,7 @@ impl Restarts {
                     &mut tally.restarts
                 };
                 *count = count.wrapping_add(1);
-                let (own, arg) = (hub.take_left(before), child.arg);
+                let (own, arg) = (yard.hub.take_over(before, number), child.arg);
                 let next = Child { number, arg };
                 let (handle, account) = (&mut hands.handle, &mut hands.restarted);
                 let _ = yard.begin(handle, account, at, next, own, place);
@@ -119,35 +119,57 @@ impl Restarts {
             }
             Reply::GaveUp => {
                 tally.given_up = tally.given_up.wrapping_add(1);
-                self.go_down(hub, of);
+                self.go_down(yard, of, reply);
             }
             Reply::ShutDown(_) => {
                 tally.shut_down = tally.shut_down.wrapping_add(1);
-                self.go_down(hub, of);
+                self.go_down(yard, of, reply);
             }
             Reply::Down => {
                 tally.downs = tally.downs.wrapping_add(u64::from(!is_later));
-                self.go_down(hub, of);
+                self.go_down(yard, of, reply);
             }
             Reply::Stray(_) => {
                 tally.strays = tally.strays.wrapping_add(u64::from(!is_later));
-                hub.forget(child.number, place);
+                yard.forget(child.number, place, Untaken::Replied(reply));
             }
-            _ => hub.forget(child.number, place),
+            _ => yard.forget(child.number, place, Untaken::Replied(reply)),
         }
     }
 
     /// Takes note that the supervisor is down, as the reply to this child's exit said: the child is forgotten, every other is asked to
     /// end, and no restart is tried again.
-    fn go_down<B: Behaviour, P: Host>(&mut self, hub: &Hub<B, P>, of: Retry)
+    fn go_down<B: Behaviour, P: Host>(&mut self, yard: &CrewYard<'_, B, P>, of: Retry, reply: Reply)
         ensures { (deque_len self.new.retries ≤ deque_len self.old.retries) × (deque_capacity self.new.retries ≡ deque_capacity self.old.retries) }
     {
-        if !self.is_down {
-            self.is_down = true;
-            self.retries.clear();
-            hub.end_all(of.at);
+        yard.forget(of.child.number, of.place, Untaken::Replied(reply));
+        if self.is_down {
+            return;
         }
-        hub.forget(of.child.number, of.place);
+        self.is_down = true;
+        yard.hub.went_down(match reply {
+            Reply::GaveUp => Cause::GaveUp,
+            Reply::ShutDown(_) => Cause::ShutDown,
+            _ => Cause::Stopped,
+        });
+        yard.hub.end_all(of.at);
+        self.forget_all(yard, reply);
+    }
+
+    /// Forgets all children that wait for a later try, since the supervisor is down, as this reply said.
+    pub(crate) fn forget_all<B: Behaviour, P: Host>(
+        &mut self,
+        yard: &CrewYard<'_, B, P>,
+        reply: Reply,
+    )
+        ensures { (deque_len self.new.retries ≤ deque_len self.old.retries) × (deque_capacity self.new.retries ≡ deque_capacity self.old.retries) }
+    {
+        for _ in 0..self.retries.len() {
+            let Some(Retry { child, place, .. }) = self.retries.pop_front() else {
+                return;
+            };
+            yard.forget(child.number, place, Untaken::Replied(reply));
+        }
     }
 
     /// Adds a restart that failed in an earlier run.

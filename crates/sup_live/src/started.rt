@@ -22,6 +22,28 @@ pub struct Started<B: Behaviour> {
     pub own: Option<B::Own>,
 }
 
+/// A start of a batch that was entered.
+#[derive(Drop)]
+pub struct Begun<M: Drop, O: Drop> {
+    /// The reply.
+    pub reply: Reply,
+    /// The address of the child, at `Started`. It is missing if there was no memory to run the child, which has then ended.
+    pub child: Option<ChildRef<M>>,
+    /// What the child was to own, if the reply is not `Started`.
+    pub own: Option<O>,
+}
+
+/// What came of a batch of starts.
+#[derive(Drop)]
+pub struct StartedAll<M: Drop, O: Drop> {
+    /// The first starts of the list, which were entered, in order: all of them if there is no fault.
+    pub started: Vec<Begun<M, O>>,
+    /// The history up to and with the last of them, if there is one.
+    pub ticket: Option<Ticket>,
+    /// Why the others were not entered, if there are others.
+    pub fault: Option<UpdateFault>,
+}
+
 /// A start that was not entered: why, and what the child was to own.
 #[derive(Drop, Error)]
 #[error("{fault}")]

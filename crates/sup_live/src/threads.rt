@@ -10,7 +10,7 @@ use crate::host::Host;
 use crate::left::Left;
 use crate::peers::{NotRun, join_peers, room_for, run_by, start_peers};
 use crate::plan::LiveFault;
-use crate::yard::Crew;
+use crate::yard::CrewYard;
 use std::sync::{Mutex, Wait};
 use std::thread;
 use std::thread::{JoinHandle, Scope};
@@ -32,7 +32,7 @@ pub(crate) struct Joined<'d, N: Name, D, P: Host, T: Drop, U: Drop> {
 /// Starts the workers, of which those that could not be started have gone, and the driver, or shuts the yard down.
 fn start_crew<'s, 'h: 's, 'd: 's, E, N, S, Q, J, B, P>(
     scope: &Scope<'s, E>,
-    yard: &'s Crew<'h, B, P>,
+    yard: &'s CrewYard<'h, B, P>,
     workers: usize,
     driver: Driver<'d, N, Desk<N, S, Q, J>, P>,
 ) -> Result<JoinHandle<Driver<'d, N, Desk<N, S, Q, J>, P>>, LiveFault>
@@ -73,7 +73,7 @@ where
 /// left of them, and what the clients left.
 pub(crate) fn run_threads<'h, 'd, N, S, Q, J, B, P, T, U>(
     desk: &'d Desk<N, S, Q, J>,
-    yard: &Crew<'h, B, P>,
+    yard: &CrewYard<'h, B, P>,
     driver: Driver<'d, N, Desk<N, S, Q, J>, P>,
     account: Account,
     spare: Vec<DetachedHandle<N>>,
@@ -104,7 +104,7 @@ where
     ensures { IfOk result (λ r. vec_len r.0.peers ≡ vec_len peers) }
 {
     let clients = peers.len().saturating_add(1);
-    let left = Mutex::new(Left::new(yard.alloc, account, spare, clients)?);
+    let left = Mutex::new(Left::new(yard.hub.alloc, account, spare, clients)?);
     let (mut driver, returned) = (driver, &left);
     driver.resume_all(yard)?;
     let client = Client::open(desk, yard, returned)?;
@@ -117,15 +117,15 @@ where
             requires peers { IsSend U.row × IsSend U.Outcome.row }
             ensures { IfOk result (λ j. vec_len j.peers ≡ vec_len peers) }
         {
-            let (hub, alloc) = (yard.hub, yard.alloc);
-            let (threads, room) = room_for(alloc, peers.len())?;
+            let hub = yard.hub;
+            let (threads, room) = room_for(hub.alloc, peers.len())?;
             // While these are there, workers wait for children that are still to come.
             let holds = yard.hold()?;
             let driving = start_crew(scope, yard, workers, driver)?;
             let threads = start_peers(scope, desk, yard, returned, peers, threads);
             let outcome = run_by(client, program);
             let peers = join_peers(&hub.rt, threads, room);
-            hub.close();
+            hub.ends.close();
             let driver = driving.join(&hub.rt);
             drop(holds);
             Ok(Joined {

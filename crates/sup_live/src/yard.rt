@@ -4,17 +4,18 @@ ghost use mathlib.Core.List.{IsPrefix};
 ghost use Rattle.sup_live.specs.Ends.{EndsBy};
 ghost use Rattle.sup_live.specs.Starts.{child_started, given_back, started_as};
 
-use crate::alive::{Alive, not_run};
-use crate::behaviour::Behaviour;
+use crate::alive::{Alive, Gate, not_run};
+use crate::behaviour::{Behaviour, Untaken};
 use crate::clock::Moment;
 use crate::host::Host;
 use crate::hub::Hub;
-use crate::mailbox::{ChildRef, opened};
+use crate::mailbox::{ChildRef, Mailbox, Told, opened};
+use crate::registry::Entry;
 use futures::Future;
 use futures::executor::TaskSet;
-use futures::future::Abortable;
+use futures::future::{Abortable, pending};
 use futures::task::{Doorbell, Hold};
-use std::alloc::{AllocError, AllocGlobal, Global};
+use std::alloc::{AllocError, AllocGlobal};
 use std::random::RandomSource;
 use std::sync::Arc;
 use sup_desk::{HandleOf, Name};
@@ -27,8 +28,6 @@ const WORKERS_OF_A_QUEUE: usize = 4;
 /// The tasks of a crew, with what they share. By its type, its children may end for the reasons of which the office may be told.
 #[derive(Drop)]
 pub struct Yard<'h, B: Behaviour, P: Host, F: Future> {
-    /// Where the crew takes memory.
-    pub alloc: Global,
     /// What the threads of the crew share.
     pub hub: &'h Hub<B, P>,
     behaviour: &'h B,
@@ -37,7 +36,7 @@ pub struct Yard<'h, B: Behaviour, P: Host, F: Future> {
 }
 
 /// A yard whose children are those of the behaviour.
-pub type Crew<'h, B, P> = Yard<'h, B, P, Alive<'h, B, P>>;
+pub type CrewYard<'h, B, P> = Yard<'h, B, P, Alive<'h, B, P>>;
 
 impl<'h, B: Behaviour, P: Host, F: Future> Yard<'h, B, P, F> {
     /// Returns the moment now, which the crew's clock gave.
@@ -50,31 +49,56 @@ impl<'h, B: Behaviour, P: Host, F: Future> Yard<'h, B, P, F> {
         self.behaviour.restarted(number, child.number, &child.arg);
     }
 
+    /// Has the behaviour take what this child owned, if it owned anything.
+    fn tell_left(&self, number: u64, why: Untaken, left: Option<(Text, B::Own)>) {
+        if let Some((arg, own)) = left {
+            self.behaviour.left(number, &arg, why, own);
+        }
+    }
+
+    /// Forgets a child that has ended, has what it left taken, and gives its room back, in the queue at this place.
+    pub(crate) fn forget(&self, number: u64, place: usize, why: Untaken) {
+        let entry = self.hub.take(number);
+        self.tell_left(number, why, entry.and_then(Entry::into_left));
+        self.hub.free_rooms(place, 1);
+    }
+
+    /// Has all taken that children left, once the workers have gone.
+    pub(crate) fn forget_all(&self) {
+        for (number, entry) in self.hub.take_all() {
+            self.tell_left(number, Untaken::Closed, entry.into_left());
+        }
+    }
+
+    /// Asks a child to end, and the driver to see that it does. What it left is taken, if it has ended.
+    pub(crate) fn end(&self, number: u64, moment: Moment, why: Told) {
+        let left = self.hub.end(number, moment, why);
+        self.tell_left(number, Untaken::Replied(Reply::Ended), left);
+    }
+
     /// Makes the workers go, and lets all children go that are left.
     pub fn shut_down(&self) {
         self.tasks.shut_down();
     }
 
-    /// Makes the child of this number and argument, which owns this and is alive from now on, and its address.
+    /// Makes all that the child of this number and argument takes, which counts as alive from now on: its mailbox, its address, and the
+    /// gate by which it is let go.
     fn admit(
         &self,
         number: u64,
-        arg: &Text,
-        own: Option<B::Own>,
-    ) -> Result<(Abortable<B::Child>, ChildRef<B::Message>), AllocError>
-        ensures child { IfOk result (λ r. B.Child.can_poll r.0.task × EndsBy B.Child.gives P.may_end r.0.task) }
-        ensures address { IfOk result (λ r. r.1.number ≡ number) }
+        arg: Text,
+    ) -> Result<(Mailbox<B::Message>, ChildRef<B::Message>, Gate), AllocError>
+        ensures { IfOk result (λ r. r.1.number ≡ number) }
     {
-        let (mailbox, room) = opened(self.alloc)?;
+        let hub = self.hub;
+        let (mailbox, room) = opened(hub.alloc, hub.mailbox)?;
         let address = ChildRef {
             number,
             room: Arc::try_clone(&room)?,
         };
-        let child = self.behaviour.begin(number, arg, own, mailbox);
-        let (child, abort) = Abortable::new(self.alloc, child)?;
-        let hub = self.hub;
-        hub.registry.lock(&hub.rt).open(number, room, abort)?;
-        Ok((child, address))
+        let (gate, abort) = Abortable::new(hub.alloc, pending())?;
+        hub.registry.lock(&hub.rt).open(number, arg, room, abort)?;
+        Ok((mailbox, address, gate))
     }
 }
 
@@ -82,7 +106,6 @@ impl<'h, B: Behaviour, P: Host> Yard<'h, B, P, Alive<'h, B, P>> {
     /// Makes a yard in which no child runs, for this number of workers.
     pub fn new<R: RandomSource + AllocGlobal>(
         rt: &R,
-        alloc: Global,
         hub: &'h Hub<B, P>,
         behaviour: &'h B,
         workers: usize,
@@ -96,7 +119,6 @@ impl<'h, B: Behaviour, P: Host> Yard<'h, B, P, Alive<'h, B, P>> {
             return Err(OutOfMemory);
         };
         Ok(Yard {
-            alloc,
             hub,
             behaviour,
             tasks,
@@ -105,7 +127,7 @@ impl<'h, B: Behaviour, P: Host> Yard<'h, B, P, Alive<'h, B, P>> {
 
     /// Returns a hold. While it is there, workers wait for children that are still to come.
     pub fn hold(&self) -> Result<Vec<Hold<'_>>, AllocError> {
-        self.tasks.hold(self.alloc)
+        self.tasks.hold(self.hub.alloc)
     }
 
     /// Runs children, as the worker with this number, until the yard is shut down, or no hold of it and no child is left. Then
@@ -115,30 +137,32 @@ impl<'h, B: Behaviour, P: Host> Yard<'h, B, P, Alive<'h, B, P>> {
         self.hub.worker_went();
     }
 
-    /// Runs a child that was made, and gives its address. If that is refused, it has ended at once, with what it owns, and has none.
+    /// Runs a child that was made, and gives its address. If there is no memory for it, it has ended at once, what it was to own is taken,
+    /// and it has no address.
     fn spawn(&self, due: Due<P>, own: Option<B::Own>) -> Option<ChildRef<B::Message>>
         ensures { IfSome result (λ address. address.number ≡ due.debt.child.number) }
     {
         let Child { number, arg } = due.child();
-        match self.admit(number, &arg, own) {
-            Ok((child, address)) => {
-                let _ = self.tasks.spawn(Alive {
-                    hub: self.hub,
-                    child: Some(child),
-                    due: Some(due),
-                    began: false,
-                });
-                Some(address)
-            }
-            Err(_) => {
-                self.hub.exited(due, not_run().into());
-                None
-            }
-        }
+        let Ok((mailbox, address, gate)) = self.admit(number, arg) else {
+            let left = own.map(|own| (arg, own));
+            self.tell_left(number, Untaken::NotRun, left);
+            self.hub.exited(due, not_run().into());
+            return None;
+        };
+        let child = self.behaviour.begin(number, &arg, own, mailbox);
+        let _ = self.tasks.spawn(Alive {
+            hub: self.hub,
+            gate,
+            child: Some(child),
+            due: Some(due),
+            began: false,
+        });
+        Some(address)
     }
 
-    /// Makes and runs a child that was started, by this account, whose exit has room in the queue at this place. One that is listed no more is asked to end: who ends a child enters that first, and then looks for it among those that are
-    /// alive.
+    /// Makes and runs a child that was started, by this account, whose exit has room in the queue at this place. One that is listed no more
+    /// is asked to end, and so is one of a crew that is not up: who ends children enters or notes that first, and then looks for them among
+    /// those that are alive.
     pub fn begin<N: Name, D>(
         &self,
         handle: &mut HandleOf<'_, N, D>,
@@ -154,10 +178,15 @@ impl<'h, B: Behaviour, P: Host> Yard<'h, B, P, Alive<'h, B, P>> {
         ensures calls { (handle.new.calls ≡ handle.old.calls) × (handle.new.number ≡ handle.old.number) }
         ensures account { account.new ≡ record account.old { made = account.old.made ++ child ∷ [] } }
     {
-        let due = self.hub.owe(account, child, place);
+        let (number, hub) = (child.number, self.hub);
+        let due = hub.owe(account, child, place);
         let address = self.spawn(due, own);
-        if !matches!(handle.child(child.number), Ok(Seen::Up(Some(_)))) {
-            self.hub.end(child.number, moment);
+        let why = match handle.child(number) {
+            Ok(Seen::Up(None)) => Some(Told::Terminated),
+            _ => hub.why(),
+        };
+        if let Some(why) = why {
+            self.end(number, moment, why);
         }
         address
     }
@@ -189,7 +218,7 @@ impl<'h, B: Behaviour, P: Host> Yard<'h, B, P, Alive<'h, B, P>> {
                 None,
             )
         } else {
-            self.hub.free_room(place);
+            self.hub.free_rooms(place, 1);
             (None, Some(own))
         }
     }

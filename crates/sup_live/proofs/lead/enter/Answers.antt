@@ -40,8 +40,8 @@ returns-in-Ok-clause-entered g c =
     let v = c.in-Ok.field-0.replies.ok.0 in
     entered_ok g.S.Starter.may_answer g.N.Name.template g.N.Name.press c.args.handle.now c.apply_all.new.self _ items c.args.count _ operations c.in-Ok.field-0.replies.items c.in-Ok.field-0.ticket c.apply_all.ensures.front are (omega (arith, n, m, v)) c.in-Ok.ensures.ok
 
-pub returns-clause-few : goal.returns-clause-few
-returns-clause-few g c =
+pub returns-in-Err-clause-few : goal.returns-in-Err-clause-few
+returns-in-Err-clause-few g c =
     let operations = c.list.new.operations.items in
     let items = c.args.held.now.items in
     let are : operations ≡ operations_of (take c.args.count items) = not_err c.list.result _ (sym c.is_err.ensures.value ∙ c.if-is_err.false) c.list.ensures in
@@ -50,8 +50,8 @@ returns-clause-few g c =
     let v = c.in-Err.field-0.replies.ok.0 in
     omega (arith, n, m, v)
 
-pub returns-clause-entered : goal.returns-clause-entered
-returns-clause-entered g c =
+pub returns-in-Err-clause-entered : goal.returns-in-Err-clause-entered
+returns-in-Err-clause-entered g c =
     let operations = c.list.new.operations.items in
     let items = c.args.held.now.items in
     let are : operations ≡ operations_of (take c.args.count items) = not_err c.list.result _ (sym c.is_err.ensures.value ∙ c.if-is_err.false) c.list.ensures in

@@ -2,7 +2,7 @@
 use Rattle.std.proofs.Common.{ap, sym, subst, arith}
 use Rattle.sup_live.specs.Starts.{child_started, HasStarted}
 use Rattle.sup_live.specs.ReplyLaws.{none_yet}
-use Rattle.sup_live.proofs.crew_client.Client+N+Desk+N+S+Q+J+B+P+F.open.Goals as goal
+use Rattle.sup_live.proofs.crew_client.Client.open.Goals as goal
 
 pub invariant_of-result : goal.invariant_of-result
 invariant_of-result g c =
