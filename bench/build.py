@@ -21,7 +21,7 @@ USES = {
     "inbox": "sup_types sup_inbox crossbeam_queue atomic_table",
     "crew": "sup_types sup_desk sup_crew",
     "live": "sup_types sup_live futures anyhow",
-    "tcp": "sup_types sup_live futures tokio tokio_util anyhow",
+    "tcp": "sup_types sup_journal sup_live futures tokio tokio_util anyhow",
 }
 
 # The words that our program is given as `rt run` runs it, once it is built.
