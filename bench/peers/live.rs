@@ -156,14 +156,14 @@ impl Runs for Pool {
 }
 
 impl Pool {
-    /// Takes one message after another, up to 64 of them; a child that has more is queued again.
+    /// Takes one message after another, up to 128 of them; a child that has more is queued again.
     fn run(&self, child: Arc<Child>) {
         let mut inner = child.inner.lock().unwrap();
         if !inner.is_running {
             inner.is_running = true;
             self.board.began.add();
         }
-        for _ in 0..64 {
+        for _ in 0..128 {
             let Some(message) = inner.mailbox.pop_front() else {
                 inner.is_queued = false;
                 return;
