@@ -1,4 +1,4 @@
--- The children that a crew made are those whose exits were told.
+-- The children that a crew made are those whose exits were reported.
 use Rattle.std.proofs.Common.{◌≡◌, ℕ, zero, suc, Bool, List, [], ◌∷◌, ◌++◌, length, refl, ap, sym, ◌∙◌, subst, arith, append-nil, Option, Some, None}
 use Rattle.std.specs.Prelude.{IfSome}
 use Rattle.sup_types.specs.declared.reason.Reason.{Reason}

@@ -189,7 +189,7 @@ told-again [] [] = refl
 told-again [] (x ∷ xs) = refl
 told-again (t ∷ ts) rest = ap (λ l. t ∷ l) (told-again ts rest)
 
--- whichever exits are told
+-- whichever exits are reported
 led_by : (may_end : Reason → Bool) (calls : List Entry) (paid : List Child) (unpaid told : List Exited) → HasTold may_end calls paid unpaid told → IsLed may_end calls paid unpaid
 led_by may_end calls paid unpaid told h =
     let same : told_by (exits_among calls) paid ≡ told = (λ i. told_by (h.0 i) (h.1 i)) ∙ told-again told unpaid in

@@ -55,8 +55,8 @@ told_by operations [] = []
 told_by [] (c ∷ cs) = []
 told_by (o ∷ os) (c ∷ cs) = told_as c o (told_by os cs)
 
--- the exits among these calls are those that are told, whose children were paid, and then those that are to be paid; and each that is
--- told has a reason that a crew may tell
+-- the exits among these calls are those that were reported, whose children were paid, and then those that are to be paid; and each that
+-- was reported has a reason that a crew may report
 abbrev pub HasTold : (Reason → Bool) → List Entry → List Child → List Exited → List Exited → Type 0
 HasTold may_end calls paid unpaid told = (exits_among calls ≡ operations_of (told ++ unpaid)) × (paid ≡ children_of told) × AreEndings may_end told
 

@@ -11,7 +11,7 @@ abbrev pub restarted_as : Reply → List ℕ
 restarted_as (Restarted old number) = number ∷ []
 restarted_as _ = []
 
--- the same by the reply to an operation, of which the stop restarts none
+-- the same by the reply to an operation; a stop restarts none
 abbrev pub number_restarted : Operation → Reply → List ℕ
 number_restarted Stop reply = []
 number_restarted _ reply = restarted_as reply

@@ -11,12 +11,12 @@ use Rattle.sup_core.specs.Account.{Item, account}
 use Rattle.sup_desk.specs.Knowledge.{Knowledge, entries_of}
 use Rattle.sup_exits.specs.declared.exit.Child.{Child}
 
--- the child that a start with this reply made, under the number that it was told
+-- the child that a start with this reply made, under the number in the reply
 abbrev pub started_as : Reply → List ℕ
 started_as (Started number) = number ∷ []
 started_as _ = []
 
--- what a child was to own comes back from a start that made none
+-- what a child was to own is given back by a start that made none
 abbrev pub given_back : {O : Type 0} → O → Reply → Option O
 given_back own (Started number) = None
 given_back own _ = Some own

@@ -1,9 +1,9 @@
--- Which children a crew made, and whose exits were told.
+-- Which children a crew made, and whose exits were reported.
 use Rattle.std.specs.Prelude.{◌≡◌, ℕ, ◌+◌, List, length}
 use Rattle.sup_exits.specs.declared.exit.Child.{Child}
 use Rattle.sup_exits.specs.Holdings.{weigh}
 
--- So many children were made, and so many of them owe an exit. Each of the others has one exit: it is among those that were
+-- That many children were made, and `owed` of them owe an exit. Each of the others has one exit: it is among those that were
 -- entered, or among those that are left
 pub record IsAccounted (children entered left : List Child) (made owed : ℕ) : Type 0 where
   pub owes : List Child

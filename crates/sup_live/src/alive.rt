@@ -12,10 +12,10 @@ use futures::task::{Context, Poll};
 use sup_exits::{Due, Office};
 use sup_types::{Reason, Word};
 
-/// Is ready once a child is let go.
+/// Is ready once a child is aborted.
 pub(crate) type Gate = Abortable<Pending<()>>;
 
-/// A child that is alive. However it is let go, its exit waits to be entered.
+/// A child that is alive. However it ends, its exit waits to be entered.
 pub struct Alive<'h, B: Behaviour, P: Host> {
     pub(crate) hub: &'h Hub<B, P>,
     pub(crate) gate: Gate,
@@ -25,7 +25,7 @@ pub struct Alive<'h, B: Behaviour, P: Host> {
     pub(crate) began: bool,
 }
 
-/// Why a child ended that was let go, as OTP names it: `killed`.
+/// Returns why a child ended that was aborted, as OTP names it: `killed`.
 fn killed() -> Reason
     ensures { result ≡ killed }
 {
@@ -45,7 +45,7 @@ pub(crate) fn not_run() -> Reason
     }
 }
 
-/// The reason of a child that was let go: `killed`, or `not_run` where it never ran.
+/// Returns the reason of a child that was dropped before its end: `killed`, or `not_run` if it never ran.
 fn let_go(ran: bool) -> Reason
     ensures { result ≡ (if ran then killed else not_run) }
 {
@@ -78,7 +78,7 @@ impl<'h, B: Behaviour, P: Host> Future for Alive<'h, B, P> {
         let Some(child) = &mut self.child else {
             return Poll::Ready(());
         };
-        // The gate first: a child that is let go hears of nothing more.
+        // The gate first: a child that is aborted hears of nothing more.
         let end = if self.gate.poll(cx).is_ready() {
             killed().into()
         } else {

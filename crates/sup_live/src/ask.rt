@@ -7,7 +7,7 @@ use std::sync::{Arc, Wait};
 use std::thread::Parker;
 use std::time::{Clock, Duration, Instant};
 
-/// Wakes who waits for an answer, once it is let go.
+/// Wakes the thread that waits for an answer, once it is dropped.
 struct Ring(Arc<Parker>);
 
 impl Drop for Ring {
@@ -17,16 +17,16 @@ impl Drop for Ring {
     }
 }
 
-/// By what a child answers, once. One that is let go says that no answer comes.
+/// By what a child answers, once. If it is dropped, no answer comes, and the asker is woken.
 #[derive(Drop)]
 pub struct Answer<T: Drop> {
-    // Let go before the ring: who is woken then sees it.
+    // Dropped before the ring, so that the thread which is woken sees it.
     sender: oneshot::Sender<T>,
     ring: Ring,
 }
 
 impl<T: Drop> Answer<T> {
-    /// Answers. The answer comes back if nobody waits for it any more.
+    /// Answers. Returns the answer if nobody waits for it any more.
     pub fn send(self, answer: T) -> Result<(), T> {
         let Answer { sender, ring } = self;
         let sent = sender.send(answer);
@@ -44,9 +44,9 @@ pub enum NotAnswered<M> {
     Unsent(Unsent<M>),
     /// There was no memory for an answer. No message was made.
     OutOfMemory,
-    /// The child ended, or let the answer go.
+    /// The child ended, or dropped what it answers by.
     Ended,
-    /// The time is over. A later answer comes back to the child.
+    /// The time is over. A later answer is returned to the child.
     TooLate,
     /// The crew is not up any more, so there is no child, or it ended.
     CrewEnded(CrewState),

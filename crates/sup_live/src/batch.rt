@@ -76,8 +76,8 @@ pub(crate) fn enter_all<
     }
 }
 
-/// Where the entries of a batch stand: the place of the first in the history, and of the queue that has room for the exit of its child.
-/// The others follow.
+/// The places of a batch: that of its first entry in the history, and that of the queue which has room for the exit of its child. The
+/// others follow.
 #[derive(Clone, Copy)]
 pub(crate) struct Places {
     pub(crate) entry: u64,

@@ -47,12 +47,12 @@ pub trait Behaviour {
     /// A child that runs: a future that is ready with how the child ended.
     type Child: Future<Output = End<Self::Own>>;
 
-    /// Whether a child may end for this reason. Where an impl does not say, it may for any. Two reasons more are a crew's own:
-    /// `killed` of a child that was let go, and `not_run` of one that could not be run.
+    /// Whether a child may end for this reason. If an impl does not say, it may for any. Two reasons more are a crew's own:
+    /// `killed` of a child that was aborted, and `not_run` of one that could not be run.
     ghost may_end: { Self → Reason → Bool } = { λ behaviour reason. true };
 
     /// Begins the child with this number and argument, which reads from the mailbox what it is sent. `own` is what its start
-    /// gave it or, for a restarted child, what the one before left: nothing if that one was let go. It runs no code of the
+    /// gave it or, for a restarted child, what the one before left: nothing if that one was aborted. It runs no code of the
     /// child: the crew's workers do, by polling it. It is ready only with a reason for which a child may end.
     fn begin(
         &self,
@@ -69,7 +69,7 @@ pub trait Behaviour {
     fn restarted(&self, _number: u64, _new: u64, _arg: &Text) {}
 
     /// Takes what the child with this number and argument owned and nobody takes over, once. The driver calls it or, for a child that
-    /// could not be run or had ended when it was terminated, the client, outside all locks. An impl that leaves it out lets that go. So
-    /// does the crew with what a child has with it that is let go, or whose task the executor refuses.
+    /// could not be run or had ended when it was terminated, the client, outside all locks. An impl that leaves it out drops that. So does
+    /// the crew with what an aborted child has with it, or one whose task the executor refuses.
     fn left(&self, _number: u64, _arg: &Text, _why: Untaken, _own: Self::Own) {}
 }

@@ -25,9 +25,9 @@ pub struct Crew<
     starter: S,
     /// What runs in threads of its own.
     pub peers: Option<Vec<U>>,
-    /// Who is told what is entered.
+    /// Learns what is entered.
     pub(crate) watcher: Option<&'b W>,
-    /// Where the moments of its updates come from, where that was said.
+    /// What gives the moments of its updates, if that was set.
     pub(crate) moments: Option<Moments<'b>>,
     /// How it runs.
     pub plan: Plan,

@@ -26,7 +26,7 @@ use sup_desk::{Asker, Done, HandleFault, Name, QueryFault, UpdateFault};
 use sup_log::{NoPlace, Ticket, View};
 use sup_types::{Counts, Operation, Reply, Row, Seen, Template, Text};
 
-/// What is asked of a live crew. Queries take no lock and never wait. Who asks knows a front of the history: all that it has seen, learnt or
+/// What is asked of a live crew. Queries take no lock and never wait. The caller knows a front of the history: all that it has seen, learnt or
 /// done. A query is answered at a front that begins with it.
 pub trait Queries: Drop {
     ghost use Rattle.logbook.specs.Pages.{Book};
@@ -111,7 +111,7 @@ pub trait Queries: Drop {
         ensures asked { HasAsked (knows self.old) (knows self.new) }
         ensures learnt { IsPrefix ticket.now.front (knows self.new).front × IsPrefix ticket.now.editions (knows self.new).editions };
 
-    /// Returns an asker of the crew's desk. It makes no update and no audit counts it. It takes a place of the desk until it is let go.
+    /// Returns an asker of the crew's desk. It makes no update and no audit counts it. It takes a place of the desk until it is dropped.
     ///
     /// # Errors
     /// `NoPlace` if no place is free.
@@ -142,7 +142,7 @@ pub trait LiveClient<B: Behaviour>: Queries {
     ghost since: { Self → ℕ };
 
     /// Starts a child with this argument, which owns this. At `Started` it runs, and is sent to by its address. Room for its exit
-    /// is made first. What it was to own comes back if no child was made.
+    /// is made first. If no child was made, what it was to own is returned.
     fn start_child(&mut self, arg: Text, own: B::Own) -> Result<Started<B>, NotStarted<B::Own>>
         ensures ok { IfOk result (λ d. (moment : ℕ) × IsUpdated may_answer Self.template Self.press (Self.knows self.old) (Operation.Start arg) moment (record { number = (Self.knows self.new).number; editions = d.ticket.editions; front = d.ticket.front; calls = (Self.knows self.new).calls }) d.reply d.ticket) }
         ensures seen { IfOk result (λ d. IsPrefix d.ticket.front (Self.knows self.new).front) }
@@ -155,20 +155,20 @@ pub trait LiveClient<B: Behaviour>: Queries {
         ensures room { IfErr result (λ e. e.fault ≡ UpdateFault.OutOfMemory → (Self.knows self.new ≡ Self.knows self.old) ⊎ (length (Self.knows self.new).front < Self.template.entries)) }
         ensures journal { IfErr result (λ e. (f : Fault) → e.fault ≡ UpdateFault.Journal f → may_fail f) };
 
-    /// Starts a child for each of these arguments, in order, which owns what stands beside it. They are entered in one step: everyone who
+    /// Starts a child for each of these arguments, in order, which owns what is beside it. They are entered in one step: everyone who
     /// asks sees all of them or none. What is entered leaves the list, and the others stay in it, with the fault. Room for all exits is
     /// made first, so memory that is refused for it enters nothing.
     fn start_all(&mut self, list: &mut VecDeque<(Text, B::Own)>) -> StartedAll<B::Message, B::Own>
         ensures { IsStartedAll may_answer may_fail Self.template Self.press (Self.knows self.old) list.old.items (Self.knows self.new) list.new.items result };
 
-    /// Ends the child with this number. At `Ended` it is asked to end, and is let go when its grace is over. Its exit is entered
+    /// Ends the child with this number. At `Ended` it is asked to end, and is aborted when its grace is over. Its exit is entered
     /// later, and changes nothing.
     fn terminate_child(&mut self, number: u64) -> Result<Done, UpdateFault>
         ensures result { (moment : ℕ) × IsUpdateResult may_answer Self.template Self.press (Self.knows self.old) (Operation.Terminate number) moment (Self.knows self.new) result }
         ensures journal { IfErr result (λ e. (f : Fault) → e ≡ UpdateFault.Journal f → may_fail f) };
 
     /// Ends the child as [`LiveClient::terminate_child`] does, and at `Ended` returns once the child is gone, as OTP's does. Until then the
-    /// thread sleeps: as long as the child runs, at most until it is let go when its grace is over, or when the crew closes. A child has no
+    /// thread sleeps: as long as the child runs, at most until it is aborted when its grace is over, or when the crew closes. A child has no
     /// client, so none can wait for its own end. One whose `poll` waits for this thread would.
     final fn terminate_child_and_wait(&mut self, number: u64) -> Result<Done, UpdateFault>
         ensures result { (moment : ℕ) × IsUpdateResult may_answer Self.template Self.press (Self.knows self.old) (Operation.Terminate number) moment (Self.knows self.new) result }
@@ -191,7 +191,7 @@ pub trait LiveClient<B: Behaviour>: Queries {
         ensures result { (moment : ℕ) × IsUpdateResult may_answer Self.template Self.press (Self.knows self.old) Operation.Stop moment (Self.knows self.new) result }
         ensures journal { IfErr result (λ e. (f : Fault) → e ≡ UpdateFault.Journal f → may_fail f) };
 
-    /// Sends to the child with this number. The message comes back if no such child is alive, if it was asked to end, or if it has no room
+    /// Sends to the child with this number. Returns the message if no such child is alive, if it was asked to end, or if it has no room
     /// for it.
     final fn send(&self, number: u64, message: B::Message) -> Result<(), Unsent<B::Message>>
         ensures { IfErr result (λ unsent. message_of unsent ≡ message) }
@@ -222,7 +222,7 @@ pub trait LiveClient<B: Behaviour>: Queries {
     }
 
     /// Returns a future that is ready once the crew is down, closes or has failed. Its place among those that wait is taken now, so no
-    /// poll of it fails for want of memory.
+    /// poll of it runs out of memory.
     final fn ended(&self) -> Result<Ended, AllocError> {
         Ends::ended(self.ends())
     }

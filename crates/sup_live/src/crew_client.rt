@@ -23,7 +23,7 @@ use sup_log::{NoPlace, Ticket, View};
 use sup_types::{Counts, Operation, Reply, Row, Seen, Starter, Template, Text};
 
 /// A client of a crew. It does not give its handle out while it is one: an exit that was entered past the crew would be a second
-/// one. When it is let go, its handle is returned.
+/// one. When it is dropped, its handle is returned.
 pub(crate) struct Client<
     't,
     'o,

@@ -130,7 +130,7 @@ impl Ends {
 }
 
 /// Waits for the end of a crew: a future that is ready once the crew is down, closes or has failed, with which of these it is. It may be
-/// polled in any thread, and outlives the client that gave it. Its place among those that wait is given back when it is let go.
+/// polled in any thread, and outlives the client that gave it. Its place among those that wait is given back when it is dropped.
 pub struct Ended {
     ends: Arc<Ends>,
     ticket: Option<Ticket>,

@@ -14,7 +14,7 @@ pub trait Host: Office + Threads + Wait + Clock + Drop {
     /// Returns the moment now.
     fn now(&self) -> Moment;
 
-    /// Tells the watcher of an entry, if there is one.
+    /// Reports an entry to the watcher, if there is one.
     fn entered(&self, place: u64, operation: &Operation, reply: &Reply);
 }
 
@@ -23,7 +23,7 @@ pub trait Lookout {
     /// Returns the moment now.
     fn moment<R: Clock>(&self, rt: &R) -> Moment;
 
-    /// Tells the watcher of an entry, if there is one.
+    /// Reports an entry to the watcher, if there is one.
     fn entered(&self, place: u64, operation: &Operation, reply: &Reply);
 }
 

@@ -68,7 +68,7 @@ fn queues_of<P: Host>(alloc: Global, count: usize) -> Result<Vec<Mutex<ExitQueue
     Ok(queues)
 }
 
-/// Lists these exits, and pays each. If memory is refused for the list, the rest is let go, and stays owed.
+/// Lists these exits, and pays each. If memory is refused for the list, the rest is dropped, and stays owed.
 fn tell<P: Host>(
     ledger: &Ledger,
     exits: VecDeque<OwedExit<P>>,
@@ -190,7 +190,7 @@ impl<B: Behaviour, P: Host> Hub<B, P> {
         matches!(self.state(), CrewState::Failed(_))
     }
 
-    /// Tells the watcher of an update that was entered, or notes a fault that stays.
+    /// Reports an update that was entered to the watcher, or notes a fault that stays.
     pub(crate) fn note(&self, operation: &Operation, done: &Result<Done, UpdateFault>) {
         match done {
             Ok(Done { reply, ticket }) => self.rt.entered(ticket.stamp(), operation, reply),
@@ -267,7 +267,7 @@ impl<B: Behaviour, P: Host> Hub<B, P> {
         moment.after(self.grace)
     }
 
-    /// Returns whether a child is let go as soon as it is asked to end.
+    /// Returns whether a child is aborted as soon as it is asked to end.
     fn has_no_grace(&self) -> bool {
         self.grace.as_millis() == 0
     }

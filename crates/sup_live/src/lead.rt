@@ -48,7 +48,7 @@ fn list<I: Office>(
     Ok(())
 }
 
-/// Tells the watcher how the first exits were entered, by the stamp of the last.
+/// Reports to the watcher how the first exits were entered, by the stamp of the last.
 fn tell_all<P: Host>(rt: &P, held: &VecDeque<OwedExit<P>>, replies: &[Reply], stamp: u64) {
     let mut place = stamp.wrapping_sub(replies.len() as u64);
     for (exit, reply) in held.iter().zip(replies) {

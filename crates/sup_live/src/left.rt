@@ -26,8 +26,8 @@ impl<N: Name> Model for Caller<N> {
     ghost view = { λ c. record { knows = c.handle; since = c.since } };
 }
 
-/// What dropped clients leave: their handles, for an audit, and the account of the children that they started, of which each
-/// client gets a part.
+/// What dropped clients leave: their handles, for an audit, and the account of the children that they started. Each client
+/// gets a part of that account.
 #[derive(Drop)]
 pub(crate) struct Left<N: Name, P: Host> {
     /// Those that clients used.

@@ -14,7 +14,7 @@
 //! ```
 //!
 //! A program learns of the crew's end by [`LiveClient::ended`], a child by [`Mailbox::why`], and a [`Watch`] of each entry. What a child
-//! owned and nobody takes over comes back to [`Behaviour::left`].
+//! owned and nobody takes over is given to [`Behaviour::left`].
 //!
 //! # Proved
 //! An update by a client has the contract of a handle's, a query that of an asker's, and [`LiveClient::start_all`] that of a batch. What
@@ -25,8 +25,8 @@
 //! contract says that a child ends: [`CrewReport::adds_up`] is whether no exit is owed.
 //!
 //! # Only tested
-//! Who is woken by which end, and in time; why a child is told to end; that each owned thing comes back, once; that the watcher is told of
-//! each entry; rooms, limits of time, and memory that is refused in any thread.
+//! Which threads an end wakes, and in time; why a child is asked to end; that each owned thing is given back, once; that the watcher
+//! learns of each entry; rooms, limits of time, and memory that is refused in any thread.
 //!
 //! # How it is used
 //! [`Crew::run`], [`Crew::run_recorded`] with a journal and [`Crew::run_in_file`] make a desk; [`Crew::run_over`] takes one that was made by

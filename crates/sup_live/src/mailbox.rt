@@ -127,7 +127,7 @@ impl<M: Drop> Stream for Mailbox<M> {
     }
 }
 
-/// A message that was not sent, which comes back.
+/// A message that was not sent, which is returned.
 #[derive(Debug, Drop)]
 pub enum Unsent<M> {
     /// No such child is alive, or it was asked to end. It takes no message any more.
@@ -162,7 +162,7 @@ impl<M: Drop> ChildRef<M> {
         self.number
     }
 
-    /// Sends to the child, and takes no lock of the crew. The message comes back if the child has gone, was asked to end, or has no
+    /// Sends to the child, and takes no lock of the crew. Returns the message if the child has gone, was asked to end, or has no
     /// room for it.
     pub fn send(&self, message: M) -> Result<(), Unsent<M>>
         ensures { IfErr result (λ unsent. message_of unsent ≡ message) }

@@ -58,7 +58,7 @@ pub(crate) fn room_for<T: Drop>(
     Ok((threads, Vec::with_capacity(alloc, peers)?))
 }
 
-/// Starts a thread for each peer, by a client of its own, and lists them where there is room for them.
+/// Starts a thread for each peer, by a client of its own, and lists them in the room that was made for them.
 pub(crate) fn start_peers<'s, 'h: 's, 'd: 's, E, N, S, Q, J, B, P, U>(
     scope: &Scope<'s, E>,
     desk: &'d Desk<N, S, Q, J>,

@@ -13,7 +13,7 @@ pub struct Plan {
     pub workers: usize,
     /// After which time a restart that failed is tried again.
     pub retry_after: Duration,
-    /// For how long a child may run after it was asked to end, as OTP's `shutdown` time. With 0 it is let go at once, as by OTP's
+    /// For how long a child may run after it was asked to end, as OTP's `shutdown` time. With 0 it is aborted at once, as by OTP's
     /// `brutal_kill`.
     pub grace: Duration,
     /// For how many more clients and askers a desk of the crew's own has places, beside the program's client and those of the peers.
@@ -21,7 +21,7 @@ pub struct Plan {
     pub places: u64,
     /// How many messages may wait for a child.
     pub mailbox: usize,
-    /// Whether the children that are listed when the crew closes stay listed. Where it is not said, they do if the history is in a file.
+    /// Whether the children that are listed when the crew closes stay listed. Without a setting they do if the history is in a file.
     pub keeps: Option<bool>,
 }
 

@@ -22,7 +22,7 @@ pub(crate) struct Entry<B: Behaviour> {
 }
 
 impl<B: Behaviour> Entry<B> {
-    /// Asks the child to end. One that is let go at once is not polled any more, so it does not hear of it. Returns whether it was not
+    /// Asks the child to end. One that is aborted at once is not polled any more, so it does not hear of it. Returns whether it was not
     /// asked before.
     fn ask(&self, at_once: bool, why: Told) -> bool {
         if at_once {

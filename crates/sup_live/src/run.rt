@@ -36,7 +36,7 @@ use sup_types::{AlwaysRunning, Entry, Starter};
 /// How many handles a crew takes beside those of its peers: the driver's, and that of the program's client.
 const OWN_HANDLES: u64 = 2;
 
-/// Ends a yard. It stands apart, over any future, since the borrow checker of this kit sees no lifetime of a yard's children
+/// Ends a yard. It is a function of its own, over any future, since the borrow checker of this kit sees no lifetime of a yard's children
 /// outlive the function that made it.
 fn end_yard<'h, B: Behaviour, P: Host, F: Future>(yard: Yard<'h, B, P, F>) {
     drop(yard);
@@ -280,20 +280,20 @@ where
         Ok((report, desk.close()))
     }
 
-    /// Runs the crew over a desk that was made by hand, whose template and starter hold in place of its own, until the program and all peers have returned: their clients start children, and the crew runs them,
-    /// restarts those that crashed as the template says, tries failed restarts again, and ends those that were ended. Then the crew
-    /// closes: it stops the supervisor, unless its children are kept, and every child is asked to end and is let go at the latest when
-    /// its grace is over. The program runs in the calling thread, and each peer in a thread of its own, each by a client of its own.
+    /// Runs the crew over a desk that was made by hand, whose template and starter hold in place of its own, until the program and all peers
+    /// have returned: their clients start children, and the crew runs them, restarts those that crashed as the template says, tries failed
+    /// restarts again, and ends those that were ended. Then the crew closes: it stops the supervisor, unless its children are kept, and
+    /// every child is asked to end and is aborted at the latest when its grace is over. The program runs in the calling thread, and each peer in a thread of its own, each by a client of its own.
     ///
     /// The desk may have a journal. One that breaks off refuses the updates of all clients, and queries go on. If an update of the
-    /// driver's is refused, for any cause but memory, the driver enters nothing more: every child is asked to end and is let go as at a
+    /// driver's is refused, for any cause but memory, the driver enters nothing more: every child is asked to end and is aborted as at a
     /// close, the report has the fault and the exits that were not entered, and the program runs until it returns.
     ///
     /// Each exit that the driver entered has a reason for which the behaviour's children may end, or one of the crew's own: `killed` of
-    /// a child that was let go, `not_run` of one that could not be run. So has each exit that the report says was left.
+    /// a child that was aborted, `not_run` of one that could not be run. So has each exit that the report says was left.
     ///
     /// Each child that was made has one exit: the driver entered it, or the report has it as left, or counts it
-    /// among those that are owed; and there is no other exit. Each child that was started by the client of a handle that comes back, and
+    /// among those that are owed; and there is no other exit. Each child that was started by the client of a handle that is returned, and
     /// each that was restarted by the driver's calls, is one of the children that were made.
     ///
     /// Children that the history lists when the run begins are of an earlier run. Each begins again under its number, with an empty
@@ -302,12 +302,12 @@ where
     /// A run uses a handle of the desk for its driver, one for the program's client, one for each peer, and one for each client that a client
     /// makes: those of these callers, which were made before the run, and new ones once there are no more. So one run after another uses no
     /// more handles than the widest of them. Then the desk is audited by all of them, and by the callers that were not used. All of these
-    /// handles come back with the report, in the order of making, so the desk can be used on, and audited again; each may learn the audit's
+    /// handles are returned with the report, in the order of making, so the desk can be used and audited again; each may learn the audit's
     /// ticket. If memory is refused for the handle of a client, it is lost, and if it is refused for the list of them, those of the crew are;
     /// then there is no audit.
     ///
     /// # Errors
-    /// Nothing was entered, neither the program nor a peer was run, and the handles are let go: `OutOfMemory`; `BadWorkers`; `NoThread`;
+    /// Nothing was entered, neither the program nor a peer was run, and the handles are dropped: `OutOfMemory`; `BadWorkers`; `NoThread`;
     /// `NoHandle` and `NoPlace` if the desk has not as many handles as the driver, the program and the peers need.
     pub fn run_over<'d, N, V, Q, R, J, T>(
         self,
@@ -344,7 +344,7 @@ where
         )
     }
 
-    /// Runs the crew of an office, and audits its desk, whose earlier handles these are. All handles come back.
+    /// Runs the crew of an office, and audits its desk, whose earlier handles these are. All handles are returned.
     fn run_office<'d, I, L, N, V, Q, R, J, T>(
         self,
         rt: &R,

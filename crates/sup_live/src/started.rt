@@ -64,7 +64,7 @@ impl<O: Drop> fmt::Debug for NotStarted<O> {
 impl<O: Drop> From<NotStarted<O>> for UpdateFault {
     ghost from_gives = { λ refused fault. fault ≡ refused.fault };
 
-    /// Returns the fault alone. What the child was to own is let go.
+    /// Returns the fault alone. What the child was to own is dropped.
     fn from(refused: NotStarted<O>) -> UpdateFault {
         refused.fault
     }

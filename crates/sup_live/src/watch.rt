@@ -1,12 +1,12 @@
-//! Watchers: who is told what a crew entered.
+//! Watchers: what learns of each entry of a crew.
 use std::sync::atomic::{AtomicU64, Ordering};
 use sup_types::{Operation, Reason, Reply};
 
-/// Is told what a crew's driver and its clients enter.
+/// Learns what a crew's driver and its clients enter.
 pub trait Watch {
     /// Takes note of an entry, of its place in the history, counted from 1, and of the reply. It is called once for each entry of the
-    /// run, after its publication and outside all locks, in the thread that entered it: so two threads may tell theirs in another order
-    /// than that of their places. A start is told before its child begins, and its exit after it.
+    /// run, after its publication and outside all locks, in the thread that entered it: so two threads may report theirs in another order
+    /// than that of their places. A start is reported before its child begins, and its exit after it.
     fn entered(&self, place: u64, operation: &Operation, reply: &Reply);
 }
 
@@ -26,7 +26,7 @@ impl Count {
     }
 }
 
-/// A watcher that counts what it was told, from 0 on.
+/// A watcher that counts the entries that it learns of, from 0 on.
 #[derive(Default, Drop)]
 pub struct Figures {
     /// Children that were started.
@@ -39,7 +39,7 @@ pub struct Figures {
     pub normal: Count,
     /// Exits by `shutdown`.
     pub shutdown: Count,
-    /// Exits for another reason: crashes, and children that were let go.
+    /// Exits for another reason: crashes, and children that were aborted.
     pub crashed: Count,
     /// Whether the supervisor gave up: 0 or 1.
     pub gave_up: Count,

@@ -25,7 +25,7 @@ use sup_types::{Operation, OutOfMemory, Reply, Seen, Text};
 /// How many workers share a queue of the children that are to be polled.
 const WORKERS_OF_A_QUEUE: usize = 4;
 
-/// The tasks of a crew, with what they share. By its type, its children may end for the reasons of which the office may be told.
+/// The tasks of a crew, with what they share. Its type says that its children end only for reasons that the office accepts.
 #[derive(Drop)]
 pub struct Yard<'h, B: Behaviour, P: Host, F: Future> {
     /// What the threads of the crew share.
@@ -44,7 +44,7 @@ impl<'h, B: Behaviour, P: Host, F: Future> Yard<'h, B, P, F> {
         self.hub.rt.now()
     }
 
-    /// Tells the behaviour that the child with this number was restarted as this one.
+    /// Reports to the behaviour that the child with this number was restarted as this one.
     pub fn tell_restarted(&self, number: u64, child: &Child) {
         self.behaviour.restarted(number, child.number, &child.arg);
     }
@@ -82,7 +82,7 @@ impl<'h, B: Behaviour, P: Host, F: Future> Yard<'h, B, P, F> {
     }
 
     /// Makes all that the child of this number and argument takes, which counts as alive from now on: its mailbox, its address, and the
-    /// gate by which it is let go.
+    /// gate by which it is aborted.
     fn admit(
         &self,
         number: u64,
