@@ -26,8 +26,8 @@ use sup_desk::{Asker, Done, HandleFault, Name, QueryFault, UpdateFault};
 use sup_log::{NoPlace, Ticket, View};
 use sup_types::{Counts, Operation, Reply, Row, Seen, Template, Text};
 
-/// What is asked of a live crew. Queries take no lock and never wait. The caller knows a front of the history: all that it has seen, learnt or
-/// done. A query is answered at a front that begins with it.
+/// What is asked of a live crew. Queries take no lock and never wait. The caller knows a front of the history: all that it has seen, learnt
+/// or done. A query is answered at a front that begins with it.
 pub trait Queries: Drop {
     ghost use Rattle.logbook.specs.Pages.{Book};
     ghost use Rattle.sup_types.specs.declared.template.Template.{Template};
@@ -75,9 +75,9 @@ pub trait Queries: Drop {
         }
     }
 
-    /// Sleeps until the counts are not these, the supervisor is down, the crew has failed, or the time has passed. Returns the counts at a front as that of
-    /// [`LiveClient::count_children`]. Each update, and each exit that is entered, wakes it to look. A clock that can't be read ends
-    /// the wait.
+    /// Sleeps until the counts are not these, the supervisor is down, the crew has failed, or the time has passed. Returns the counts at a
+    /// front as that of [`LiveClient::count_children`]. Each update, and each exit that is entered, wakes it to look. A clock that can't be
+    /// read ends the wait.
     fn await_change(
         &mut self,
         seen: Seen<Counts>,
@@ -168,8 +168,8 @@ pub trait LiveClient<B: Behaviour>: Queries {
         ensures journal { IfErr result (λ e. (f : Fault) → e ≡ UpdateFault.Journal f → may_fail f) };
 
     /// Ends the child as [`LiveClient::terminate_child`] does, and at `Ended` returns once the child is gone, as OTP's does. Until then the
-    /// thread sleeps: as long as the child runs, at most until it is aborted when its grace is over, or when the crew closes. A child has no
-    /// client, so none can wait for its own end. One whose `poll` waits for this thread would.
+    /// thread sleeps: as long as the child runs, at most until it is aborted when its grace is over, or when the crew closes. A child has
+    /// no client, so none can wait for its own end. One whose `poll` waits for this thread would.
     final fn terminate_child_and_wait(&mut self, number: u64) -> Result<Done, UpdateFault>
         ensures result { (moment : ℕ) × IsUpdateResult may_answer Self.template Self.press (Self.knows self.old) (Operation.Terminate number) moment (Self.knows self.new) result }
         ensures journal { IfErr result (λ e. (f : Fault) → e ≡ UpdateFault.Journal f → may_fail f) }

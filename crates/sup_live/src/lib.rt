@@ -29,8 +29,8 @@
 //! learns of each entry; rooms, limits of time, and memory that is refused in any thread.
 //!
 //! # How it is used
-//! [`Crew::run`], [`Crew::run_recorded`] with a journal and [`Crew::run_in_file`] make a desk; [`Crew::run_over`] takes one that was made by
-//! hand. Children that the history lists from an earlier run begin again under their numbers. Whoever runs a crew writes no proof.
+//! [`Crew::run`], [`Crew::run_recorded`] with a journal and [`Crew::run_in_file`] make a desk; [`Crew::run_over`] takes one that was made
+//! by hand. Children that the history lists from an earlier run begin again under their numbers. Whoever runs a crew writes no proof.
 #![tactic(auto)]
 
 mod alive;

@@ -280,10 +280,11 @@ where
         Ok((report, desk.close()))
     }
 
-    /// Runs the crew over a desk that was made by hand, whose template and starter hold in place of its own, until the program and all peers
-    /// have returned: their clients start children, and the crew runs them, restarts those that crashed as the template says, tries failed
-    /// restarts again, and ends those that were ended. Then the crew closes: it stops the supervisor, unless its children are kept, and
-    /// every child is asked to end and is aborted at the latest when its grace is over. The program runs in the calling thread, and each peer in a thread of its own, each by a client of its own.
+    /// Runs the crew over a desk that was made by hand, whose template and starter hold in place of its own, until the program and all
+    /// peers have returned: their clients start children, and the crew runs them, restarts those that crashed as the template says, tries
+    /// failed restarts again, and ends those that were ended. Then the crew closes: it stops the supervisor, unless its children are kept,
+    /// and every child is asked to end and is aborted at the latest when its grace is over. The program runs in the calling thread, and
+    /// each peer in a thread of its own, each by a client of its own.
     ///
     /// The desk may have a journal. One that breaks off refuses the updates of all clients, and queries go on. If an update of the
     /// driver's is refused, for any cause but memory, the driver enters nothing more: every child is asked to end and is aborted as at a
@@ -299,12 +300,12 @@ where
     /// Children that the history lists when the run begins are of an earlier run. Each begins again under its number, with an empty
     /// mailbox, and is one of the children that were made. A restart that had failed is tried again.
     ///
-    /// A run uses a handle of the desk for its driver, one for the program's client, one for each peer, and one for each client that a client
-    /// makes: those of these callers, which were made before the run, and new ones once there are no more. So one run after another uses no
-    /// more handles than the widest of them. Then the desk is audited by all of them, and by the callers that were not used. All of these
-    /// handles are returned with the report, in the order of making, so the desk can be used and audited again; each may learn the audit's
-    /// ticket. If memory is refused for the handle of a client, it is lost, and if it is refused for the list of them, those of the crew are;
-    /// then there is no audit.
+    /// A run uses a handle of the desk for its driver, one for the program's client, one for each peer, and one for each client that a
+    /// client makes: those of these callers, which were made before the run, and new ones once there are no more. So one run after another
+    /// uses no more handles than the widest of them. Then the desk is audited by all of them, and by the callers that were not used. All of
+    /// these handles are returned with the report, in the order of making, so the desk can be used and audited again; each may learn the
+    /// audit's ticket. If memory is refused for the handle of a client, it is lost, and if it is refused for the list of them, those of the
+    /// crew are; then there is no audit.
     ///
     /// # Errors
     /// Nothing was entered, neither the program nor a peer was run, and the handles are dropped: `OutOfMemory`; `BadWorkers`; `NoThread`;
