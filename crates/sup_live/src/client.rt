@@ -26,8 +26,8 @@ use sup_desk::{Asker, Done, HandleFault, Name, QueryFault, UpdateFault};
 use sup_log::{NoPlace, Ticket, View};
 use sup_types::{Counts, Operation, Reply, Row, Seen, Template, Text};
 
-/// What is asked of a live crew. Queries take no lock and never wait. The caller knows a front of the history: all that it has seen, learnt
-/// or done. A query is answered at a front that begins with it.
+/// What is asked of a live crew. Queries take no lock and never wait. Whoever asks knows a front of the history: all that it has seen,
+/// learnt or done. A query is answered at a front that begins with it.
 pub trait Queries: Drop {
     ghost use Rattle.logbook.specs.Pages.{Book};
     ghost use Rattle.sup_types.specs.declared.template.Template.{Template};

@@ -29,7 +29,7 @@ pub(crate) struct Joined<'d, N: Name, D, P: Host, T: Drop, U: Drop> {
     pub(crate) peers: Vec<Result<U, NotRun>>,
 }
 
-/// Starts the workers and the driver, or shuts the yard down. It continues without the workers that could not be started.
+/// Starts the workers and the driver, or shuts the yard down. Workers that could not be started count as gone.
 fn start_crew<'s, 'h: 's, 'd: 's, E, N, S, Q, J, B, P>(
     scope: &Scope<'s, E>,
     yard: &'s CrewYard<'h, B, P>,
