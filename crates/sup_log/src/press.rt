@@ -65,7 +65,7 @@ fn put<T: Copy>(list: &mut Vec<T>, item: &T) -> Result<(), OutOfMemory>
 impl Press {
     /// Makes a press with nothing published and nothing pending, and with this many places for lenses, 1 to 1024.
     ///
-    /// Each publication visits each place, taken or not, at a price of some forty instructions. So ask for as many
+    /// Each publication visits each place, taken or not, at a price of some fifty instructions. So ask for as many
     /// places as there are threads that look at the same time.
     ///
     /// # Errors
