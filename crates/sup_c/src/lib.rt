@@ -2,6 +2,33 @@
 //!
 //! C holds a [`held::Held`], which begins as zeros, and hands it to each call by its address, one call at a time. Each call answers
 //! a fault's number, or 0, and tests all that it is given. `ffi/` has the header, and what a program in Rust or Python calls.
+//!
+//! # What is proved
+//! - A call is done, or answers a fault, exactly as its `Answers..` in `specs/Answers.antt` says. After a fault nothing has changed: neither
+//!   the supervisor, nor the rows that were listed, nor what the call would have written.
+//! - A step replies, and a query answers, as the reference semantics does after the history. A step by stamp is done only if the history has
+//!   that many entries. If it takes the supervisor down, `sup_left` gives the children that the history before it lists.
+//! - A child's token is that of its start, or of the child that it replaces.
+//! - What is written is the line that adds the entry to a history text. An entry is read exactly if the first line is ended and spells one.
+//!
+//! # What is on trust
+//! The toolchain, the contract of the kit's `indexmap`, and what `ffi/sapyguendo.h` says that the caller owes: such as one call at a time,
+//! pointers to what their types say, and no copy of an open supervisor.
+//!
+//! # What is only tested
+//! That memory is refused only if there is none, and that the header, the crate for Rust and the module for Python have the names and layouts
+//! of this crate and answer scripts alike.
+//!
+//! # How it is used
+//! ```text
+//! struct sup sup = {0};
+//! struct sup_entry entry = sup_start(0, "session-17");
+//! struct sup_reply reply;
+//! if (sup_begin(&sup, "history 2 permanent worker 1 5 1000 plain never\n") == SUP_DONE
+//!     && sup_step(&sup, &entry, &reply) == SUP_DONE)
+//!     printf("%llu\n", (unsigned long long)reply.number);
+//! sup_close(&sup);
+//! ```
 #![tactic(auto)]
 
 ghost use Rattle.std.specs.Prelude.{◌≡◌, ◌≢◌, ◌⊎◌, ◌++◌, ◌∷◌, [], ℕ, length, true, false};

@@ -1,4 +1,3 @@
-//! Exits: owed by a child that is alive, owed since it ended, and paid.
 ghost use Rattle.std.specs.Prelude.{◌≡◌, ◌<◌, ◌∷◌, [], ◌++◌, true};
 ghost use Rattle.sup_exits.specs.Endings.{is_ending};
 
@@ -21,8 +20,7 @@ pub struct Exit {
     pub reason: Reason,
 }
 
-/// The exit that a child owes which is alive. It is neither `Clone` nor `Drop`: it becomes an [`OwedExit`] once the child has
-/// ended, so none is let go.
+/// Holds the exit that a living child owes. It is neither `Clone` nor `Drop`: it becomes an [`OwedExit`] once the child has ended.
 pub struct Due<I: Office> {
     pub(crate) debt: Debt,
     pub(crate) place: usize,
@@ -56,8 +54,7 @@ impl<I: Office> Due<I> {
     }
 }
 
-/// The exit of a child that has ended: its debt, which is not paid yet, and the reason. One that is let go stays owed. By its
-/// type, the reason is one for which a child may end, or one of the crew's own.
+/// Holds the unpaid exit of a child that has ended. If dropped, it stays owed. Its reason is one that its office allows, or the crew's own.
 pub struct OwedExit<I: Office> {
     due: Due<I>,
     reason: Reason,

@@ -1,4 +1,3 @@
-//! Ledgers: accounts and debts.
 ghost use Rattle.std.specs.Prelude.{◌≡◌, ◌+◌, ◌-◌, ◌<◌, ◌≤◌, ◌^◌, ◌⊎◌, [], ◌∷◌, ◌++◌, length, IfOk, IfSome, IfNone};
 ghost use Rattle.sup_exits.specs.Holdings.{holding};
 ghost use Rattle.sup_exits.specs.Accounts.{IsNew, IsSettled, capped};

@@ -1,8 +1,6 @@
-//! Offices: what the exits of one crew have in common.
 use std::marker::Brand;
 
-/// Names a ledger, and says for which reasons the children may end whose exits it has. A value behind a lock is known by its type alone, so
-/// the type says to which ledger it belongs.
+/// Names the ledger of a crew's exits, and says for which reasons its children may end. Of a value behind a lock only the type is known.
 pub trait Office {
     ghost use Rattle.std.specs.Prelude.{Bool};
     ghost use Rattle.atomic_table.specs.Seated.{TableId};

@@ -1,4 +1,3 @@
-//! Queues of exits, with room for that of each child that is alive.
 ghost use Rattle.std.specs.Prelude.{◌≡◌, ◌+◌, ◌-◌, ◌<◌, ◌≤◌, ◌⊎◌, [], ◌∷◌, ◌++◌, length, max, OnOk, OnErr};
 ghost use Rattle.std.specs.VecDeque.{deque_len, deque_capacity};
 ghost use mathlib.Core.List.{IsPrefix};
@@ -48,8 +47,7 @@ impl<I: Office> ExitQueue<I> {
         self.children = self.children.saturating_sub(1);
     }
 
-    /// Lets an exit wait as the last. If memory was refused, which cannot be if room was made for it, it is let go, and stays
-    /// owed.
+    /// Lets an exit wait as the last. If there is no room, and memory is refused, it is dropped and stays owed.
     pub fn put(&mut self, exit: OwedExit<I>)
         ensures put { (self.new.waiting.items ≡ self.old.waiting.items ++ exit ∷ []) ⊎ (deque_capacity self.old.waiting ≤ deque_len self.old.waiting) }
         ensures rooms { self.new.children ≡ self.old.children }

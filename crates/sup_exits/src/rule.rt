@@ -1,4 +1,4 @@
-//! The rule of a ledger, and its steps.
+//! The rule of a ledger, and its steps: a part is given away, a child made, an exit paid, a seat joined; a seat learns a bound or what is owed.
 ghost use Rattle.std.specs.Prelude.{[], ◌∷◌, ◌++◌, ◌+◌, ◌-◌};
 ghost use Rattle.sup_exits.specs.Holdings.{Balances, Bounds, Learns, holding, nothing};
 
@@ -7,8 +7,7 @@ use atomic_table::{Join, Play, Seat, Split, TableRule};
 use std::collections::LinkedList;
 use std::marker::{Brand, PhantomData};
 
-/// What a seat holds: how many parts of the ledger, the children that were made there, those whose exit was paid there, and those
-/// whose exit it owes. No value of it is made.
+/// Says what a seat holds: parts of the ledger, the children made and paid there, and those whose exit it owes. No value of it is made.
 pub struct Holding {
     pub parts: u64,
     pub made: LinkedList<Child>,
@@ -16,7 +15,6 @@ pub struct Holding {
     pub owes: LinkedList<Child>,
 }
 
-/// The ledger's rule.
 pub struct Balance;
 
 impl TableRule<(), Holding, u64> for Balance {
@@ -25,7 +23,6 @@ impl TableRule<(), Holding, u64> for Balance {
     ghost first = { λ parts. holding parts [] [] [] };
 }
 
-/// One part is given away.
 pub(crate) struct Splitting;
 
 impl Split<Holding> for Splitting {
@@ -34,7 +31,6 @@ impl Split<Holding> for Splitting {
     ghost right = { λ v. holding 1 [] [] [] };
 }
 
-/// A child. Each step picks it.
 pub(crate) trait Made {
     ghost use Rattle.sup_exits.specs.declared.exit.Child.{Child};
 
@@ -47,7 +43,6 @@ impl Made for Brand {
     ghost child = { nobody };
 }
 
-/// A child is made: it owes its exit.
 pub(crate) struct Making<C> {
     of: PhantomData<C>,
 }
@@ -58,7 +53,6 @@ impl<C: Made> Split<Holding> for Making<C> {
     ghost right = { λ v. holding 0 [] [] (C.child ∷ []) };
 }
 
-/// What the other owes is paid.
 pub(crate) struct Paying;
 
 impl Join<Holding> for Paying {
@@ -67,7 +61,6 @@ impl Join<Holding> for Paying {
     ghost spent = { nothing };
 }
 
-/// All that the other holds is taken over.
 pub(crate) struct Joining;
 
 impl Join<Holding> for Joining {
@@ -76,19 +69,16 @@ impl Join<Holding> for Joining {
     ghost spent = { nothing };
 }
 
-/// A seat learns that it has at most all parts.
 pub(crate) struct Bounding;
 
 impl Play<(), Holding> for Bounding {
     ghost then = { Bounds };
 }
 
-/// The seat of all parts learns what is owed.
 pub(crate) struct Learning;
 
 impl Play<(), Holding> for Learning {
     ghost then = { Learns };
 }
 
-/// A seat of a ledger.
 pub(crate) type Place = Seat<(), Holding>;

@@ -15,6 +15,17 @@
 //!
 //! # What is only tested
 //! When a journal flushes, what a crash leaves, that names are synced, and that a second program is kept away.
+//!
+//! # How it is used
+//! ```text
+//! let (outcome, closed) = on_desk_in_file(&rt, rt.alloc(), path, Flush::EachUpdate, template, 4, AlwaysRunning, Orders)?;
+//! if let Some(fault) = closed.fault {
+//!     // the journal broke off: the file has the history of `closed.ticket`, and perhaps entries that were refused
+//! }
+//! ```
+//!
+//! A program with a ground of its own gives [`open_journal`] a [`Recovery`](sup_desk::Recovery), and finishes that with the journal. For a
+//! history that is not in a file there is [`TextJournal::new`], over any writer. [`read_journal`] reads the whole lines of a text.
 #![tactic(auto)]
 
 mod fault;

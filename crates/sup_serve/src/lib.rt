@@ -4,10 +4,6 @@
 //! number, with nothing counted, at most 5 times within 10 seconds. The calling thread reads the lines and has the one
 //! client; queries take no lock. With a journal the sessions outlive the server.
 //!
-//! ```text
-//! let served = serve(&rt, &how, &mut input, &mut out)?;
-//! ```
-//!
 //! # What is proved
 //! - Each function is safe. `serve` is `Ok` only if no read failed; `Read` and `Write` come only of a read or write that failed.
 //! - The account says `every session is accounted for` only if no exit is owed and the history was audited.
@@ -18,6 +14,14 @@
 //!
 //! # What is only tested
 //! What is answered, and what a killed server and a full disk leave: by stored cases of the program.
+//!
+//! # How it is used
+//! ```text
+//! let how = Serve { journal: Some("sessions"), is_anew: false, says_count: false };
+//! serve(&rt, &how, &mut WatchedReader::new(stdin), &mut WatchedWriter::new(stdout))?;
+//! ```
+//!
+//! The reader and the writer are watched, so that a fault says which of them failed. `sup_words` has [`Serve`](sup_words::Serve).
 #![tactic(auto)]
 
 mod account;
