@@ -1,6 +1,5 @@
 //! A live crew: the children of a shared supervisor run while others are started, sent to, ended and asked about.
 //!
-//! # What it is
 //! A [`Behaviour`] makes a child: a future of the kit's `futures`, which reads its [`Mailbox`] and is ready with the reason of its end. A
 //! [`Crew`] runs a [`Program`] in the calling thread, and its peers in threads of their own, each by a client, of any type
 //! `C: LiveClient<B>`. A driver enters the exits, runs children that were restarted under their new number, and tries failed restarts
@@ -16,15 +15,15 @@
 //! A program learns of the crew's end by [`LiveClient::ended`], a child by [`Mailbox::why`], and a [`Watch`] of each entry. What a child
 //! owned and nobody takes over is given to [`Behaviour::left`].
 //!
-//! # Proved
+//! # What is proved
 //! An update by a client has the contract of a handle's, a query that of an asker's, and [`LiveClient::start_all`] that of a batch. What
 //! the driver entered, and what became of each child and of each exit, [`CrewReport`] says ([`Crew::run_over`] has it in words).
 //!
-//! # On trust
+//! # What is on trust
 //! The kit's executor, channels and threads: that a child is polled, that a message comes, that a thread wakes, that a crew closes. So no
 //! contract says that a child ends: [`CrewReport::adds_up`] is whether no exit is owed.
 //!
-//! # Only tested
+//! # What is only tested
 //! Which threads an end wakes, and in time; why a child is asked to end; that each owned thing is given back, once; that the watcher
 //! learns of each entry; rooms, limits of time, and memory that is refused in any thread.
 //!
