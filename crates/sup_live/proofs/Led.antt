@@ -21,7 +21,7 @@ use Rattle.sup_desk.specs.declared.laws.Done.{Done}
 use Rattle.sup_desk.specs.Results.{IsUpdateResult}
 use Rattle.sup_exits.specs.declared.exit.Child.{Child}
 use Rattle.sup_exits.specs.declared.exit.Exit.{Exit as Exited}
-use Rattle.sup_exits.specs.Endings.{is_ending, AreEndings}
+use Rattle.sup_exits.specs.Endings.{is_ending}
 use Rattle.sup_exits.specs.Exits.{children_of, operations_of}
 use Rattle.sup_live.specs.Starts.{HasReplies}
 use Rattle.sup_live.specs.ReplyLaws.{each_of, seen_more, applied, since_more}

@@ -10,7 +10,6 @@ use Rattle.sup_types.specs.declared.history.Operation.TheVariants.{Start}
 use Rattle.sup_types.specs.declared.history.Reply.{Reply}
 use Rattle.sup_desk.specs.Knowledge.{Knowledge}
 use Rattle.sup_desk.specs.Batches.{IsApplied}
-use Rattle.sup_desk.specs.declared.faults.UpdateFault.{UpdateFault}
 use Rattle.sup_desk.specs.declared.faults.UpdateFault.TheVariants.{Journal}
 use Rattle.sup_desk.specs.declared.journal.JournalFault.{JournalFault}
 use Rattle.sup_live.specs.declared.started.Begun.{Begun}

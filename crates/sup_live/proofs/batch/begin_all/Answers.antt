@@ -1,5 +1,5 @@
 -- One child more is begun.
-use Rattle.std.proofs.Common.{◌≡◌, ◌++◌, length, rules, ap, sym, ◌∙◌, arith}
+use Rattle.std.proofs.Common.{◌≡◌, ◌++◌, length, rules, ap, ◌∙◌, arith}
 use Rattle.std.specs.Prelude.{vec_items}
 use Rattle.std.specs.Vec.Iter.{into_iter_items}
 use base.Growing.{prefix_trans}

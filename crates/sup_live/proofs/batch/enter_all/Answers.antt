@@ -1,7 +1,6 @@
-use Rattle.std.proofs.Common.{List, length, take, ap, ◌∙◌, subst, arith}
+use Rattle.std.proofs.Common.{List, length, ap, ◌∙◌, subst, arith}
 use Rattle.sup_types.specs.declared.history.Operation.{Operation}
 use Rattle.sup_desk.specs.Batches.{IsApplied}
-use Rattle.sup_live.specs.Batches.{starts_of}
 use Rattle.sup_live.proofs.Batched.{all_starts, starts_length}
 use Rattle.sup_live.proofs.Led.{applied-length, part-length}
 use Rattle.sup_live.proofs.batch.enter_all.Goals as goal

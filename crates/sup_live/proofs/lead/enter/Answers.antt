@@ -1,4 +1,4 @@
-use Rattle.std.proofs.Common.{◌≡◌, ◌≤◌, List, length, take, rules, refl, ap, sym, ◌∙◌, arith}
+use Rattle.std.proofs.Common.{◌≡◌, List, length, take, rules, refl, ap, sym, ◌∙◌, arith}
 use base.Growing.{prefix_refl}
 use Rattle.sup_types.specs.declared.history.Operation.{Operation}
 use Rattle.sup_exits.specs.Exits.{operations_of}

@@ -1,5 +1,5 @@
 -- The account has the children that were started.
-use Rattle.std.proofs.Common.{[], ◌∷◌, ◌++◌, length, take, ap, sym, ◌∙◌, subst, arith}
+use Rattle.std.proofs.Common.{length, take, ap, sym, ◌∙◌, subst, arith}
 use Rattle.sup_live.specs.Batches.{IsStartedAll, starts_of}
 use Rattle.sup_live.specs.Callers.{Used}
 use Rattle.sup_live.specs.ReplyLaws.{seen_more}

@@ -1,5 +1,5 @@
 -- It has entered nothing in this run, and restarted no child.
-use Rattle.std.proofs.Common.{ap, sym, subst, arith}
+use Rattle.std.proofs.Common.{ap, sym, subst}
 use Rattle.sup_live.specs.Starts.{HasReplies}
 use Rattle.sup_live.specs.ReplyLaws.{none_yet, none_since}
 use Rattle.sup_live.specs.Leads.{are_driven}

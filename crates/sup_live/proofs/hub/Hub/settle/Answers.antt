@@ -1,4 +1,4 @@
-use Rattle.std.proofs.Common.{◌≡◌, ◌++◌, rules, ap, ◌∙◌, append-nil}
+use Rattle.std.proofs.Common.{rules}
 use Rattle.sup_live.proofs.Telling.{accounted}
 use Rattle.sup_live.proofs.hub.Hub.settle.Goals as goal
 
